@@ -1,0 +1,12 @@
+pub mod Limits
+pub mod Refusals
+pub mod Results
+pub mod Values
+pub mod Tags
+pub mod Headers
+pub mod Terms
+pub mod ReadTerms
+pub mod Goals
+pub mod Encoding
+pub mod Standing
+pub mod Shapes

@@ -1,0 +1,42 @@
+-- Document 01: every limit that it names, each in one place.
+use Prim.Native.Nat.{ℕ}
+
+-- "1: input over 65,535 bytes"
+abbrev pub mostBytes : ℕ
+mostBytes = 65535
+
+-- "At most 4,096 rules, 256 definitions, 4,096 term fields in a file, 4,096 uses, 256 opens"
+abbrev pub mostRules : ℕ
+mostRules = 4096
+
+abbrev pub mostDefinitions : ℕ
+mostDefinitions = 256
+
+abbrev pub mostTermFields : ℕ
+mostTermFields = 4096
+
+abbrev pub mostUses : ℕ
+mostUses = 4096
+
+abbrev pub mostOpens : ℕ
+mostOpens = 256
+
+-- "goal list: 0 to 256 goals"
+abbrev pub mostGoals : ℕ
+mostGoals = 256
+
+-- "A tensor whose joined list has more than 256 goals ends the walk with 22"
+abbrev pub mostJoined : ℕ
+mostJoined = 256
+
+-- "an arity over 256 counts as none"
+abbrev pub mostArity : ℕ
+mostArity = 256
+
+-- "25: budget over 4,096"
+abbrev pub mostSteps : ℕ
+mostSteps = 4096
+
+-- "28: over 2,048 entries when writing a proof"
+abbrev pub mostEntries : ℕ
+mostEntries = 2048

@@ -1,0 +1,51 @@
+-- Document 01, "What the bytes bring about" and "What the state brings about": the causes of a refusal, and their numbers.
+use Prim.Native.Nat.{ℕ}
+
+pub data Cause : Type 0 where
+  inputTooLong : Cause
+  fieldTorn : Cause
+  tagNotAllowed : Cause
+  lengthWrong : Cause
+  limitPassed : Cause
+  ruleRepeated : Cause
+  premiseCountDiffers : Cause
+  tacticRedefined : Cause
+  labelRepeated : Cause
+  ruleMissing : Cause
+  goalCountWrong : Cause
+  goalsTooFew : Cause
+  remainingDiffer : Cause
+  joinedTooLong : Cause
+  tacticFailed : Cause
+  budgetSpent : Cause
+  budgetTooLarge : Cause
+  outputTooShort : Cause
+  entryWrong : Cause
+  goalsPending : Cause
+  entriesTooMany : Cause
+  workTooShort : Cause
+
+-- Three causes have the number 20, and two the number 27: a term that cannot take its goals, a flat file that is wrong.
+unfoldable pub number : Cause → ℕ
+number inputTooLong = 1
+number fieldTorn = 2
+number tagNotAllowed = 3
+number lengthWrong = 4
+number limitPassed = 5
+number ruleRepeated = 6
+number premiseCountDiffers = 7
+number tacticRedefined = 8
+number labelRepeated = 9
+number ruleMissing = 20
+number goalCountWrong = 20
+number goalsTooFew = 20
+number remainingDiffer = 21
+number joinedTooLong = 22
+number tacticFailed = 23
+number budgetSpent = 24
+number budgetTooLarge = 25
+number outputTooShort = 26
+number entryWrong = 27
+number goalsPending = 27
+number entriesTooMany = 28
+number workTooShort = 29

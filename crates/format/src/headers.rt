@@ -1,0 +1,64 @@
+// The header of a field.
+ghost use mathlib.Core.Path.{_≡_};
+ghost use Prim.Native.Nat.{_≤_};
+ghost use lib.ListN.{length};
+ghost use Rattle.format.specs.Headers.{headerAt};
+ghost use Rattle.format.specs.Shapes.{headerShape};
+ghost use Rattle.format.specs.Tags.{lengthFits};
+use crate::tags::inner_of;
+use crate::tags::kind_of;
+use crate::tags::least_of;
+use crate::tags::most_of;
+use words::load16;
+
+// A field's header: the refusal's number and place, or the tag and the length of the contents.
+pub enum HeaderRead {
+    Refused(u8, usize),
+    Field(u8, usize),
+}
+
+// Whether a length is right for a tag.
+fn length_fits(tag: u8, len: usize) -> bool
+    ensures { λ r. ⌜ r ≡ lengthFits tag len ⌝ }
+{
+    if len < least_of(tag) as usize {
+        return false;
+    }
+    if (most_of(tag) as usize) < len {
+        return false;
+    }
+    if inner_of(tag) == 0 {
+        return len % 2 == 0;
+    }
+    true
+}
+
+// The header at a place before the end of what encloses it. Kinds from low to high may stand there, and full says that no more fields of its kind may come.
+pub fn read_header(s: &[u8], at: usize, end: usize, low: u8, high: u8, full: bool) -> HeaderRead
+    requires { ⌜ (at ≤ end) × (end ≤ length (now s)) ⌝ }
+    ensures { λ r. ⌜ r ≡ headerShape (headerAt (now (s .entry)) at end low high full) ⌝ }
+{
+    if end < at + 3 {
+        return HeaderRead::Refused(2, at);
+    }
+    let tag = s[at];
+    let kind = kind_of(tag);
+    if kind < low {
+        return HeaderRead::Refused(3, at);
+    }
+    if high < kind {
+        return HeaderRead::Refused(3, at);
+    }
+    if full {
+        return HeaderRead::Refused(5, at);
+    }
+    let len = load16(s, at + 1) as usize;
+    if end < at + 3 + len {
+        return HeaderRead::Refused(2, at);
+    }
+    if length_fits(tag, len) {
+        HeaderRead::Field(tag, len)
+    } else {
+        HeaderRead::Refused(4, at)
+    }
+}
