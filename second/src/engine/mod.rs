@@ -1,0 +1,83 @@
+//! What the five entries do once the lent spaces are set aside.
+
+pub mod arity;
+pub mod check_flat;
+pub mod forest;
+pub mod run;
+pub mod walk;
+pub mod write_back;
+
+use crate::answer::{InputFile, Reason, Refusal};
+use crate::format::flat::Flat;
+use crate::format::job::Job;
+use crate::format::proof::Proof;
+use crate::format::table::Table;
+use crate::limits::{MOST_BUDGET, MOST_ENTRIES_WRITTEN_BACK};
+
+/// The counts of an accepted proof.
+pub struct AcceptedProof {
+    pub fields: usize,
+    pub uses: usize,
+    pub open: usize,
+}
+
+/// The counts of a right flat file.
+pub struct RightFlatFile {
+    pub uses: usize,
+    pub open: usize,
+}
+
+/// The proof file of a run that succeeded, and the terms it began.
+pub struct SuccessfulRun {
+    pub proof: Vec<u8>,
+    pub steps: u32,
+}
+
+pub fn check(table: &[u8], proof: &[u8]) -> Result<AcceptedProof, Refusal> {
+    let table = Table::read(table)?;
+    let proof = Proof::read(proof)?;
+    walk::walk_proof(&table, &proof)?;
+    Ok(AcceptedProof {
+        fields: proof.terms.count(),
+        uses: proof.atomic_fields(),
+        open: proof.remaining.len(),
+    })
+}
+
+/// A proof that is not accepted gets the checker's refusal (READINGS A32).
+pub fn flatten(table: &[u8], proof: &[u8]) -> Result<Vec<u8>, Refusal> {
+    let table = Table::read(table)?;
+    let proof = Proof::read(proof)?;
+    let forest = walk::walk_proof(&table, &proof)?;
+    Ok(forest.flat_file())
+}
+
+pub fn check_flat(table: &[u8], flat: &[u8]) -> Result<RightFlatFile, Refusal> {
+    let table = Table::read(table)?;
+    let flat = Flat::read(flat)?;
+    check_flat::follow_entries(&table, &flat)?;
+    let uses = flat.count_uses();
+    Ok(RightFlatFile { uses, open: flat.entries.len() - uses })
+}
+
+/// "28 before 27" (READINGS A35); uses and opens together are the entries.
+pub fn write_proof(table: &[u8], flat: &[u8]) -> Result<Vec<u8>, Refusal> {
+    let table = Table::read(table)?;
+    let flat = Flat::read(flat)?;
+    if flat.entries.len() > MOST_ENTRIES_WRITTEN_BACK {
+        return Err(Refusal::at(Reason::TooManyEntries, InputFile::Other, 0));
+    }
+    check_flat::follow_entries(&table, &flat)?;
+    Ok(write_back::proof_file_of(&table, &flat))
+}
+
+/// "29, then 25, come before any reading" (READINGS A52).
+pub fn run(table: &[u8], job: &[u8], budget: u32) -> Result<SuccessfulRun, Refusal> {
+    if budget > MOST_BUDGET {
+        return Err(Refusal::without_file(Reason::BudgetTooLarge));
+    }
+    let mut table = Table::read(table)?;
+    let mut terms = std::mem::take(&mut table.terms);
+    let job = Job::read(job, &mut terms)?;
+    run::run_job(&table, &terms, &job, budget)
+}

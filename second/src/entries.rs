@@ -1,0 +1,74 @@
+//! The five public calls: answers, and every byte of the lent spaces.
+
+use crate::answer::{Answer, Reason, Refusal};
+use crate::engine;
+use crate::limits;
+
+/// Checks a proof file against a table.
+pub fn check(table: &[u8], proof: &[u8], work: &mut [u8]) -> Answer {
+    with_work_space(work, limits::CHECK_WORK, || {
+        let accepted = engine::check(table, proof)?;
+        Ok(Answer {
+            fields: accepted.fields as u32,
+            uses: accepted.uses as u32,
+            open: accepted.open as u32,
+            ..Answer::default()
+        })
+    })
+}
+
+/// Runs the tactic of a job file; a success is written to `output` as a proof file.
+pub fn run(table: &[u8], job: &[u8], budget: u32, work: &mut [u8], output: &mut [u8]) -> Answer {
+    with_work_space(work, limits::RUN_WORK, || {
+        let success = engine::run(table, job, budget)?;
+        hand_over(&success.proof, success.steps, output)
+    })
+}
+
+/// Writes the flat derivation of an accepted proof to `output`.
+pub fn flatten(table: &[u8], proof: &[u8], work: &mut [u8], output: &mut [u8]) -> Answer {
+    with_work_space(work, limits::FLATTEN_WORK, || {
+        let flat = engine::flatten(table, proof)?;
+        hand_over(&flat, 0, output)
+    })
+}
+
+/// Checks a flat file against a table.
+pub fn check_flat(table: &[u8], flat: &[u8], work: &mut [u8]) -> Answer {
+    with_work_space(work, limits::CHECK_FLAT_WORK, || {
+        let right = engine::check_flat(table, flat)?;
+        Ok(Answer { uses: right.uses as u32, open: right.open as u32, ..Answer::default() })
+    })
+}
+
+/// Writes the proof of a right flat file to `output`.
+pub fn write_proof(table: &[u8], flat: &[u8], work: &mut [u8], output: &mut [u8]) -> Answer {
+    with_work_space(work, limits::WRITE_PROOF_WORK, || {
+        let proof = engine::write_proof(table, flat)?;
+        hand_over(&proof, 0, output)
+    })
+}
+
+/// "29: work space shorter than the size docs/ names for that entry", before
+/// anything else. "Work space is all zero afterwards, except after 29, when it
+/// is untouched": the whole of what was lent (READINGS A53). This engine keeps
+/// its own memory and only clears the space.
+fn with_work_space(work: &mut [u8], size: usize, call: impl FnOnce() -> Result<Answer, Refusal>) -> Answer {
+    if work.len() < size {
+        return Refusal::without_file(Reason::WorkSpaceTooShort).into();
+    }
+    let answer = call().unwrap_or_else(Answer::from);
+    work.fill(0);
+    answer
+}
+
+/// "26 last": the output space is written only if the result fits; "a success
+/// leaves the bytes past its result untouched". The steps are those of the whole
+/// run also when the result does not fit (READINGS A3).
+fn hand_over(result: &[u8], steps: u32, output: &mut [u8]) -> Result<Answer, Refusal> {
+    match output.get_mut(..result.len()) {
+        Some(front) => front.copy_from_slice(result),
+        None => return Err(Refusal::of_run(Reason::OutputSpaceTooShort, steps)),
+    }
+    Ok(Answer { steps, length: result.len() as u32, ..Answer::default() })
+}

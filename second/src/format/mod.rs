@@ -1,0 +1,10 @@
+//! The bytes of the four kinds of file: reading them and writing them.
+
+pub mod fields;
+pub mod flat;
+pub mod job;
+pub mod proof;
+pub mod table;
+pub mod tags;
+pub mod terms;
+pub mod write;

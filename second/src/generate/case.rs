@@ -1,0 +1,141 @@
+//! A call of an entry with everything lent to it, and what came of it.
+
+use crate::answer::Answer;
+use crate::engine;
+use crate::limits;
+
+/// What the spaces are filled with before a call, so that bytes that ought to
+/// stay untouched can be told. Fixed in docs/VECTORS.md.
+pub const WORK_FILL: u8 = 165;
+pub const OUTPUT_FILL: u8 = 90;
+
+#[derive(Clone, Copy, PartialEq, Eq, Hash, PartialOrd, Ord, Debug)]
+pub enum Entry {
+    Check,
+    Run,
+    Flatten,
+    CheckFlat,
+    WriteProof,
+}
+
+impl Entry {
+    pub const ALL: [Entry; 5] = [Entry::Check, Entry::Run, Entry::Flatten, Entry::CheckFlat, Entry::WriteProof];
+
+    /// The entry's number in vector files.
+    pub fn code(self) -> u8 {
+        match self {
+            Entry::Check => 1,
+            Entry::Run => 2,
+            Entry::Flatten => 3,
+            Entry::CheckFlat => 4,
+            Entry::WriteProof => 5,
+        }
+    }
+
+    pub fn of_code(code: u8) -> Option<Entry> {
+        Entry::ALL.into_iter().find(|entry| entry.code() == code)
+    }
+
+    pub fn work_size(self) -> usize {
+        match self {
+            Entry::Check => limits::CHECK_WORK,
+            Entry::Run => limits::RUN_WORK,
+            Entry::Flatten => limits::FLATTEN_WORK,
+            Entry::CheckFlat => limits::CHECK_FLAT_WORK,
+            Entry::WriteProof => limits::WRITE_PROOF_WORK,
+        }
+    }
+
+    pub fn has_output(self) -> bool {
+        !matches!(self, Entry::Check | Entry::CheckFlat)
+    }
+}
+
+/// One call. The budget counts only for a run; the output length is 0 where the
+/// entry has no output space.
+#[derive(Clone, PartialEq, Eq, Debug)]
+pub struct Case {
+    pub entry: Entry,
+    pub table: Vec<u8>,
+    pub other: Vec<u8>,
+    pub budget: u32,
+    pub work_length: usize,
+    pub output_length: usize,
+}
+
+/// What a call did.
+pub struct Outcome {
+    pub answer: Answer,
+    /// The whole output space afterwards.
+    pub output: Vec<u8>,
+    /// All zero, or untouched after 29.
+    pub work_space_as_promised: bool,
+}
+
+impl Case {
+    /// A call with the largest budget, the named work space and an output space
+    /// a few bytes longer than any result could need it to be.
+    pub fn new(entry: Entry, table: &[u8], other: &[u8]) -> Case {
+        let mut case = Case {
+            entry,
+            table: table.to_vec(),
+            other: other.to_vec(),
+            budget: if entry == Entry::Run { limits::MOST_BUDGET } else { 0 },
+            work_length: entry.work_size(),
+            output_length: 0,
+        };
+        case.output_length = case.roomy_output();
+        case
+    }
+
+    pub fn with_budget(mut self, budget: u32) -> Case {
+        self.budget = budget;
+        self.output_length = self.roomy_output();
+        self
+    }
+
+    pub fn with_work(mut self, work_length: usize) -> Case {
+        self.work_length = work_length;
+        self
+    }
+
+    pub fn with_output(mut self, output_length: usize) -> Case {
+        self.output_length = output_length;
+        self
+    }
+
+    fn roomy_output(&self) -> usize {
+        if !self.entry.has_output() {
+            return 0;
+        }
+        self.result().map_or(20, |result| result.len() + 5)
+    }
+
+    /// The bytes a call gives if the spaces suffice; None if it refuses, or if
+    /// the entry has no output.
+    pub fn result(&self) -> Option<Vec<u8>> {
+        match self.entry {
+            Entry::Check | Entry::CheckFlat => None,
+            Entry::Run => engine::run(&self.table, &self.other, self.budget).ok().map(|run| run.proof),
+            Entry::Flatten => engine::flatten(&self.table, &self.other).ok(),
+            Entry::WriteProof => engine::write_proof(&self.table, &self.other).ok(),
+        }
+    }
+
+    /// Makes the call with spaces filled beforehand.
+    pub fn outcome(&self) -> Outcome {
+        let mut work = vec![WORK_FILL; self.work_length];
+        let mut output = vec![OUTPUT_FILL; self.output_length];
+        let (table, other) = (&self.table, &self.other);
+        let answer = match self.entry {
+            Entry::Check => crate::check(table, other, &mut work),
+            Entry::Run => crate::run(table, other, self.budget, &mut work, &mut output),
+            Entry::Flatten => crate::flatten(table, other, &mut work, &mut output),
+            Entry::CheckFlat => crate::check_flat(table, other, &mut work),
+            Entry::WriteProof => crate::write_proof(table, other, &mut work, &mut output),
+        };
+        let expected = if answer.number == 29 { WORK_FILL } else { 0 };
+        let work_space_as_promised = work.iter().all(|&byte| byte == expected);
+        Outcome { answer, output, work_space_as_promised }
+    }
+}

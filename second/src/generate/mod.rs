@@ -1,0 +1,109 @@
+//! Seeded test cases of all shapes and sizes.
+//!
+//! `random_case` is meant for testing any engine at length: it gives calls, and
+//! `Case::outcome` says what this engine does with one. `vector_set` is the fixed
+//! set in the folder vectors/.
+
+pub mod build;
+pub mod case;
+pub mod damage;
+pub mod examples;
+pub mod limit_files;
+pub mod random;
+pub mod random_file;
+pub mod random_table;
+pub mod reading;
+pub mod topics;
+
+pub use topics::vector_set;
+
+use crate::answer::Answer;
+use crate::limits::MOST_BUDGET;
+use case::{Case, Entry};
+use random::Random;
+use random_table::RandomTable;
+
+/// A case for any entry.
+pub fn random_case(random: &mut Random) -> Case {
+    let entry = *random.pick(&Entry::ALL);
+    random_case_of(entry, random)
+}
+
+/// A case for that entry: files that fit, damaged ones and foreign ones, with
+/// lent spaces and budgets that mostly suffice.
+pub fn random_case_of(entry: Entry, random: &mut Random) -> Case {
+    let table = RandomTable::make(random);
+    let mut case = Case::new(entry, &table.bytes(), &other_file(entry, random, &table));
+    match random.below(20) {
+        0 | 1 => case.table = damage::damage(random, &case.table),
+        2..=4 => case.other = damage::damage(random, &case.other),
+        5 => make_foreign(random, &mut case),
+        _ => {}
+    }
+    vary_lent_spaces(random, case)
+}
+
+/// A file of the kind the entry takes besides the table.
+pub fn other_file(entry: Entry, random: &mut Random, table: &RandomTable) -> Vec<u8> {
+    match entry {
+        Entry::Check | Entry::Flatten => random_file::random_proof(random, table),
+        Entry::Run => random_file::random_job(random, table),
+        Entry::CheckFlat | Entry::WriteProof => random_file::random_flat(random, table),
+    }
+}
+
+/// A file of another kind or another table, or bytes that are no file at all.
+fn make_foreign(random: &mut Random, case: &mut Case) {
+    let table = RandomTable::make(random);
+    match random.below(5) {
+        0 => case.table = table.bytes(),
+        1 => case.table = std::mem::take(&mut case.other),
+        2 => case.other = case.table.clone(),
+        3 => {
+            let entry = *random.pick(&Entry::ALL);
+            case.other = other_file(entry, random, &table);
+        }
+        _ => case.other = (0..random.below(40)).map(|_| random.byte() % 36).collect(),
+    }
+}
+
+/// Gives a case its budget, work space and output space.
+pub fn vary_lent_spaces(random: &mut Random, case: Case) -> Case {
+    let budget = random_budget(random, &case);
+    let case = case.with_budget(budget);
+    let size = case.entry.work_size();
+    let work_length = match random.below(40) {
+        0 => size - 1,
+        1 => random.below(size),
+        2..=4 => size + 1 + random.below(100),
+        _ => size,
+    };
+    let roomy = case.output_length;
+    let output_length = match (case.result(), random.below(10)) {
+        (Some(result), 0) => result.len(),
+        (Some(result), 1) => result.len() - 1,
+        (Some(_), 2) => 0,
+        (Some(result), 3) => random.below(2 * result.len()),
+        _ => roomy,
+    };
+    case.with_work(work_length).with_output(output_length)
+}
+
+fn random_budget(random: &mut Random, case: &Case) -> u32 {
+    if case.entry != Entry::Run {
+        return 0;
+    }
+    let steps = match crate::engine::run(&case.table, &case.other, MOST_BUDGET) {
+        Ok(success) => success.steps,
+        Err(refusal) => Answer::from(refusal).steps,
+    };
+    match random.below(20) {
+        0 => 0,
+        1 | 2 => steps,
+        3 | 4 => steps.saturating_sub(1),
+        5 | 6 => random.below(40) as u32,
+        7 => MOST_BUDGET + 1,
+        8 => random.next() as u32,
+        _ => MOST_BUDGET,
+    }
+}

@@ -1,0 +1,179 @@
+//! Random proofs, jobs and flat files that fit a table, unless a mistake is made
+//! on purpose.
+
+use super::build;
+use super::random::Random;
+use super::random_table::RandomTable;
+use crate::limits::MOST_GOALS;
+
+/// A term and the goals it gives, as far as the maker can tell.
+type TermAndGoals = (Vec<u8>, Vec<u16>);
+
+/// Makes terms for given goals.
+struct TermMaker<'a> {
+    random: &'a mut Random,
+    table: &'a RandomTable,
+    /// How many more terms may be made before only `id` follows.
+    terms_left: usize,
+    /// The chance, in percent, that a term is one that need not fit.
+    mistakes: usize,
+    /// Alternation, assert and defined tactics may stand in the term.
+    tactics: bool,
+}
+
+pub fn random_proof(random: &mut Random, table: &RandomTable) -> Vec<u8> {
+    let goals = table.random_goals(random);
+    let (term, mut given) = make_term(random, table, &goals, false);
+    given.truncate(MOST_GOALS);
+    if random.chance(5) {
+        given.pop();
+    }
+    build::proof(&goals, &term, &given)
+}
+
+pub fn random_job(random: &mut Random, table: &RandomTable) -> Vec<u8> {
+    let goals = table.random_goals(random);
+    if random.chance(25) {
+        return build::job(&goals, &table.any_tactic(random, 4));
+    }
+    let (term, _) = make_term(random, table, &goals, true);
+    build::job(&goals, &term)
+}
+
+fn make_term(random: &mut Random, table: &RandomTable, goals: &[u16], tactics: bool) -> TermAndGoals {
+    let terms_left = *random.pick(&[2, 5, 10, 20, 40, 40, 120]);
+    let mistakes = *random.pick(&[0, 0, 0, 2, 5]);
+    TermMaker { random, table, terms_left, mistakes, tactics }.term_for(goals)
+}
+
+impl TermMaker<'_> {
+    fn term_for(&mut self, goals: &[u16]) -> TermAndGoals {
+        if self.terms_left == 0 {
+            return (build::tensor_of(&vec![build::id(); goals.len()]), goals.to_vec());
+        }
+        self.terms_left -= 1;
+        if self.random.chance(self.mistakes) {
+            return self.mistake(goals);
+        }
+        if self.tactics && self.random.chance(30) {
+            return self.tactic_for(goals);
+        }
+        match goals {
+            [] => self.term_for_none(),
+            [goal] => self.term_for_one(*goal),
+            _ if self.random.chance(75) => {
+                let split = if self.random.chance(60) { 1 } else { self.random.below(goals.len() + 1) };
+                self.tensor_for(goals, split)
+            }
+            _ => self.sequence_for(goals),
+        }
+    }
+
+    fn term_for_none(&mut self) -> TermAndGoals {
+        match self.random.below(6) {
+            0 => self.sequence_for(&[]),
+            1 => self.tensor_for(&[], 0),
+            _ => (build::empty(), Vec::new()),
+        }
+    }
+
+    fn term_for_one(&mut self, goal: u16) -> TermAndGoals {
+        match self.random.below(10) {
+            0 => (build::id(), vec![goal]),
+            1 => {
+                let (inner, given) = self.term_for(&[goal]);
+                (build::label(self.random.below(5) as u16, &inner), given)
+            }
+            2..=4 => self.sequence_for(&[goal]),
+            5 => {
+                let split = self.random.below(2);
+                self.tensor_for(&[goal], split)
+            }
+            _ => match self.table.rule_for(self.random, goal) {
+                Some(rule) => (build::atomic(rule.name), rule.premises.clone()),
+                None => (build::id(), vec![goal]),
+            },
+        }
+    }
+
+    fn sequence_for(&mut self, goals: &[u16]) -> TermAndGoals {
+        let (left, between) = self.term_for(goals);
+        let (right, given) = self.term_for(&between);
+        (build::sequence(&left, &right), given)
+    }
+
+    fn tensor_for(&mut self, goals: &[u16], split: usize) -> TermAndGoals {
+        let (left, left_gives) = self.term_for(&goals[..split]);
+        let (right, right_gives) = self.term_for(&goals[split..]);
+        (build::tensor(&left, &right), [left_gives, right_gives].concat())
+    }
+
+    fn tactic_for(&mut self, goals: &[u16]) -> TermAndGoals {
+        match (self.random.below(4), goals) {
+            (0, [goal]) => (build::assert_goal(*goal), vec![*goal]),
+            (1, _) => {
+                let (left, given) = self.term_for(goals);
+                let right = self.table.any_tactic(self.random, 2);
+                (build::alternation(&left, &right), given)
+            }
+            (2, _) => {
+                let left = self.table.any_tactic(self.random, 3);
+                let (right, given) = self.term_for(goals);
+                (build::alternation(&left, &right), given)
+            }
+            _ => (build::defined(self.table.random_tactic_number(self.random)), goals.to_vec()),
+        }
+    }
+
+    fn mistake(&mut self, goals: &[u16]) -> TermAndGoals {
+        let name = self.random.value() % 25;
+        let term = match self.random.below(6) {
+            0 => build::atomic(name),
+            1 => build::id(),
+            2 => build::empty(),
+            3 => build::label(1, &build::empty()),
+            4 => build::tensor(&build::tensor(&build::id(), &build::id()), &build::empty()),
+            _ => build::sequence(&build::id(), &build::atomic(name)),
+        };
+        (term, goals.to_vec())
+    }
+}
+
+/// A flat file that is right, or nearly so.
+pub fn random_flat(random: &mut Random, table: &RandomTable) -> Vec<u8> {
+    let roots = table.random_goals(random);
+    let mut uses_left = *random.pick(&[0, 3, 10, 10, 30, 100]);
+    let mistakes = *random.pick(&[0, 0, 0, 2, 10]);
+    let mut pending: Vec<u16> = roots.iter().rev().copied().collect();
+    let mut entries = Vec::new();
+    while let Some(goal) = pending.pop() {
+        let rule = if uses_left > 0 && random.chance(80) { table.rule_for(random, goal) } else { None };
+        match rule {
+            Some(rule) => {
+                uses_left -= 1;
+                entries.push(build::use_entry(rule.name, goal));
+                pending.extend(rule.premises.iter().rev());
+            }
+            None => entries.push(build::open_entry(goal)),
+        }
+        if random.chance(mistakes) {
+            make_flat_mistake(random, &mut entries);
+        }
+    }
+    build::flat(&roots, &entries)
+}
+
+fn make_flat_mistake(random: &mut Random, entries: &mut Vec<Vec<u8>>) {
+    match random.below(4) {
+        0 => {
+            entries.pop();
+        }
+        1 => entries.push(build::open_entry(random.below(20) as u16)),
+        2 => entries.push(build::use_entry(random.below(20) as u16, random.below(20) as u16)),
+        _ => {
+            let at = random.below(entries.len());
+            let to = random.below(entries.len());
+            entries.swap(at, to);
+        }
+    }
+}

@@ -1,0 +1,31 @@
+//! Every number that document 01 or docs/ names as a limit, in one place.
+
+/// "1: input over 65,535 bytes."
+pub const MOST_INPUT_BYTES: usize = 65_535;
+
+/// "At most 4,096 rules, 256 definitions, 4,096 term fields in a file, 4,096 uses, 256 opens."
+pub const MOST_RULES: usize = 4_096;
+pub const MOST_DEFINITIONS: usize = 256;
+pub const MOST_TERM_FIELDS: usize = 4_096;
+pub const MOST_USES: usize = 4_096;
+pub const MOST_OPENS: usize = 256;
+
+/// "0 to 256 goals" in a goal list; also the most that a joined list may have (22).
+pub const MOST_GOALS: usize = 256;
+
+/// "name, goal, then 0 to 8 premise goals"
+pub const MOST_PREMISES: usize = 8;
+
+/// "25: budget over 4,096."
+pub const MOST_BUDGET: u32 = 4_096;
+
+/// "28: over 2,048 entries when writing a proof"
+pub const MOST_ENTRIES_WRITTEN_BACK: usize = 2_048;
+
+/// The work space that each entry must be lent (29, READINGS A56). Changing one
+/// of them is this one line, followed by `second generate-vectors vectors`.
+pub const CHECK_WORK: usize = 65_536;
+pub const CHECK_FLAT_WORK: usize = 65_536;
+pub const WRITE_PROOF_WORK: usize = 65_536;
+pub const FLATTEN_WORK: usize = 524_288;
+pub const RUN_WORK: usize = 8_388_608;
