@@ -1,0 +1,52 @@
+//! Calls with spaces that suffice, for tests that look at answers.
+#![allow(dead_code)]
+
+use second::generate::case::{Case, Entry};
+use second::Answer;
+
+/// An answer with only number, file and place.
+pub fn refused(number: u32, file: u32, place: u32) -> Answer {
+    Answer { number, file, place, ..Answer::default() }
+}
+
+/// The answer of a run that ends with 22, 23 or 24.
+pub fn run_refused(number: u32, steps: u32) -> Answer {
+    Answer { number, steps, ..Answer::default() }
+}
+
+pub fn accepted(fields: u32, uses: u32, open: u32) -> Answer {
+    Answer { fields, uses, open, ..Answer::default() }
+}
+
+/// Answer and result of a call with spaces that suffice.
+pub fn call(entry: Entry, table: &[u8], other: &[u8]) -> (Answer, Vec<u8>) {
+    result_of(Case::new(entry, table, other))
+}
+
+pub fn result_of(case: Case) -> (Answer, Vec<u8>) {
+    let outcome = case.outcome();
+    assert!(outcome.work_space_as_promised);
+    let mut output = outcome.output;
+    output.truncate(outcome.answer.length as usize);
+    (outcome.answer, output)
+}
+
+pub fn check(table: &[u8], proof: &[u8]) -> Answer {
+    call(Entry::Check, table, proof).0
+}
+
+pub fn check_flat(table: &[u8], flat: &[u8]) -> Answer {
+    call(Entry::CheckFlat, table, flat).0
+}
+
+pub fn flatten(table: &[u8], proof: &[u8]) -> (Answer, Vec<u8>) {
+    call(Entry::Flatten, table, proof)
+}
+
+pub fn write_proof(table: &[u8], flat: &[u8]) -> (Answer, Vec<u8>) {
+    call(Entry::WriteProof, table, flat)
+}
+
+pub fn run(table: &[u8], job: &[u8], budget: u32) -> (Answer, Vec<u8>) {
+    result_of(Case::new(Entry::Run, table, job).with_budget(budget))
+}
