@@ -36,7 +36,7 @@ impl Arities {
         let mut to_look_at: Vec<TermNumber> = terms.numbers().collect();
         while let Some(term) = to_look_at.pop() {
             if found.of(term).is_none() {
-                if let Some(arity) = found.from_inner_terms(table, terms, term) {
+                if let Some(arity) = found.by_inner_terms(table, terms, term) {
                     found.arities[term.0 as usize] = Some(arity);
                     dependents.push_dependents_of(term, &mut to_look_at);
                 }
@@ -48,7 +48,7 @@ impl Arities {
     /// The arity that follows from those found so far. "label 1 whatever is
     /// inside; an alternation n if both sides have n"; "an arity over 256 counts
     /// as none".
-    fn from_inner_terms(&self, table: &Table, terms: &Terms, term: TermNumber) -> Option<u16> {
+    fn by_inner_terms(&self, table: &Table, terms: &Terms, term: TermNumber) -> Option<u16> {
         let known = |inner: TermNumber| self.arities[inner.0 as usize];
         match terms.get(term) {
             Term::Atomic(_) | Term::Id | Term::Label(_, _) | Term::Assert(_) => Some(1),

@@ -37,11 +37,7 @@ pub fn check(table: &[u8], proof: &[u8]) -> Result<AcceptedProof, Refusal> {
     let table = Table::read(table)?;
     let proof = Proof::read(proof)?;
     walk::walk_proof(&table, &proof)?;
-    Ok(AcceptedProof {
-        fields: proof.terms.count(),
-        uses: proof.atomic_fields(),
-        open: proof.remaining.len(),
-    })
+    Ok(AcceptedProof { fields: proof.terms.count(), uses: proof.atomic_fields(), open: proof.remaining.len() })
 }
 
 /// A proof that is not accepted gets the checker's refusal (READINGS A32).

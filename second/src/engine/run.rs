@@ -26,11 +26,20 @@ enum Control {
 /// nothing: they end as their inner term does.
 enum Waiting {
     SequenceRight(TermNumber),
-    TensorRight { right: TermNumber, others: Goals },
-    TensorJoin { left_gave: Goals },
+    TensorRight {
+        right: TermNumber,
+        others: Goals,
+    },
+    TensorJoin {
+        left_gave: Goals,
+    },
     /// The left of an alternation runs; if it fails, the right is to begin on
     /// the same goals, and the fields the left wrote are dropped.
-    OtherAlternative { right: TermNumber, goals: Goals, fields_before: usize },
+    OtherAlternative {
+        right: TermNumber,
+        goals: Goals,
+        fields_before: usize,
+    },
 }
 
 struct Machine<'a> {

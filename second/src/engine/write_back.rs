@@ -8,12 +8,8 @@ use crate::names::{Goal, RuleName};
 /// "the stated goals are the roots, the remaining ones those of the open leaves
 /// in order, and the term is the whole forest".
 pub fn proof_file_of(table: &Table, flat: &Flat) -> Vec<u8> {
-    let remaining: Vec<Goal> = flat
-        .entries
-        .iter()
-        .filter(|entry| entry.step == FlatStep::Open)
-        .map(|entry| entry.goal)
-        .collect();
+    let remaining: Vec<Goal> =
+        flat.entries.iter().filter(|entry| entry.step == FlatStep::Open).map(|entry| entry.goal).collect();
     proof_file(&flat.roots, &hiproof_of(table, flat), &remaining)
 }
 

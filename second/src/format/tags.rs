@@ -70,7 +70,7 @@ impl Tag {
     /// (READINGS A7); an inner term that is missing is not (READINGS A8).
     pub fn allows_length(self, length: usize) -> bool {
         match self {
-            Tag::Rule => length >= 4 && length <= 4 + 2 * MOST_PREMISES && length % 2 == 0,
+            Tag::Rule => (4..=4 + 2 * MOST_PREMISES).contains(&length) && length % 2 == 0,
             Tag::GoalList => length % 2 == 0,
             Tag::Definition | Tag::Label => length >= 2,
             Tag::Sequence | Tag::Tensor | Tag::Alternation => true,

@@ -135,7 +135,12 @@ impl Case {
             Entry::WriteProof => crate::write_proof(table, other, &mut work, &mut output),
         };
         let expected = if answer.number == 29 { WORK_FILL } else { 0 };
-        let work_space_as_promised = work.iter().all(|&byte| byte == expected);
-        Outcome { answer, output, work_space_as_promised }
+        Outcome { answer, output, work_space_as_promised: all_equal(&work, expected) }
     }
+}
+
+/// Whether every byte is that one; by blocks, since a work space has up to 8 MiB.
+fn all_equal(bytes: &[u8], byte: u8) -> bool {
+    let block = [byte; 4_096];
+    bytes.chunks(block.len()).all(|chunk| chunk == &block[..chunk.len()])
 }

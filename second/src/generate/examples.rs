@@ -29,10 +29,7 @@ fn rules_of_table_a() -> Vec<u8> {
 
 /// Document 01, "Table A".
 pub fn table_a() -> Vec<u8> {
-    let third = alternation(
-        &sequence(&assert_goal(30), &defined(2)),
-        &sequence(&defined(1), &defined(3)),
-    );
+    let third = alternation(&sequence(&assert_goal(30), &defined(2)), &sequence(&defined(1), &defined(3)));
     [
         rules_of_table_a(),
         definition(1, &first_box()),

@@ -103,7 +103,7 @@ fn random_budget(random: &mut Random, case: &Case) -> u32 {
         3 | 4 => steps.saturating_sub(1),
         5 | 6 => random.below(40) as u32,
         7 => MOST_BUDGET + 1,
-        8 => random.next() as u32,
+        8 => random.number() as u32,
         _ => MOST_BUDGET,
     }
 }

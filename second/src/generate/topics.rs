@@ -55,7 +55,11 @@ fn damaged_tables(random: &mut Random, count: usize) -> Vec<Vec<u8>> {
         .map(|_| {
             let table = RandomTable::make(random).bytes();
             let once = damage::damage(random, &table);
-            if random.chance(30) { damage::damage(random, &once) } else { once }
+            if random.chance(30) {
+                damage::damage(random, &once)
+            } else {
+                once
+            }
         })
         .collect()
 }

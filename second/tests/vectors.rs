@@ -1,0 +1,107 @@
+//! The fixed set of vectors: coverage, the format, and the files in vectors/.
+
+use second::generate::case::Entry;
+use second::generate::random::Random;
+use second::generate::{random_case, vector_set};
+use second::vectors::{self, Expected};
+use std::collections::BTreeSet;
+use std::sync::OnceLock;
+
+/// Every number with its file that an entry can answer.
+fn possible_answers(entry: Entry) -> BTreeSet<(u32, u32)> {
+    let mut answers: BTreeSet<(u32, u32)> = BTreeSet::from([(0, 0), (29, 0)]);
+    answers.extend((1..=9).map(|number| (number, 1)));
+    answers.extend((1..=5).map(|number| (number, 2)));
+    answers.extend(match entry {
+        Entry::Check => vec![(20, 2), (21, 2), (22, 2)],
+        Entry::Flatten => vec![(20, 2), (21, 2), (22, 2), (26, 0)],
+        Entry::Run => vec![(22, 0), (23, 0), (24, 0), (25, 0), (26, 0)],
+        Entry::CheckFlat => vec![(27, 2)],
+        Entry::WriteProof => vec![(27, 2), (28, 2), (26, 0)],
+    });
+    answers
+}
+
+/// The files of the fixed set, made once for all tests.
+fn vector_files() -> &'static [(&'static str, Vec<u8>)] {
+    static FILES: OnceLock<Vec<(&'static str, Vec<u8>)>> = OnceLock::new();
+    FILES.get_or_init(|| vector_set().iter().map(|(name, cases)| (*name, vectors::write(cases))).collect())
+}
+
+fn cases_of(bytes: &[u8]) -> Vec<Expected> {
+    vectors::read(bytes).expect("a vector file")
+}
+
+#[test]
+fn every_number_occurs_at_every_entry_where_it_can() {
+    let cases: Vec<Expected> = vector_files().iter().flat_map(|(_, bytes)| cases_of(bytes)).collect();
+    for entry in Entry::ALL {
+        let answered: BTreeSet<(u32, u32)> = cases
+            .iter()
+            .filter(|one| one.case.entry == entry)
+            .map(|one| (one.answer.number, one.answer.file))
+            .collect();
+        assert_eq!(answered, possible_answers(entry), "{entry:?}");
+    }
+}
+
+#[test]
+fn each_entry_has_a_file_with_all_its_numbers() {
+    let names = ["check.vec", "run.vec", "flatten.vec", "check-flat.vec", "write-proof.vec"];
+    for (name, entry) in names.into_iter().zip(Entry::ALL) {
+        let file = vector_files().iter().find(|file| file.0 == name).expect("the file");
+        let cases = cases_of(&file.1);
+        assert!(cases.iter().all(|one| one.case.entry == entry));
+        let answered: BTreeSet<(u32, u32)> = cases.iter().map(|one| (one.answer.number, one.answer.file)).collect();
+        assert_eq!(answered, possible_answers(entry), "{name}");
+    }
+}
+
+#[test]
+fn sizes_stay_as_documented() {
+    let mut total = 0;
+    for (name, bytes) in vector_files() {
+        assert!(bytes.len() <= 1_000_000, "{name}");
+        let short = |one: &Expected| one.case.table.len() <= 70_000 && one.case.other.len() <= 70_000;
+        assert!(cases_of(bytes).iter().all(short), "{name}");
+        total += bytes.len();
+    }
+    assert!(total <= 2_000_000, "{total} bytes in all");
+}
+
+/// The committed files answer as this engine does. That they are also, byte for
+/// byte, what the generator writes is tested by the script second/ci.
+#[test]
+fn committed_files_agree() {
+    let folder = concat!(env!("CARGO_MANIFEST_DIR"), "/../vectors");
+    for (name, generated) in vector_files() {
+        let bytes = std::fs::read(format!("{folder}/{name}")).expect("a committed vector file");
+        assert_eq!(vectors::replay(&bytes), Ok(cases_of(generated).len()), "{name}");
+    }
+}
+
+#[test]
+fn cases_read_as_they_were_written() {
+    let mut random = Random::new(501);
+    let cases: Vec<_> = (0..200).map(|_| random_case(&mut random)).collect();
+    let read = vectors::read(&vectors::write(&cases)).expect("a vector file");
+    assert!(cases.iter().eq(read.iter().map(|one| &one.case)));
+}
+
+#[test]
+fn the_digest_is_the_documented_one() {
+    assert_eq!(vectors::digest(&[]), 1);
+    assert_eq!(vectors::digest(&[0]), 16_777_620);
+    assert_eq!(vectors::digest(&[90; 20]), vectors::digest(&[90; 20]));
+    assert_ne!(vectors::digest(&[90; 20]), vectors::digest(&[90; 21]));
+}
+
+#[test]
+fn damaged_vector_files_are_told() {
+    let mut random = Random::new(502);
+    let bytes = vectors::write(&[random_case(&mut random), random_case(&mut random)]);
+    assert!(vectors::read(&bytes).is_some());
+    for length in 0..bytes.len() {
+        assert!(vectors::read(&bytes[..length]).is_none());
+    }
+}
