@@ -4,3 +4,14 @@ pub mod ResultLaws
 pub mod HeaderLaws
 pub mod TermLaws
 pub mod GoalsLaws
+pub mod TermTags
+pub mod ReadLaw
+pub mod StandsLaws
+pub mod FieldBytes
+pub mod Encoded
+pub mod Complete
+pub mod Decoded
+pub mod Depth
+pub mod RefusedPlace
+pub mod GoalBytes
+pub mod TermBytes

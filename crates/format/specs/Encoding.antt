@@ -37,3 +37,19 @@ goalBytes (γ ∷ g) = wordBytes (γ .0) ++ goalBytes g
 -- the field of a goal list, tag 3
 abbrev pub goalListBytes : List Goal → List ℕ
 goalListBytes g = fieldBytes 3 (goalBytes g)
+
+-- "Values in contents are 16 bits wide": of every value of a goal list and of a term
+unfoldable pub GoalValues : List Goal → Type 0
+GoalValues [] = Unit {0}
+GoalValues (γ ∷ g) = (γ .0 < 65536) × GoalValues g
+
+unfoldable pub TermValues : Term → Type 0
+TermValues (atomic a) = a .0 < 65536
+TermValues id = Unit {0}
+TermValues (label l t) = (l .0 < 65536) × TermValues t
+TermValues (sequence t u) = TermValues t × TermValues u
+TermValues (tensor t u) = TermValues t × TermValues u
+TermValues empty = Unit {0}
+TermValues (alternation t u) = TermValues t × TermValues u
+TermValues (assert γ) = γ .0 < 65536
+TermValues (defined n) = n .0 < 65536

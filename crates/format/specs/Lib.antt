@@ -1,6 +1,7 @@
 pub mod Limits
 pub mod Refusals
 pub mod Results
+pub mod Inputs
 pub mod Values
 pub mod Tags
 pub mod Headers

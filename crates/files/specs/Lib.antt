@@ -1,0 +1,3 @@
+pub mod Proofs
+pub mod Jobs
+pub mod Derivations

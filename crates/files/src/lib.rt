@@ -1,0 +1,1 @@
+// Proof, job and flat files.

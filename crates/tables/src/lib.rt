@@ -1,0 +1,1 @@
+// Tables of rules and definitions.
