@@ -6,7 +6,7 @@ use second::engine;
 use second::generate::build::*;
 use second::generate::random::Random;
 use second::generate::random_file::random_job;
-use second::generate::random_table::RandomTable;
+use second::generate::random_table::{RandomTable, Size};
 
 /// Number, steps and bytes of a run, without lent spaces.
 fn outcome(table: &[u8], job: &[u8], budget: u32) -> (u32, u32, Vec<u8>) {
@@ -20,7 +20,7 @@ fn outcome(table: &[u8], job: &[u8], budget: u32) -> (u32, u32, Vec<u8>) {
 fn on_random_jobs() {
     let mut random = Random::new(301);
     for _ in 0..1_500 {
-        let table = RandomTable::make(&mut random);
+        let table = RandomTable::make(&mut random, Size::Small);
         let (table, job) = (table.bytes(), random_job(&mut random, &table));
         let whole = outcome(&table, &job, 4_096);
         for budget in [0, 1, 2, 3, 5, 10, 30, 100, 1_000, whole.1.saturating_sub(1), whole.1] {

@@ -7,7 +7,7 @@ use plain::*;
 use second::generate::build;
 use second::generate::random::Random;
 use second::generate::random_file::{random_flat, random_job, random_proof};
-use second::generate::random_table::RandomTable;
+use second::generate::random_table::{RandomTable, Size};
 
 const CASES: usize = 3_000;
 
@@ -16,7 +16,7 @@ fn check_is_the_walk() {
     let mut random = Random::new(101);
     let mut accepted_proofs = 0;
     for _ in 0..CASES {
-        let random_table = RandomTable::make(&mut random);
+        let random_table = RandomTable::make(&mut random, Size::Small);
         let (table_bytes, proof) = (random_table.bytes(), random_proof(&mut random, &random_table));
         let answer = check(&table_bytes, &proof);
         let table = Table::of(&table_bytes);
@@ -43,7 +43,7 @@ fn check_is_the_walk() {
 fn flatten_is_the_forest() {
     let mut random = Random::new(102);
     for _ in 0..CASES {
-        let random_table = RandomTable::make(&mut random);
+        let random_table = RandomTable::make(&mut random, Size::Small);
         let (table_bytes, proof) = (random_table.bytes(), random_proof(&mut random, &random_table));
         let (answer, flat) = flatten(&table_bytes, &proof);
         let checked = check(&table_bytes, &proof);
@@ -63,7 +63,7 @@ fn flat_check_and_writer_read_trees_back() {
     let mut random = Random::new(103);
     let mut right = 0;
     for _ in 0..CASES {
-        let random_table = RandomTable::make(&mut random);
+        let random_table = RandomTable::make(&mut random, Size::Small);
         let (table_bytes, flat) = (random_table.bytes(), random_flat(&mut random, &random_table));
         let checked = check_flat(&table_bytes, &flat);
         if checked.number == 5 {
@@ -110,7 +110,7 @@ fn compare_runs() {
     let mut random = Random::new(104);
     let mut successes = 0;
     for number in 0..CASES {
-        let random_table = RandomTable::make(&mut random);
+        let random_table = RandomTable::make(&mut random, Size::Small);
         let (table_bytes, job) = (random_table.bytes(), random_job(&mut random, &random_table));
         let budget = if number % 50 == 0 { 4_096 } else { random.below(120) as u32 };
         let table = Table::of(&table_bytes);

@@ -11,7 +11,7 @@ use second::generate::examples;
 use second::generate::limit_files;
 use second::generate::random::Random;
 use second::generate::random_file::{random_flat, random_proof};
-use second::generate::random_table::RandomTable;
+use second::generate::random_table::{RandomTable, Size};
 
 fn entries(flat: &[u8], tag: u8) -> Vec<Vec<u16>> {
     let mut place = end_of(flat, 0);
@@ -65,7 +65,7 @@ fn from_random_proofs() {
     let mut random = Random::new(201);
     let mut accepted_proofs = 0;
     for _ in 0..2_000 {
-        let table = RandomTable::make(&mut random);
+        let table = RandomTable::make(&mut random, Size::Small);
         let proof = random_proof(&mut random, &table);
         if check(&table.bytes(), &proof).number == 0 {
             accepted_proofs += 1;
@@ -80,7 +80,7 @@ fn from_random_derivations() {
     let mut random = Random::new(202);
     let mut right = 0;
     for _ in 0..2_000 {
-        let table = RandomTable::make(&mut random);
+        let table = RandomTable::make(&mut random, Size::Small);
         let flat = random_flat(&mut random, &table);
         if check_flat(&table.bytes(), &flat).number == 0 {
             right += 1;

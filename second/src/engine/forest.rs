@@ -43,12 +43,12 @@ impl Forest {
 
     /// "atomic is a use whose premises are open leaves": turns an open leaf into
     /// a use and gives the new open leaves.
-    pub fn grow(&mut self, leaf: TreeNumber, name: RuleName, premises: &[Goal]) -> Vec<TreeNumber> {
+    pub fn grow(&mut self, leaf: TreeNumber, name: RuleName, premises: &[Goal]) -> impl Iterator<Item = TreeNumber> {
         let first_premise = self.trees.len() as u32;
         let count = premises.len() as u32;
         self.trees.extend(premises.iter().map(|&goal| Tree { goal, step: TreeStep::Open }));
         self.trees[leaf.0 as usize].step = TreeStep::Use { name, first_premise, premises: count };
-        (first_premise..first_premise + count).map(TreeNumber).collect()
+        (first_premise..first_premise + count).map(TreeNumber)
     }
 
     /// "Written with the stated goals as roots, then depth first, left first."

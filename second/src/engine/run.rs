@@ -94,7 +94,7 @@ impl Machine<'_> {
         }
         self.steps += 1;
         Ok(match self.terms.get(term) {
-            Term::Atomic(name) => self.begin_atomic(name, &goals),
+            Term::Atomic(name) => self.begin_atomic(name, goals),
             Term::Id => self.leave_field_if(goals.len() == 1, HiproofField::Id, goals),
             Term::Empty => self.leave_field_if(goals.is_empty(), HiproofField::Empty, goals),
             // "assert succeeds, as id, on one goal equal to its own"; "assert leaves id"
@@ -127,17 +127,16 @@ impl Machine<'_> {
         Control::Succeeded(goals)
     }
 
-    fn begin_atomic(&mut self, name: RuleName, goals: &[Goal]) -> Control {
-        let &[goal] = goals else {
+    fn begin_atomic(&mut self, name: RuleName, mut goals: Goals) -> Control {
+        let [goal] = goals[..] else {
             return Control::Failed;
         };
-        match self.table.premises(name, goal) {
-            Some(premises) => {
-                self.fields.push(HiproofField::Atomic(name));
-                Control::Succeeded(premises.to_vec())
-            }
-            None => Control::Failed,
-        }
+        let Some(premises) = self.table.premises(name, goal) else {
+            return Control::Failed;
+        };
+        goals.clear();
+        goals.extend(premises);
+        self.leave_field_if(true, HiproofField::Atomic(name), goals)
     }
 
     /// "A tensor fails if its left has none or has more than there are goals";

@@ -83,7 +83,7 @@ impl Walk<'_> {
     fn take(&mut self, mut term: TermNumber, mut goals: Leaves) -> Result<Leaves, Refusal> {
         loop {
             match self.proof.terms.get(term) {
-                Term::Atomic(name) => return self.take_atomic(term, name, &goals),
+                Term::Atomic(name) => return self.take_atomic(term, name, goals),
                 Term::Id if goals.len() == 1 => return Ok(goals),
                 Term::Empty if goals.is_empty() => return Ok(goals),
                 // A label asks for one goal, whatever its inner term's arity.
@@ -106,14 +106,16 @@ impl Walk<'_> {
 
     /// "atomic: exactly one goal, with a rule of that name for it; gives the
     /// premises in order."
-    fn take_atomic(&mut self, term: TermNumber, name: RuleName, goals: &[TreeNumber]) -> Result<Leaves, Refusal> {
-        let &[leaf] = goals else {
+    fn take_atomic(&mut self, term: TermNumber, name: RuleName, mut goals: Leaves) -> Result<Leaves, Refusal> {
+        let [leaf] = goals[..] else {
             return Err(self.cannot_take(term));
         };
-        match self.table.premises(name, self.forest.goal(leaf)) {
-            Some(premises) => Ok(self.forest.grow(leaf, name, premises)),
-            None => Err(self.cannot_take(term)),
-        }
+        let Some(premises) = self.table.premises(name, self.forest.goal(leaf)) else {
+            return Err(self.cannot_take(term));
+        };
+        goals.clear();
+        goals.extend(self.forest.grow(leaf, name, premises));
+        Ok(goals)
     }
 
     /// Goes on with what waited for `goals`.

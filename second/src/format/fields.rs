@@ -114,20 +114,19 @@ impl<'a> Reader<'a> {
         value
     }
 
-    /// All the goals up to the end of the field just begun.
-    pub fn goals_up_to(&mut self, end: usize) -> Vec<Goal> {
-        let goals = self.bytes[self.offset..end]
-            .chunks_exact(2)
-            .map(|pair| Goal(u16::from_be_bytes([pair[0], pair[1]])))
-            .collect();
+    /// Adds all the goals up to the end of the field just begun.
+    pub fn goals_up_to(&mut self, end: usize, goals: &mut Vec<Goal>) {
+        let pairs = self.bytes[self.offset..end].chunks_exact(2);
+        goals.extend(pairs.map(|pair| Goal(u16::from_be_bytes([pair[0], pair[1]]))));
         self.offset = end;
-        goals
     }
 
     /// A goal list that must stand here. Gives its place, too.
     pub fn goal_list(&mut self) -> Result<(usize, Vec<Goal>), Refusal> {
         let field = self.begin_field(self.file_end(), |tag| tag == Tag::GoalList)?;
-        Ok((field.place, self.goals_up_to(field.end)))
+        let mut goals = Vec::new();
+        self.goals_up_to(field.end, &mut goals);
+        Ok((field.place, goals))
     }
 
     /// "4: ... or behind the last field of a job or proof file (only at a

@@ -98,7 +98,7 @@ impl Table {
         let name = RuleName(reader.value());
         let goal = Goal(reader.value());
         let first_premise = self.premises.len();
-        self.premises.extend(reader.goals_up_to(field.end));
+        reader.goals_up_to(field.end, &mut self.premises);
         let premises = first_premise..self.premises.len();
         self.rules.push(Rule { place: field.place, name, goal, premises });
     }
@@ -131,6 +131,7 @@ impl Table {
     /// differs from any earlier one (READINGS A21).
     fn refuse_differing_premise_counts(&self) -> Result<(), Refusal> {
         let mut first_count: NameMap<RuleName, usize> = NameMap::default();
+        first_count.reserve(self.rules.len());
         for rule in &self.rules {
             if *first_count.entry(rule.name).or_insert(rule.premises.len()) != rule.premises.len() {
                 return Err(Refusal::at(Reason::PremiseCountDiffers, InputFile::Table, rule.place));

@@ -40,6 +40,28 @@ pub fn fields_over_definitions(fields: usize) -> Vec<u8> {
     [many, definition(16, &rest)].concat()
 }
 
+/// Tables near the limits.
+pub fn tables() -> Vec<Vec<u8>> {
+    let full = equal_rules(4_096);
+    vec![
+        different_rules(4_096),
+        full.clone(),
+        [&full[..], &[1, 0]].concat(),
+        [&full[..], &[1, 0, 99]].concat(),
+        [&full[..], &[3, 0, 99]].concat(),
+        longest_table(),
+        [longest_table(), vec![0]].concat(),
+        vec![1; 65_535],
+        definitions(256),
+        definitions(257),
+        [definitions(256), vec![2, 0, 0]].concat(),
+        deep_definition(4_096),
+        deep_definition(4_097),
+        fields_over_definitions(4_096),
+        fields_over_definitions(4_097),
+    ]
+}
+
 /// A table of many definitions that name each other in a long chain, the last
 /// one first known: an arity that takes all of them to find.
 pub fn chain_of_definitions(count: u16) -> Vec<u8> {

@@ -21,19 +21,46 @@ use crate::answer::Answer;
 use crate::limits::MOST_BUDGET;
 use case::{Case, Entry};
 use random::Random;
-use random_table::RandomTable;
+use random_table::{RandomTable, Size};
 
-/// A case for any entry.
+/// A case for any entry: most of them small, some large, some at a limit.
 pub fn random_case(random: &mut Random) -> Case {
     let entry = *random.pick(&Entry::ALL);
-    random_case_of(entry, random)
+    match random.below(20) {
+        0 => random_case_at_a_limit(entry, random),
+        1 => random_case_of(entry, Size::Large, random),
+        _ => random_case_of(entry, Size::Small, random),
+    }
 }
 
 /// A case for that entry: files that fit, damaged ones and foreign ones, with
 /// lent spaces and budgets that mostly suffice.
-pub fn random_case_of(entry: Entry, random: &mut Random) -> Case {
-    let table = RandomTable::make(random);
-    let mut case = Case::new(entry, &table.bytes(), &other_file(entry, random, &table));
+pub fn random_case_of(entry: Entry, size: Size, random: &mut Random) -> Case {
+    let mut table = RandomTable::make(random, size);
+    if random.chance(5) {
+        table.add_fault(random);
+    }
+    let case = Case::new(entry, &table.bytes(), &other_file(entry, random, &table));
+    spoil(random, case)
+}
+
+/// A case one of whose files is one of `limit_files`.
+fn random_case_at_a_limit(entry: Entry, random: &mut Random) -> Case {
+    let (table, others) = match entry {
+        Entry::Check | Entry::Flatten => (examples::table_of_eight(), limit_files::proofs()),
+        Entry::Run => (examples::table_a(), limit_files::jobs()),
+        Entry::CheckFlat | Entry::WriteProof => (limit_files::chain_table(), limit_files::flats()),
+    };
+    let other: &Vec<u8> = random.pick(&others);
+    let mut case = Case::new(entry, &table, other);
+    if random.chance(30) {
+        case.table = random.pick(&limit_files::tables()).clone();
+    }
+    spoil(random, case)
+}
+
+/// Damages some cases, then varies what is lent.
+fn spoil(random: &mut Random, mut case: Case) -> Case {
     match random.below(20) {
         0 | 1 => case.table = damage::damage(random, &case.table),
         2..=4 => case.other = damage::damage(random, &case.other),
@@ -54,7 +81,7 @@ pub fn other_file(entry: Entry, random: &mut Random, table: &RandomTable) -> Vec
 
 /// A file of another kind or another table, or bytes that are no file at all.
 fn make_foreign(random: &mut Random, case: &mut Case) {
-    let table = RandomTable::make(random);
+    let table = RandomTable::make(random, Size::Small);
     match random.below(5) {
         0 => case.table = table.bytes(),
         1 => case.table = std::mem::take(&mut case.other),

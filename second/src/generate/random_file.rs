@@ -3,7 +3,7 @@
 
 use super::build;
 use super::random::Random;
-use super::random_table::RandomTable;
+use super::random_table::{RandomRule, RandomTable, Size};
 use crate::limits::MOST_GOALS;
 
 /// A term and the goals it gives, as far as the maker can tell.
@@ -17,13 +17,13 @@ struct TermMaker<'a> {
     terms_left: usize,
     /// The chance, in percent, that a term is one that need not fit.
     mistakes: usize,
-    /// Alternation, assert and defined tactics may stand in the term.
-    tactics: bool,
+    /// The chance, in percent, of an alternation, assert or defined tactic.
+    tactics: usize,
 }
 
 pub fn random_proof(random: &mut Random, table: &RandomTable) -> Vec<u8> {
     let goals = table.random_goals(random);
-    let (term, mut given) = make_term(random, table, &goals, false);
+    let (term, mut given) = make_term(random, table, &goals, 0);
     given.truncate(MOST_GOALS);
     if random.chance(5) {
         given.pop();
@@ -33,15 +33,19 @@ pub fn random_proof(random: &mut Random, table: &RandomTable) -> Vec<u8> {
 
 pub fn random_job(random: &mut Random, table: &RandomTable) -> Vec<u8> {
     let goals = table.random_goals(random);
-    if random.chance(25) {
+    let (any_tactic, tactics) = if table.size == Size::Small { (25, 30) } else { (5, 2) };
+    if random.chance(any_tactic) {
         return build::job(&goals, &table.any_tactic(random, 4));
     }
-    let (term, _) = make_term(random, table, &goals, true);
+    let (term, _) = make_term(random, table, &goals, tactics);
     build::job(&goals, &term)
 }
 
-fn make_term(random: &mut Random, table: &RandomTable, goals: &[u16], tactics: bool) -> TermAndGoals {
-    let terms_left = *random.pick(&[2, 5, 10, 20, 40, 40, 120]);
+fn make_term(random: &mut Random, table: &RandomTable, goals: &[u16], tactics: usize) -> TermAndGoals {
+    let terms_left = match table.size {
+        Size::Small => *random.pick(&[2, 5, 10, 20, 40, 40, 120]),
+        Size::Large => random.below(1_200),
+    };
     let mistakes = *random.pick(&[0, 0, 0, 2, 5]);
     TermMaker { random, table, terms_left, mistakes, tactics }.term_for(goals)
 }
@@ -55,7 +59,7 @@ impl TermMaker<'_> {
         if self.random.chance(self.mistakes) {
             return self.mistake(goals);
         }
-        if self.tactics && self.random.chance(30) {
+        if self.random.chance(self.tactics) {
             return self.tactic_for(goals);
         }
         match goals {
@@ -142,13 +146,15 @@ impl TermMaker<'_> {
 /// A flat file that is right, or nearly so.
 pub fn random_flat(random: &mut Random, table: &RandomTable) -> Vec<u8> {
     let roots = table.random_goals(random);
-    let mut uses_left = *random.pick(&[0, 3, 10, 10, 30, 100]);
+    let mut uses_left = match table.size {
+        Size::Small => *random.pick(&[0, 3, 10, 10, 30, 100]),
+        Size::Large => random.below(4_200),
+    };
     let mistakes = *random.pick(&[0, 0, 0, 2, 10]);
     let mut pending: Vec<u16> = roots.iter().rev().copied().collect();
     let mut entries = Vec::new();
     while let Some(goal) = pending.pop() {
-        let rule = if uses_left > 0 && random.chance(80) { table.rule_for(random, goal) } else { None };
-        match rule {
+        match next_rule(random, table, goal, uses_left, pending.len()) {
             Some(rule) => {
                 uses_left -= 1;
                 entries.push(build::use_entry(rule.name, goal));
@@ -161,6 +167,27 @@ pub fn random_flat(random: &mut Random, table: &RandomTable) -> Vec<u8> {
         }
     }
     build::flat(&roots, &entries)
+}
+
+/// A rule for the goal, if it is not to stay open: one that closes it when many
+/// goals are pending, since only 256 may stay open.
+fn next_rule<'a>(
+    random: &mut Random,
+    table: &'a RandomTable,
+    goal: u16,
+    uses_left: usize,
+    pending: usize,
+) -> Option<&'a RandomRule> {
+    let chance_of_use = if table.size == Size::Small { 80 } else { 98 };
+    if uses_left == 0 || !random.chance(chance_of_use) {
+        return None;
+    }
+    if pending > 100 {
+        if let Some(rule) = table.rules.iter().find(|rule| rule.goal == goal && rule.premises.is_empty()) {
+            return Some(rule);
+        }
+    }
+    table.rule_for(random, goal)
 }
 
 fn make_flat_mistake(random: &mut Random, entries: &mut Vec<Vec<u8>>) {

@@ -5,6 +5,8 @@ use super::build;
 use super::random::Random;
 
 pub struct RandomTable {
+    /// Whether the files made for it come near the limits.
+    pub size: Size,
     pub goals: Vec<u16>,
     pub names: Vec<u16>,
     pub rules: Vec<RandomRule>,
@@ -22,12 +24,20 @@ pub struct RandomDefinition {
     pub body: Vec<u8>,
 }
 
+/// How large random files are: a few dozen fields, or thousands.
+#[derive(Clone, Copy, PartialEq, Eq, Debug)]
+pub enum Size {
+    Small,
+    Large,
+}
+
 impl RandomTable {
-    pub fn make(random: &mut Random) -> RandomTable {
-        let goals = different_values(random, 6);
-        let names = different_values(random, 5);
+    pub fn make(random: &mut Random, size: Size) -> RandomTable {
+        let (most_goals, most_names) = if size == Size::Small { (6, 5) } else { (90, 70) };
+        let goals = different_values(random, most_goals);
+        let names = different_values(random, most_names);
         let rules = random_rules(random, &goals, &names);
-        let mut table = RandomTable { goals, names, rules, definitions: Vec::new() };
+        let mut table = RandomTable { size, goals, names, rules, definitions: Vec::new() };
         table.add_definitions(random);
         table
     }
@@ -49,6 +59,7 @@ impl RandomTable {
 
     pub fn random_goals(&self, random: &mut Random) -> Vec<u16> {
         let count = match random.below(10) {
+            _ if self.size == Size::Large => random.below(258),
             0 => 0,
             1..=5 => 1,
             6..=8 => 2 + random.below(3),
@@ -65,8 +76,43 @@ impl RandomTable {
         random.pick(&self.definitions).tactic
     }
 
+    /// Adds a fault of the sort that 6, 7, 8 or 9 refuses, where the table has
+    /// what it takes.
+    pub fn add_fault(&mut self, random: &mut Random) {
+        let number = random.value();
+        match random.below(4) {
+            0 if !self.rules.is_empty() => {
+                let RandomRule { name, goal, ref premises } = *random.pick(&self.rules);
+                let premises = premises.clone();
+                self.insert_rule(random, RandomRule { name, goal, premises });
+            }
+            1 if !self.rules.is_empty() => {
+                let RandomRule { name, ref premises, .. } = *random.pick(&self.rules);
+                let premises = vec![1; (premises.len() + 1) % 9];
+                self.insert_rule(random, RandomRule { name, goal: number, premises });
+            }
+            2 if !self.definitions.is_empty() => {
+                let tactic = random.pick(&self.definitions).tactic;
+                self.insert_definition(random, RandomDefinition { tactic, body: build::id() });
+            }
+            _ => {
+                let twice = build::tensor(&build::label(101, &build::id()), &build::label(101, &build::id()));
+                self.insert_definition(random, RandomDefinition { tactic: number, body: twice });
+            }
+        }
+    }
+
+    fn insert_rule(&mut self, random: &mut Random, rule: RandomRule) {
+        self.rules.insert(random.below(self.rules.len() + 1), rule);
+    }
+
+    fn insert_definition(&mut self, random: &mut Random, definition: RandomDefinition) {
+        self.definitions.insert(random.below(self.definitions.len() + 1), definition);
+    }
+
     fn add_definitions(&mut self, random: &mut Random) {
-        for number in 0..random.below(7) {
+        let most = if self.size == Size::Small { 6 } else { 257 };
+        for number in 0..random.below(most + 1) {
             let tactic = if random.chance(10) { random.value() } else { number as u16 + 1 };
             if self.definitions.iter().any(|earlier| earlier.tactic == tactic) {
                 continue;
@@ -121,7 +167,7 @@ fn different_values(random: &mut Random, most: usize) -> Vec<u16> {
             0 => 0,
             1 => 65_535,
             2 => random.value(),
-            _ => 1 + random.below(20) as u16,
+            _ => 1 + random.below(4 * most) as u16,
         };
         if !values.contains(&value) {
             values.push(value);

@@ -3,9 +3,9 @@
 use super::build::*;
 use super::case::{Case, Entry};
 use super::random::Random;
-use super::random_table::RandomTable;
+use super::random_table::{RandomTable, Size};
 use super::{damage, examples, limit_files, other_file, random_case_of, reading};
-use crate::limits::{MOST_BUDGET, MOST_INPUT_BYTES};
+use crate::limits::MOST_BUDGET;
 
 /// File names in the folder vectors/, with their cases.
 pub fn vector_set() -> Vec<(&'static str, Vec<Case>)> {
@@ -28,38 +28,36 @@ fn read_table() -> Vec<Case> {
     let case = |table: Vec<u8>| Case::new(Entry::Check, &table, &proof);
     let mut tables = reading::systematic_damage(&reading::table_with_every_field());
     tables.extend(reading::refused_tables());
-    tables.extend([
-        vec![],
-        limit_files::different_rules(4_096),
-        limit_files::equal_rules(4_096),
-        [limit_files::equal_rules(4_096), vec![1, 0]].concat(),
-        [limit_files::equal_rules(4_096), vec![1, 0, 99]].concat(),
-        [limit_files::equal_rules(4_096), vec![3, 0, 99]].concat(),
-        limit_files::longest_table(),
-        [limit_files::longest_table(), vec![0]].concat(),
-        vec![1; MOST_INPUT_BYTES],
-        limit_files::definitions(256),
-        limit_files::definitions(257),
-        [limit_files::definitions(256), vec![2, 0, 0]].concat(),
-        limit_files::deep_definition(4_096),
-        limit_files::deep_definition(4_097),
-        limit_files::fields_over_definitions(4_096),
-        limit_files::fields_over_definitions(4_097),
-    ]);
-    tables.extend(damaged_tables(&mut Random::new(1), 300));
+    tables.push(vec![]);
+    tables.extend(limit_files::tables());
+    tables.extend(damaged_tables(&mut Random::new(1), 200));
+    tables.extend(faulty_tables(&mut Random::new(10), 100));
     tables.into_iter().map(case).collect()
 }
 
 fn damaged_tables(random: &mut Random, count: usize) -> Vec<Vec<u8>> {
     (0..count)
         .map(|_| {
-            let table = RandomTable::make(random).bytes();
+            let table = RandomTable::make(random, Size::Small).bytes();
             let once = damage::damage(random, &table);
             if random.chance(30) {
                 damage::damage(random, &once)
             } else {
                 once
             }
+        })
+        .collect()
+}
+
+/// Tables with one to three faults for 6 to 9, so that their order shows.
+fn faulty_tables(random: &mut Random, count: usize) -> Vec<Vec<u8>> {
+    (0..count)
+        .map(|_| {
+            let mut table = RandomTable::make(random, Size::Small);
+            for _ in 0..1 + random.below(3) {
+                table.add_fault(random);
+            }
+            table.bytes()
         })
         .collect()
 }
@@ -102,7 +100,7 @@ fn reading_cases(entry: Entry, good: &[u8]) -> Vec<Case> {
 fn damaged_cases(entry: Entry, random: &mut Random, count: usize) -> Vec<Case> {
     (0..count)
         .map(|_| {
-            let table = RandomTable::make(random);
+            let table = RandomTable::make(random, Size::Small);
             let other = other_file(entry, random, &table);
             Case::new(entry, &table.bytes(), &damage::damage(random, &other))
         })
@@ -140,7 +138,7 @@ fn with_output_lengths(case: &Case) -> Vec<Case> {
 
 fn random_cases(entry: Entry, seed: u64, count: usize) -> Vec<Case> {
     let mut random = Random::new(seed);
-    (0..count).map(|_| random_case_of(entry, &mut random)).collect()
+    (0..count).map(|_| random_case_of(entry, Size::Small, &mut random)).collect()
 }
 
 fn check() -> Vec<Case> {
