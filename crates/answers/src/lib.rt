@@ -1,0 +1,68 @@
+// The one answer of every entry.
+ghost use mathlib.Core.Path.{_≡_};
+ghost use Prim.Native.Nat.{_≤_};
+ghost use Rattle.answers.specs.Answers as said;
+
+// Number (0 for success), file (1 table, 2 the other, 0 neither), place (a byte offset in that file) and steps (terms begun); then, of a success, the bytes written, the term fields, the uses and the remaining goals. What does not apply is 0.
+#[repr(C)]
+pub struct Answer {
+    pub number: u32,
+    pub file: u32,
+    pub place: u32,
+    pub steps: u32,
+    pub length: u32,
+    pub fields: u32,
+    pub uses: u32,
+    pub remaining: u32,
+}
+
+// A refusal, after so many steps.
+pub fn refusal(number: u8, file: u8, place: usize, steps: usize) -> Answer
+    requires { ⌜ (place ≤ 65535) × (steps ≤ 65535) ⌝ }
+    ensures { λ r. ⌜ r ≡ said.refusal number file place steps ⌝ }
+{
+    Answer {
+        number: number as u32,
+        file: file as u32,
+        place: place as u32,
+        steps: steps as u32,
+        length: 0,
+        fields: 0,
+        uses: 0,
+        remaining: 0,
+    }
+}
+
+// The success of a checker.
+pub fn counted(fields: usize, uses: usize, remaining: usize) -> Answer
+    requires { ⌜ (fields ≤ 65535) × (uses ≤ 65535) × (remaining ≤ 65535) ⌝ }
+    ensures { λ r. ⌜ r ≡ said.counted fields uses remaining ⌝ }
+{
+    Answer {
+        number: 0,
+        file: 0,
+        place: 0,
+        steps: 0,
+        length: 0,
+        fields: fields as u32,
+        uses: uses as u32,
+        remaining: remaining as u32,
+    }
+}
+
+// The success of an entry that writes, after so many steps.
+pub fn wrote(length: usize, steps: usize) -> Answer
+    requires { ⌜ (length ≤ 65535) × (steps ≤ 65535) ⌝ }
+    ensures { λ r. ⌜ r ≡ said.wrote length steps ⌝ }
+{
+    Answer {
+        number: 0,
+        file: 0,
+        place: 0,
+        steps: steps as u32,
+        length: length as u32,
+        fields: 0,
+        uses: 0,
+        remaining: 0,
+    }
+}

@@ -1,0 +1,178 @@
+-- The worked lines hold: each is computed.
+-- Assumes nothing.
+use mathlib.Core.Path.{_≡_, refl}
+use mathlib.Core.List.{List, []}
+use Prim.Native.Nat.{ℕ, _<_}
+use native.Mathlib.Omega.{arith}
+use lib.ListN.{length, replicate, length-replicate}
+use borrow.Author.Tests.{lt-ltb}
+use Rattle.format.specs.Limits.{mostBytes}
+use Rattle.format.specs.Refusals.{inputTooLong}
+use Rattle.entries.specs.Outcomes.{refusal, tableFile}
+use Rattle.words.specs.Word.{word}
+use Rattle.format.specs.Encoding.{termBytes, goalBytes}
+use Rattle.format.specs.Goals.{goalsAt, goalsOf, readGoals}
+use Rattle.format.specs.Headers.{headerAt}
+use Rattle.format.specs.ReadTerms.{leaf, pair, closed, contents, termOf, readTerm}
+use Rattle.format.specs.Refusals.{number}
+use Rattle.format.specs.Results.{andThen}
+use Rattle.format.specs.Tags.{rows, findRow, rowOf, kindOf, leastOf, mostOf, innerOf, lengthFits}
+use Rattle.format.specs.Terms.{size, fields}
+use Rattle.tables.specs.Lookup.{findRuleIn, findRule, findBodyIn, findBody, matches}
+use Rattle.tables.specs.ReadTables.{full, lowest, ruleOf, definitionOf, fieldOf, readField, withRule, withDefinition, fieldsOf, readFields, readTable}
+use Rattle.tables.specs.Repeats.{ruleSize, definitionSize, rulesSize, placedRules, placedTactics, placedLabels, labelsOf, clashesAny, firstClash, repeatsRule, recountsRule, repeatsTactic, repeatsLabel, refuseAt, wholeTable}
+use Rattle.files.specs.Derivations as DerivationsM
+use Rattle.files.specs.Derivations.{withEntry, entriesOf, readEntries, derivationOf, readFlat, entryBytes, entriesBytes, flatBytes, entriesPlace}
+use Rattle.files.specs.Jobs.{lastTermOf, readLastTerm, jobOf, readJob, jobBytes}
+use Rattle.files.specs.Proofs.{remainingOf, hiproofOf, proofOf, readProof, proofBytes, termPlace, remainingPlace}
+use Rattle.hitac.specs.Counts.{taken}
+use Rattle.hitac.specs.FlatWalk.{flatWalk}
+use Rattle.hitac.specs.Forest.{forest}
+use Rattle.hitac.specs.Hiproofs.{inputArity, atomics, dropLabels}
+use Rattle.hitac.specs.Machine.{unwind, begin, stepFrom, step, run, start}
+use Rattle.hitac.specs.TacticArity.{arityIn, arityAfter, tacticArity}
+use Rattle.hitac.specs.Walk.{walk}
+use Rattle.hitac.specs.Write.{treeTerms, written}
+use Rattle.entries.specs.Check.{sameGoals, remainingAre, checked, onProof, proofCounts, forestFile, check, flatten}
+use Rattle.entries.specs.CheckFlat.{nonePending, right, flatCounts, checkFlatOutcome, writtenProof, writtenFile, writeOutcome, checkFlat, writeProof}
+use Rattle.entries.specs.LentSpace.{checkIn, writeOut, writeIn}
+use Rattle.entries.specs.Lines.{Holds, AllHold}
+use Rattle.entries.specs.PrintedLine.{digits, acceptedLine, refusedLine, printedLine}
+use Rattle.entries.specs.Run.{runEnd, runResult, runOutcome, runTactic}
+use Rattle.entries.specs.Worked.{beside, sideBySide, sideBySideOr, starredLines, edgeLines}
+
+pub starred : AllHold starredLines
+unfolding word termBytes goalBytes goalsAt goalsOf readGoals headerAt leaf pair closed contents termOf readTerm number andThen rows findRow rowOf kindOf leastOf mostOf innerOf lengthFits size fields findRuleIn findRule findBodyIn findBody matches full lowest ruleOf definitionOf fieldOf readField withRule withDefinition fieldsOf readFields readTable ruleSize definitionSize rulesSize placedRules placedTactics placedLabels labelsOf clashesAny firstClash repeatsRule recountsRule repeatsTactic repeatsLabel refuseAt wholeTable DerivationsM.full withEntry entriesOf readEntries derivationOf readFlat entryBytes entriesBytes flatBytes entriesPlace lastTermOf readLastTerm jobOf readJob jobBytes remainingOf hiproofOf proofOf readProof proofBytes termPlace remainingPlace taken flatWalk forest inputArity atomics dropLabels unwind begin stepFrom step run start arityIn arityAfter tacticArity walk treeTerms written sameGoals remainingAre checked onProof proofCounts forestFile check flatten nonePending right flatCounts checkFlatOutcome writtenProof writtenFile writeOutcome checkFlat writeProof checkIn writeOut writeIn Holds AllHold digits acceptedLine refusedLine printedLine runEnd runResult runOutcome runTactic beside sideBySide sideBySideOr starredLines edgeLines
+starred = (refl, (refl, (refl, (refl, (refl, (refl, (refl, (refl, (refl, (refl, (refl, (refl, tt))))))))))))
+
+-- a table of more bytes than a file may have is refused unread
+too-long : (s p : List ℕ) → mostBytes < length s → onProof proofCounts s p ≡ refusal inputTooLong tableFile 0 0
+unfolding onProof readTable
+too-long s p h = rw (lt-ltb mostBytes (length s) h)
+
+pub edges : AllHold edgeLines
+unfolding word termBytes goalBytes goalsAt goalsOf readGoals headerAt leaf pair closed contents termOf readTerm number andThen rows findRow rowOf kindOf leastOf mostOf innerOf lengthFits size fields findRuleIn findRule findBodyIn findBody matches full lowest ruleOf definitionOf fieldOf readField withRule withDefinition fieldsOf readFields readTable ruleSize definitionSize rulesSize placedRules placedTactics placedLabels labelsOf clashesAny firstClash repeatsRule recountsRule repeatsTactic repeatsLabel refuseAt wholeTable DerivationsM.full withEntry entriesOf readEntries derivationOf readFlat entryBytes entriesBytes flatBytes entriesPlace lastTermOf readLastTerm jobOf readJob jobBytes remainingOf hiproofOf proofOf readProof proofBytes termPlace remainingPlace taken flatWalk forest inputArity atomics dropLabels unwind begin stepFrom step run start arityIn arityAfter tacticArity walk treeTerms written sameGoals remainingAre checked onProof proofCounts forestFile check flatten nonePending right flatCounts checkFlatOutcome writtenProof writtenFile writeOutcome checkFlat writeProof checkIn writeOut writeIn Holds AllHold digits acceptedLine refusedLine printedLine runEnd runResult runOutcome runTactic beside sideBySide sideBySideOr starredLines edgeLines
+edges = (
+  refl,
+  (
+    refl,
+    (
+      refl,
+      (
+        refl,
+        (
+          too-long (replicate 65536 0) [] (rw length-replicate (omega arith)),
+          (
+            refl,
+            (
+              refl,
+              (
+                refl,
+                (
+                  refl,
+                  (
+                    refl,
+                    (
+                      refl,
+                      (
+                        refl,
+                        (
+                          refl,
+                          (
+                            refl,
+                            (
+                              refl,
+                              (
+                                refl,
+                                (
+                                  refl,
+                                  (
+                                    refl,
+                                    (
+                                      refl,
+                                      (
+                                        refl,
+                                        (
+                                          refl,
+                                          (
+                                            refl,
+                                            (
+                                              refl,
+                                              (
+                                                refl,
+                                                (
+                                                  refl,
+                                                  (
+                                                    refl,
+                                                    (
+                                                      refl,
+                                                      (
+                                                        refl,
+                                                        (
+                                                          refl,
+                                                          (
+                                                            refl,
+                                                            (
+                                                              refl,
+                                                              (
+                                                                refl,
+                                                                (
+                                                                  refl,
+                                                                  (
+                                                                    refl,
+                                                                    (
+                                                                      refl,
+                                                                      (
+                                                                        refl,
+                                                                        (
+                                                                          refl,
+                                                                          (
+                                                                            refl,
+                                                                            (
+                                                                              refl,
+                                                                              (
+                                                                                refl,
+                                                                                (
+                                                                                  refl,
+                                                                                  tt,
+                                                                                ),
+                                                                              ),
+                                                                            ),
+                                                                          ),
+                                                                        ),
+                                                                      ),
+                                                                    ),
+                                                                  ),
+                                                                ),
+                                                              ),
+                                                            ),
+                                                          ),
+                                                        ),
+                                                      ),
+                                                    ),
+                                                  ),
+                                                ),
+                                              ),
+                                            ),
+                                          ),
+                                        ),
+                                      ),
+                                    ),
+                                  ),
+                                ),
+                              ),
+                            ),
+                          ),
+                        ),
+                      ),
+                    ),
+                  ),
+                ),
+              ),
+            ),
+          ),
+        ),
+      ),
+    ),
+  ),
+)

@@ -1,0 +1,47 @@
+-- Document 01, "A table and its edges": a worked line is a call on bytes and what it comes to.
+use Prim.Native.Nat.{ℕ}
+use mathlib.Core.Path.{_≡_}
+use mathlib.Core.List.{List, [], _∷_}
+use lib.ListN.{length}
+use Rattle.format.specs.Results.{Result}
+use Rattle.tables.specs.Tables.{Table}
+use Rattle.files.specs.Derivations.{Derivation}
+use Rattle.answers.specs.declared.Answer.{Answer}
+use Rattle.entries.specs.Outcomes.{Outcome}
+use Rattle.entries.specs.LentSpace.{Counts, Checked, Written, writeOut}
+use Rattle.entries.specs.Check.{onProof, proofCounts, forestFile, check}
+use Rattle.entries.specs.CheckFlat.{checkFlatOutcome, writeOutcome, writtenFile}
+use Rattle.entries.specs.Run.{runOutcome, runTactic}
+use Rattle.entries.specs.PrintedLine.{printedLine}
+
+pub data Line : Type 0 where
+  ofBytes : (file : List ℕ) → (bytes : ℕ) → Line
+  checks : (table proof : List ℕ) → Outcome Counts → Line
+  flattens : (table proof : List ℕ) → Outcome (List ℕ) → Line
+  checksFlat : (table flat : List ℕ) → Outcome Counts → Line
+  writes : (table flat : List ℕ) → Outcome (List ℕ) → Line
+  writesOf : Table → Derivation → Result (List ℕ) → Line
+  runs : (table job : List ℕ) → (budget : ℕ) → Outcome (List ℕ) → Line
+  runsInto : (table job : List ℕ) → (budget : ℕ) → (work out : List ℕ) → Written → Line
+  runsWith : (table job : List ℕ) → (budget : ℕ) → (work out : List ℕ) → Written → Line
+  checksWith : (table proof work : List ℕ) → Checked → Line
+  prints : Answer → (line : List ℕ) → Line
+
+-- what the line says
+unfoldable pub Holds : Line → Type 0
+Holds (ofBytes s n) = length s ≡ n
+Holds (checks t p o) = onProof proofCounts t p ≡ o
+Holds (flattens t p o) = onProof forestFile t p ≡ o
+Holds (checksFlat t f o) = checkFlatOutcome t f ≡ o
+Holds (writes t f o) = writeOutcome t f ≡ o
+Holds (writesOf T d r) = writtenFile T d 0 ≡ r
+Holds (runs t j b o) = runOutcome t j b ≡ o
+-- a run that was lent enough work space
+Holds (runsInto t j b w o x) = writeOut w o (runOutcome t j b) ≡ x
+Holds (runsWith t j b w o x) = runTactic t j b w o ≡ x
+Holds (checksWith t p w x) = check t p w ≡ x
+Holds (prints a l) = printedLine a ≡ l
+
+unfoldable pub AllHold : List Line → Type 0
+AllHold [] = Unit {0}
+AllHold (l ∷ ls) = Holds l × AllHold ls

@@ -1,0 +1,49 @@
+-- Document 01, "A table and its edges": the line that the check program prints, as bytes.
+use Prim.Native.Nat.{ℕ, zero, suc, _+_, _/_, _%_}
+use mathlib.Core.Bool.{cond}
+use mathlib.Core.List.{List, [], _∷_, _++_}
+use lib.Dec.{eqb, ltb}
+use Rattle.answers.specs.declared.Answer.{Answer}
+
+-- a number in base ten, of at most so many digits; 48 is the digit 0
+unfoldable pub digits : (most : ℕ) → ℕ → List ℕ
+digits zero n = []
+digits (suc m) n = let front = digits m (n / 10) in cond (ltb n 10) ((48 + n) ∷ []) (front ++ ((48 + n % 10) ∷ []))
+
+-- the numbers of an answer have 32 bits, so ten digits at the most
+abbrev pub decimal : ℕ → List ℕ
+decimal n = digits 10 n
+
+-- "accepted fields ", " uses ", " open "
+abbrev pub acceptedText : List ℕ
+acceptedText = 97 ∷ 99 ∷ 99 ∷ 101 ∷ 112 ∷ 116 ∷ 101 ∷ 100 ∷ 32 ∷ 102 ∷ 105 ∷ 101 ∷ 108 ∷ 100 ∷ 115 ∷ 32 ∷ []
+
+abbrev pub usesText : List ℕ
+usesText = 32 ∷ 117 ∷ 115 ∷ 101 ∷ 115 ∷ 32 ∷ []
+
+abbrev pub openText : List ℕ
+openText = 32 ∷ 111 ∷ 112 ∷ 101 ∷ 110 ∷ 32 ∷ []
+
+-- "refused ", " file ", " place "
+abbrev pub refusedText : List ℕ
+refusedText = 114 ∷ 101 ∷ 102 ∷ 117 ∷ 115 ∷ 101 ∷ 100 ∷ 32 ∷ []
+
+abbrev pub fileText : List ℕ
+fileText = 32 ∷ 102 ∷ 105 ∷ 108 ∷ 101 ∷ 32 ∷ []
+
+abbrev pub placeText : List ℕ
+placeText = 32 ∷ 112 ∷ 108 ∷ 97 ∷ 99 ∷ 101 ∷ 32 ∷ []
+
+abbrev pub lineEnd : List ℕ
+lineEnd = 10 ∷ []
+
+-- "`accepted fields 11 uses 3 open 0` (term fields, uses, remaining goals) and a line end"
+unfoldable pub acceptedLine : Answer → List ℕ
+acceptedLine a = acceptedText ++ decimal (a .fields) ++ usesText ++ decimal (a .uses) ++ openText ++ decimal (a .remaining) ++ lineEnd
+
+-- "`refused 20 file 2 place 5` (number, file, place), and a line end"
+unfoldable pub refusedLine : Answer → List ℕ
+refusedLine a = refusedText ++ decimal (a .number) ++ fileText ++ decimal (a .file) ++ placeText ++ decimal (a .place) ++ lineEnd
+
+unfoldable pub printedLine : Answer → List ℕ
+printedLine a = cond (eqb (a .number) 0) (acceptedLine a) (refusedLine a)

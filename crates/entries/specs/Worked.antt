@@ -1,0 +1,167 @@
+-- Document 01, "A table and its edges": the starred lines, and one line for each refusal and some edges, over bytes. `proofs/Worked.antt` proves them.
+use Prim.Native.Nat.{ℕ, zero, suc}
+use mathlib.Core.List.{List, [], _∷_, _++_}
+use lib.ListN.{replicate}
+use Rattle.format.specs.Refusals.{inputTooLong, fieldTorn, tagNotAllowed, lengthWrong, limitPassed, ruleRepeated, premiseCountDiffers, tacticRedefined, labelRepeated, ruleMissing, goalCountWrong, goalsTooFew, remainingDiffer, joinedTooLong, tacticFailed, budgetSpent, budgetTooLarge, entryWrong, goalsPending, entriesTooMany}
+use Rattle.format.specs.Results.{refused}
+use Rattle.format.specs.Values.{ruleName, goal}
+use Rattle.format.specs.Terms.{Term, atomic, id, tensor, alternation}
+use Rattle.files.specs.Proofs.{Proof, proofBytes}
+use Rattle.files.specs.Jobs.{Job, jobBytes}
+use Rattle.files.specs.Derivations.{openEntry}
+use Rattle.answers.specs.Answers as answer
+use Rattle.entries.specs.Outcomes.{success, refusal, done, tableFile, otherFile, noFile}
+use Rattle.entries.specs.LentSpace.{Counts}
+use Rattle.entries.specs.Lines.{Line, ofBytes, checks, flattens, checksFlat, writes, writesOf, runs, runsInto, runsWith, checksWith, prints}
+
+abbrev pub counts : (fields uses remaining : ℕ) → Counts
+counts t u o = record { fields = t; uses = u; remaining = o }
+
+-- "Table A: rule 1 on 10 gives 20, 30; rule 2 on 20 and rule 3 on 30 give none", and its four tactics
+abbrev pub tableA : List ℕ
+tableA = 1 ∷ 0 ∷ 8 ∷ 0 ∷ 1 ∷ 0 ∷ 10 ∷ 0 ∷ 20 ∷ 0 ∷ 30 ∷ 1 ∷ 0 ∷ 4 ∷ 0 ∷ 2 ∷ 0 ∷ 20 ∷ 1 ∷ 0 ∷ 4 ∷ 0 ∷ 3 ∷ 0 ∷ 30 ∷ 2 ∷ 0 ∷ 26 ∷ 0 ∷ 1 ∷ 18 ∷ 0 ∷ 21 ∷ 0 ∷ 1 ∷ 19 ∷ 0 ∷ 16 ∷ 16 ∷ 0 ∷ 2 ∷ 0 ∷ 1 ∷ 20 ∷ 0 ∷ 8 ∷ 16 ∷ 0 ∷ 2 ∷ 0 ∷ 2 ∷ 17 ∷ 0 ∷ 0 ∷ 2 ∷ 0 ∷ 12 ∷ 0 ∷ 2 ∷ 18 ∷ 0 ∷ 7 ∷ 0 ∷ 2 ∷ 16 ∷ 0 ∷ 2 ∷ 0 ∷ 3 ∷ 2 ∷ 0 ∷ 31 ∷ 0 ∷ 3 ∷ 22 ∷ 0 ∷ 26 ∷ 19 ∷ 0 ∷ 10 ∷ 23 ∷ 0 ∷ 2 ∷ 0 ∷ 30 ∷ 24 ∷ 0 ∷ 2 ∷ 0 ∷ 2 ∷ 19 ∷ 0 ∷ 10 ∷ 24 ∷ 0 ∷ 2 ∷ 0 ∷ 1 ∷ 24 ∷ 0 ∷ 2 ∷ 0 ∷ 3 ∷ 2 ∷ 0 ∷ 19 ∷ 0 ∷ 4 ∷ 22 ∷ 0 ∷ 14 ∷ 20 ∷ 0 ∷ 8 ∷ 17 ∷ 0 ∷ 0 ∷ 24 ∷ 0 ∷ 2 ∷ 0 ∷ 4 ∷ 21 ∷ 0 ∷ 0 ∷ []
+
+-- ([1](1 ; (2 ⊗ id))) ; (id ; [2]3) on goal 10, none remaining
+abbrev pub proofT3 : List ℕ
+proofT3 = 3 ∷ 0 ∷ 2 ∷ 0 ∷ 10 ∷ 19 ∷ 0 ∷ 40 ∷ 18 ∷ 0 ∷ 21 ∷ 0 ∷ 1 ∷ 19 ∷ 0 ∷ 16 ∷ 16 ∷ 0 ∷ 2 ∷ 0 ∷ 1 ∷ 20 ∷ 0 ∷ 8 ∷ 16 ∷ 0 ∷ 2 ∷ 0 ∷ 2 ∷ 17 ∷ 0 ∷ 0 ∷ 19 ∷ 0 ∷ 13 ∷ 17 ∷ 0 ∷ 0 ∷ 18 ∷ 0 ∷ 7 ∷ 0 ∷ 2 ∷ 16 ∷ 0 ∷ 2 ∷ 0 ∷ 3 ∷ 3 ∷ 0 ∷ 0 ∷ []
+
+-- 1 on 10, 2 on 20, 3 on 30
+abbrev pub flatT3 : List ℕ
+flatT3 = 3 ∷ 0 ∷ 2 ∷ 0 ∷ 10 ∷ 32 ∷ 0 ∷ 4 ∷ 0 ∷ 1 ∷ 0 ∷ 10 ∷ 32 ∷ 0 ∷ 4 ∷ 0 ∷ 2 ∷ 0 ∷ 20 ∷ 32 ∷ 0 ∷ 4 ∷ 0 ∷ 3 ∷ 0 ∷ 30 ∷ []
+
+-- 1 ; (2 ⊗ 3) on goal 10, none remaining
+abbrev pub proofBack : List ℕ
+proofBack = 3 ∷ 0 ∷ 2 ∷ 0 ∷ 10 ∷ 19 ∷ 0 ∷ 18 ∷ 16 ∷ 0 ∷ 2 ∷ 0 ∷ 1 ∷ 20 ∷ 0 ∷ 10 ∷ 16 ∷ 0 ∷ 2 ∷ 0 ∷ 2 ∷ 16 ∷ 0 ∷ 2 ∷ 0 ∷ 3 ∷ 3 ∷ 0 ∷ 0 ∷ []
+
+-- rule 4 on 40 gives eight times 40; rule 5 on 50 gives 10, 20, 50
+abbrev pub tableB : List ℕ
+tableB = 1 ∷ 0 ∷ 20 ∷ 0 ∷ 4 ∷ 0 ∷ 40 ∷ 0 ∷ 40 ∷ 0 ∷ 40 ∷ 0 ∷ 40 ∷ 0 ∷ 40 ∷ 0 ∷ 40 ∷ 0 ∷ 40 ∷ 0 ∷ 40 ∷ 0 ∷ 40 ∷ 1 ∷ 0 ∷ 10 ∷ 0 ∷ 5 ∷ 0 ∷ 50 ∷ 0 ∷ 10 ∷ 0 ∷ 20 ∷ 0 ∷ 50 ∷ []
+
+-- rule 4 side by side, as often as there are goals 40
+unfoldable pub beside : ℕ → Term
+beside zero = atomic (ruleName 4)
+beside (suc n) = tensor (atomic (ruleName 4)) (beside n)
+
+-- so many side by side, each leaving eight goals; and the same as the left of an alternation
+unfoldable pub sideBySide : ℕ → List ℕ
+sideBySide zero = []
+sideBySide (suc n) = proofBytes (record { goals = replicate (suc n) (goal 40); term = beside n; remaining = replicate 256 (goal 40) })
+
+unfoldable pub sideBySideOr : ℕ → List ℕ
+sideBySideOr zero = []
+sideBySideOr (suc n) = jobBytes (record { goals = replicate (suc n) (goal 40); term = alternation (beside n) id })
+
+-- "Starred ones are proved."
+unfoldable pub starredLines : List Line
+starredLines =
+    -- "T3 on 10, budget 19: proof ([1](1 ; (2 ⊗ id))) ; (id ; [2]3), none remaining, 19 steps"
+    runs tableA (3 ∷ 0 ∷ 2 ∷ 0 ∷ 10 ∷ 24 ∷ 0 ∷ 2 ∷ 0 ∷ 3 ∷ []) 19 (success proofT3 19)
+    -- "a file of 51 bytes"
+    ∷ ofBytes proofT3 51
+    -- "Budget 18: 24 after 18."
+    ∷ runs tableA (3 ∷ 0 ∷ 2 ∷ 0 ∷ 10 ∷ 24 ∷ 0 ∷ 2 ∷ 0 ∷ 3 ∷ []) 18 (refusal budgetSpent noFile 0 18)
+    -- "Its flat uses: 1 on 10, 2 on 20, 3 on 30."
+    ∷ flattens tableA proofT3 (done flatT3)
+    -- "Written back: 1 ; (2 ⊗ 3), 5 term fields."
+    ∷ writes tableA flatT3 (done proofBack)
+    -- its term fields, uses and remaining goals
+    ∷ checks tableA proofBack (done (counts 5 3 0))
+    -- "T4 on no goals: empty, 4 steps."
+    ∷ runs tableA (3 ∷ 0 ∷ 0 ∷ 24 ∷ 0 ∷ 2 ∷ 0 ∷ 4 ∷ []) 4 (success (3 ∷ 0 ∷ 0 ∷ 21 ∷ 0 ∷ 0 ∷ 3 ∷ 0 ∷ 0 ∷ []) 4)
+    -- "On two: id ⊗ (id ⊗ empty), 12 steps."
+    ∷ runs tableA (3 ∷ 0 ∷ 4 ∷ 0 ∷ 10 ∷ 0 ∷ 20 ∷ 24 ∷ 0 ∷ 2 ∷ 0 ∷ 4 ∷ []) 12 (success (3 ∷ 0 ∷ 4 ∷ 0 ∷ 10 ∷ 0 ∷ 20 ∷ 20 ∷ 0 ∷ 12 ∷ 17 ∷ 0 ∷ 0 ∷ 20 ∷ 0 ∷ 6 ∷ 17 ∷ 0 ∷ 0 ∷ 21 ∷ 0 ∷ 0 ∷ 3 ∷ 0 ∷ 4 ∷ 0 ∷ 10 ∷ 0 ∷ 20 ∷ []) 12)
+    -- "(id | 2) ; empty on 20: 23 after 4 steps."
+    ∷ runs tableA (3 ∷ 0 ∷ 2 ∷ 0 ∷ 20 ∷ 19 ∷ 0 ∷ 14 ∷ 22 ∷ 0 ∷ 8 ∷ 17 ∷ 0 ∷ 0 ∷ 16 ∷ 0 ∷ 2 ∷ 0 ∷ 2 ∷ 21 ∷ 0 ∷ 0 ∷ []) 4096 (refusal tacticFailed noFile 0 4)
+    -- "Proof with goal 10 and term 2: 20 at 5."
+    ∷ checks tableA (3 ∷ 0 ∷ 2 ∷ 0 ∷ 10 ∷ 16 ∷ 0 ∷ 2 ∷ 0 ∷ 2 ∷ 3 ∷ 0 ∷ 0 ∷ []) (refusal ruleMissing otherFile 5 0)
+    -- "id ⊗ id on 10: 20 at 11."
+    ∷ checks tableA (3 ∷ 0 ∷ 2 ∷ 0 ∷ 10 ∷ 20 ∷ 0 ∷ 6 ∷ 17 ∷ 0 ∷ 0 ∷ 17 ∷ 0 ∷ 0 ∷ 3 ∷ 0 ∷ 2 ∷ 0 ∷ 10 ∷ []) (refusal goalCountWrong otherFile 11 0)
+    -- "(id ⊗ id) ⊗ id on 10: 20 at 5."
+    ∷ checks tableA (3 ∷ 0 ∷ 2 ∷ 0 ∷ 10 ∷ 20 ∷ 0 ∷ 12 ∷ 20 ∷ 0 ∷ 6 ∷ 17 ∷ 0 ∷ 0 ∷ 17 ∷ 0 ∷ 0 ∷ 17 ∷ 0 ∷ 0 ∷ 3 ∷ 0 ∷ 2 ∷ 0 ∷ 10 ∷ []) (refusal goalsTooFew otherFile 5 0)
+    ∷ []
+
+-- One line for each refusal, and edges that the readings settle.
+unfoldable pub edgeLines : List Line
+edgeLines =
+    -- the check program's example: `accepted fields 11 uses 3 open 0`
+    checks tableA proofT3 (done (counts 11 3 0))
+    -- and its line
+    ∷ prints (answer.counted 11 3 0) (97 ∷ 99 ∷ 99 ∷ 101 ∷ 112 ∷ 116 ∷ 101 ∷ 100 ∷ 32 ∷ 102 ∷ 105 ∷ 101 ∷ 108 ∷ 100 ∷ 115 ∷ 32 ∷ 49 ∷ 49 ∷ 32 ∷ 117 ∷ 115 ∷ 101 ∷ 115 ∷ 32 ∷ 51 ∷ 32 ∷ 111 ∷ 112 ∷ 101 ∷ 110 ∷ 32 ∷ 48 ∷ 10 ∷ [])
+    -- the line of a refusal
+    ∷ prints (answer.refusal 20 2 5 0) (114 ∷ 101 ∷ 102 ∷ 117 ∷ 115 ∷ 101 ∷ 100 ∷ 32 ∷ 50 ∷ 48 ∷ 32 ∷ 102 ∷ 105 ∷ 108 ∷ 101 ∷ 32 ∷ 50 ∷ 32 ∷ 112 ∷ 108 ∷ 97 ∷ 99 ∷ 101 ∷ 32 ∷ 53 ∷ 10 ∷ [])
+    -- the right derivation that the flattener wrote
+    ∷ checksFlat tableA flatT3 (done (counts 0 3 0))
+    -- 1: 65,536 bytes, before anything is read
+    ∷ checks (replicate 65536 0) [] (refusal inputTooLong tableFile 0 0)
+    -- the table's 1 to 9 come before the other file's length is looked at
+    ∷ checks (1 ∷ []) (replicate 65536 0) (refusal fieldTorn tableFile 0 0)
+    -- 2: two bytes where a field could begin
+    ∷ checks (1 ∷ 0 ∷ 4 ∷ 0 ∷ 1 ∷ 0 ∷ 1 ∷ 1 ∷ 0 ∷ []) [] (refusal fieldTorn tableFile 7 0)
+    -- 2: no field where one must begin
+    ∷ checks tableA [] (refusal fieldTorn otherFile 0 0)
+    -- 2: an inner term that is missing is torn at its own place
+    ∷ runs [] (3 ∷ 0 ∷ 0 ∷ 19 ∷ 0 ∷ 3 ∷ 17 ∷ 0 ∷ 0 ∷ []) 1 (refusal fieldTorn otherFile 9 0)
+    -- 3: a rule behind a definition
+    ∷ checks (2 ∷ 0 ∷ 5 ∷ 0 ∷ 1 ∷ 17 ∷ 0 ∷ 0 ∷ 1 ∷ 0 ∷ 4 ∷ 0 ∷ 1 ∷ 0 ∷ 1 ∷ []) [] (refusal tagNotAllowed tableFile 8 0)
+    -- 3: a defined tactic in a proof
+    ∷ checks [] (3 ∷ 0 ∷ 2 ∷ 0 ∷ 10 ∷ 19 ∷ 0 ∷ 8 ∷ 17 ∷ 0 ∷ 0 ∷ 24 ∷ 0 ∷ 2 ∷ 0 ∷ 1 ∷ 3 ∷ 0 ∷ 0 ∷ []) (refusal tagNotAllowed otherFile 11 0)
+    -- 4: a rule with nine premises
+    ∷ checks (1 ∷ 0 ∷ 22 ∷ 0 ∷ 0 ∷ 0 ∷ 0 ∷ 0 ∷ 0 ∷ 0 ∷ 0 ∷ 0 ∷ 0 ∷ 0 ∷ 0 ∷ 0 ∷ 0 ∷ 0 ∷ 0 ∷ 0 ∷ 0 ∷ 0 ∷ 0 ∷ 0 ∷ 0 ∷ []) [] (refusal lengthWrong tableFile 0 0)
+    -- 4: a rule of odd length
+    ∷ checks (1 ∷ 0 ∷ 5 ∷ 0 ∷ 0 ∷ 0 ∷ 0 ∷ 0 ∷ []) [] (refusal lengthWrong tableFile 0 0)
+    -- 4: bytes left behind an inner term, at the enclosing field
+    ∷ checks [] (3 ∷ 0 ∷ 2 ∷ 0 ∷ 10 ∷ 18 ∷ 0 ∷ 6 ∷ 0 ∷ 1 ∷ 17 ∷ 0 ∷ 0 ∷ 0 ∷ []) (refusal lengthWrong otherFile 5 0)
+    -- 4: bytes left behind the last field, at the first of them
+    ∷ checks [] (3 ∷ 0 ∷ 0 ∷ 21 ∷ 0 ∷ 0 ∷ 3 ∷ 0 ∷ 0 ∷ 0 ∷ []) (refusal lengthWrong otherFile 9 0)
+    -- 5: 257 goals in a list
+    ∷ checks [] (3 ∷ 2 ∷ 2 ∷ replicate 514 0) (refusal limitPassed otherFile 0 0)
+    -- 4 before 5: an odd length of more than 256 goals
+    ∷ checks [] (3 ∷ 2 ∷ 3 ∷ replicate 515 0) (refusal lengthWrong otherFile 0 0)
+    -- 6: at the second of two equal rules
+    ∷ checks (1 ∷ 0 ∷ 4 ∷ 0 ∷ 1 ∷ 0 ∷ 1 ∷ 1 ∷ 0 ∷ 4 ∷ 0 ∷ 2 ∷ 0 ∷ 2 ∷ 1 ∷ 0 ∷ 4 ∷ 0 ∷ 1 ∷ 0 ∷ 1 ∷ []) [] (refusal ruleRepeated tableFile 14 0)
+    -- 6 before 7, though its place is higher
+    ∷ checks (1 ∷ 0 ∷ 4 ∷ 0 ∷ 1 ∷ 0 ∷ 1 ∷ 1 ∷ 0 ∷ 6 ∷ 0 ∷ 1 ∷ 0 ∷ 2 ∷ 0 ∷ 3 ∷ 1 ∷ 0 ∷ 4 ∷ 0 ∷ 2 ∷ 0 ∷ 2 ∷ 1 ∷ 0 ∷ 4 ∷ 0 ∷ 2 ∷ 0 ∷ 2 ∷ []) [] (refusal ruleRepeated tableFile 23 0)
+    -- 7: the first rule with another count
+    ∷ checks (1 ∷ 0 ∷ 4 ∷ 0 ∷ 1 ∷ 0 ∷ 1 ∷ 1 ∷ 0 ∷ 6 ∷ 0 ∷ 1 ∷ 0 ∷ 2 ∷ 0 ∷ 3 ∷ 1 ∷ 0 ∷ 4 ∷ 0 ∷ 1 ∷ 0 ∷ 3 ∷ []) [] (refusal premiseCountDiffers tableFile 7 0)
+    -- 8: at the second definition
+    ∷ checks (1 ∷ 0 ∷ 4 ∷ 0 ∷ 1 ∷ 0 ∷ 1 ∷ 2 ∷ 0 ∷ 5 ∷ 0 ∷ 1 ∷ 17 ∷ 0 ∷ 0 ∷ 2 ∷ 0 ∷ 5 ∷ 0 ∷ 1 ∷ 17 ∷ 0 ∷ 0 ∷ []) [] (refusal tacticRedefined tableFile 15 0)
+    -- 9: a label twice in one body
+    ∷ checks (2 ∷ 0 ∷ 15 ∷ 0 ∷ 1 ∷ 18 ∷ 0 ∷ 10 ∷ 0 ∷ 5 ∷ 18 ∷ 0 ∷ 5 ∷ 0 ∷ 5 ∷ 17 ∷ 0 ∷ 0 ∷ []) [] (refusal labelRepeated tableFile 10 0)
+    -- 9: a label of an earlier body, at the label
+    ∷ checks (2 ∷ 0 ∷ 10 ∷ 0 ∷ 1 ∷ 18 ∷ 0 ∷ 5 ∷ 0 ∷ 5 ∷ 17 ∷ 0 ∷ 0 ∷ 2 ∷ 0 ∷ 16 ∷ 0 ∷ 2 ∷ 19 ∷ 0 ∷ 11 ∷ 17 ∷ 0 ∷ 0 ∷ 18 ∷ 0 ∷ 5 ∷ 0 ∷ 5 ∷ 17 ∷ 0 ∷ 0 ∷ []) [] (refusal labelRepeated tableFile 24 0)
+    -- 20: a label has arity 1 whatever is inside
+    ∷ checks [] (3 ∷ 0 ∷ 2 ∷ 0 ∷ 10 ∷ 18 ∷ 0 ∷ 5 ∷ 0 ∷ 1 ∷ 21 ∷ 0 ∷ 0 ∷ 3 ∷ 0 ∷ 0 ∷ []) (refusal goalCountWrong otherFile 10 0)
+    -- a label inside a tensor takes one goal
+    ∷ checks tableA (3 ∷ 0 ∷ 4 ∷ 0 ∷ 20 ∷ 0 ∷ 30 ∷ 20 ∷ 0 ∷ 15 ∷ 18 ∷ 0 ∷ 7 ∷ 0 ∷ 7 ∷ 16 ∷ 0 ∷ 2 ∷ 0 ∷ 2 ∷ 16 ∷ 0 ∷ 2 ∷ 0 ∷ 3 ∷ 3 ∷ 0 ∷ 0 ∷ []) (done (counts 4 2 0))
+    -- 21: the remaining goals in another order
+    ∷ checks [] (3 ∷ 0 ∷ 4 ∷ 0 ∷ 10 ∷ 0 ∷ 20 ∷ 20 ∷ 0 ∷ 6 ∷ 17 ∷ 0 ∷ 0 ∷ 17 ∷ 0 ∷ 0 ∷ 3 ∷ 0 ∷ 4 ∷ 0 ∷ 20 ∷ 0 ∷ 10 ∷ []) (refusal remainingDiffer otherFile 16 0)
+    -- 22: "Rule 4 on 40 giving eight times 40: 32 side by side pass, 33 get 22", at the outermost tensor
+    ∷ checks tableB (sideBySide 32) (done (counts 63 32 256))
+    ∷ checks tableB (sideBySide 33) (refusal joinedTooLong otherFile 69 0)
+    -- 22 in a run: file and place 0; it does not move on to an alternative
+    ∷ runs tableB (sideBySideOr 33) 4096 (refusal joinedTooLong noFile 0 66)
+    -- 23: "T5 ⊗ T6 on 20, 20, 30: 23 after 1 step"
+    ∷ runs (tableA ++ (2 ∷ 0 ∷ 21 ∷ 0 ∷ 5 ∷ 22 ∷ 0 ∷ 16 ∷ 20 ∷ 0 ∷ 10 ∷ 16 ∷ 0 ∷ 2 ∷ 0 ∷ 2 ∷ 24 ∷ 0 ∷ 2 ∷ 0 ∷ 5 ∷ 21 ∷ 0 ∷ 0 ∷ 2 ∷ 0 ∷ 21 ∷ 0 ∷ 6 ∷ 22 ∷ 0 ∷ 16 ∷ 20 ∷ 0 ∷ 10 ∷ 16 ∷ 0 ∷ 2 ∷ 0 ∷ 3 ∷ 24 ∷ 0 ∷ 2 ∷ 0 ∷ 6 ∷ 21 ∷ 0 ∷ 0 ∷ [])) (3 ∷ 0 ∷ 6 ∷ 0 ∷ 20 ∷ 0 ∷ 20 ∷ 0 ∷ 30 ∷ 20 ∷ 0 ∷ 10 ∷ 24 ∷ 0 ∷ 2 ∷ 0 ∷ 5 ∷ 24 ∷ 0 ∷ 2 ∷ 0 ∷ 6 ∷ []) 4096 (refusal tacticFailed noFile 0 1)
+    -- 24 before the first step
+    ∷ runs [] (3 ∷ 0 ∷ 0 ∷ 21 ∷ 0 ∷ 0 ∷ []) 0 (refusal budgetSpent noFile 0 0)
+    -- 25: "Budget 4,096 runs; 4,097 is 25", before any reading
+    ∷ runs (1 ∷ []) [] 4097 (refusal budgetTooLarge noFile 0 0)
+    -- 26: one byte too few; the steps are those of the whole run
+    ∷ runsInto [] (3 ∷ 0 ∷ 0 ∷ 21 ∷ 0 ∷ 0 ∷ []) 1 (7 ∷ []) (replicate 8 7) (record { answer = answer.refusal 26 0 0 1; work = 0 ∷ []; out = replicate 8 7 })
+    -- a success leaves the bytes past its result untouched
+    ∷ runsInto [] (3 ∷ 0 ∷ 0 ∷ 21 ∷ 0 ∷ 0 ∷ []) 1 (7 ∷ []) (replicate 11 7) (record { answer = answer.wrote 9 1; work = 0 ∷ []; out = 3 ∷ 0 ∷ 0 ∷ 21 ∷ 0 ∷ 0 ∷ 3 ∷ 0 ∷ 0 ∷ 7 ∷ 7 ∷ [] })
+    -- 27: an entry that does not carry the first pending goal
+    ∷ checksFlat tableA (3 ∷ 0 ∷ 4 ∷ 0 ∷ 20 ∷ 0 ∷ 30 ∷ 32 ∷ 0 ∷ 4 ∷ 0 ∷ 3 ∷ 0 ∷ 30 ∷ 32 ∷ 0 ∷ 4 ∷ 0 ∷ 2 ∷ 0 ∷ 20 ∷ []) (refusal entryWrong otherFile 7 0)
+    -- 27: goals pending at the end
+    ∷ checksFlat tableA (3 ∷ 0 ∷ 2 ∷ 0 ∷ 10 ∷ 32 ∷ 0 ∷ 4 ∷ 0 ∷ 1 ∷ 0 ∷ 10 ∷ 32 ∷ 0 ∷ 4 ∷ 0 ∷ 2 ∷ 0 ∷ 20 ∷ []) (refusal goalsPending otherFile 19 0)
+    -- 28: "2,048 entries are written back; 2,049 is 28"
+    ∷ writesOf (record { rules = []; definitions = [] }) (record { roots = []; entries = replicate 2049 (openEntry (goal 1)) }) (refused entriesTooMany 0)
+    -- 29: one byte of work space is too little, and stays as it was
+    ∷ checksWith [] [] (7 ∷ []) (record { answer = answer.refusal 29 0 0 0; work = 7 ∷ [] })
+    -- 29 before 25
+    ∷ runsWith [] [] 4097 (7 ∷ []) (7 ∷ []) (record { answer = answer.refusal 29 0 0 0; work = 7 ∷ []; out = 7 ∷ [] })
+    -- a use with three premises written back: tensors lean right
+    ∷ writes tableB (3 ∷ 0 ∷ 2 ∷ 0 ∷ 50 ∷ 32 ∷ 0 ∷ 4 ∷ 0 ∷ 5 ∷ 0 ∷ 50 ∷ 33 ∷ 0 ∷ 2 ∷ 0 ∷ 10 ∷ 33 ∷ 0 ∷ 2 ∷ 0 ∷ 20 ∷ 33 ∷ 0 ∷ 2 ∷ 0 ∷ 50 ∷ []) (done (3 ∷ 0 ∷ 2 ∷ 0 ∷ 50 ∷ 19 ∷ 0 ∷ 20 ∷ 16 ∷ 0 ∷ 2 ∷ 0 ∷ 5 ∷ 20 ∷ 0 ∷ 12 ∷ 17 ∷ 0 ∷ 0 ∷ 20 ∷ 0 ∷ 6 ∷ 17 ∷ 0 ∷ 0 ∷ 17 ∷ 0 ∷ 0 ∷ 3 ∷ 0 ∷ 6 ∷ 0 ∷ 10 ∷ 0 ∷ 20 ∷ 0 ∷ 50 ∷ []))
+    -- no roots are written back as empty
+    ∷ writes [] (3 ∷ 0 ∷ 0 ∷ []) (done (3 ∷ 0 ∷ 0 ∷ 21 ∷ 0 ∷ 0 ∷ 3 ∷ 0 ∷ 0 ∷ []))
+    ∷ []
