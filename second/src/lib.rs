@@ -1,8 +1,9 @@
 //! The second Hitac engine.
 //!
 //! An independent implementation of document 01 (the scope), written from that
-//! document, the paper and the fixed readings (READINGS) alone. Comments name
-//! the sentence of document 01, or the reading, that a piece of code follows.
+//! document, the paper and the fixed readings alone. Comments quote the sentence
+//! of document 01 that a piece of code follows, or name the reading: READINGS A26
+//! is reading A26, which docs/DECISIONS.md records under the same number.
 //!
 //! - `entries`: the five public calls, with lent work and output spaces;
 //! - `format`: the bytes of the four kinds of file;

@@ -158,6 +158,57 @@ pub fn run_cases() -> Vec<Case> {
     ]
 }
 
+/// Tactics with and without an arity (READINGS A45), each with the arity it has.
+pub fn tactics_and_arities() -> Vec<(Vec<u8>, Option<usize>)> {
+    let itself = |tactic: u16| defined(tactic);
+    let two = tensor(&id(), &assert_goal(1));
+    vec![
+        (alternation(&itself(0), &id()), None),
+        (alternation(&tensor(&id(), &itself(1)), &empty()), None),
+        (tensor(&empty(), &itself(2)), None),
+        (sequence(&id(), &itself(3)), Some(1)),
+        (label(4, &itself(4)), Some(1)),
+        (defined(999), None),
+        (alternation(&id(), &empty()), None),
+        // Two that name each other.
+        (sequence(&defined(8), &id()), Some(1)),
+        (alternation(&atomic(1), &sequence(&id(), &defined(7))), Some(1)),
+        (alternation(&defined(10), &id()), None),
+        (sequence(&defined(9), &id()), None),
+        (label(11, &empty()), Some(1)),
+        (label(12, &tensor(&id(), &id())), Some(1)),
+        (sequence(&empty(), &id()), Some(0)),
+        (two.clone(), Some(2)),
+        (sequence(&two, &defined(999)), Some(2)),
+        (alternation(&two, &tensor(&defined(3), &defined(7))), Some(2)),
+        (tensor(&defined(16), &defined(14)), Some(4)),
+        (tensor(&defined(0), &id()), None),
+        (tensor(&id(), &defined(999)), None),
+        (alternation(&sequence(&two, &id()), &defined(20)), None),
+        (sequence(&defined(999), &id()), None),
+    ]
+}
+
+/// The tactics of `tactics_and_arities`, numbered from 0.
+pub fn arity_table() -> Vec<u8> {
+    let bodies = tactics_and_arities().into_iter().map(|(body, _)| body);
+    bodies.enumerate().flat_map(|(tactic, body)| definition(tactic as u16, &body)).collect()
+}
+
+/// Each tactic of `arity_table` as the left of a tensor on 0 to 5 goals. With
+/// budget 1 the run is 23 if the tensor fails and 24 if its left is to begin.
+pub fn arity_cases() -> Vec<Case> {
+    let table = arity_table();
+    let mut cases = Vec::new();
+    for tactic in 0..tactics_and_arities().len() as u16 {
+        for goals in 0..=5 {
+            let job = job(&vec![1; goals], &tensor(&defined(tactic), &id()));
+            cases.push(Case::new(Entry::Run, &table, &job).with_budget(1));
+        }
+    }
+    cases
+}
+
 /// Table and proof of every example that is a hiproof.
 pub fn proofs() -> Vec<(Vec<u8>, Vec<u8>)> {
     let a = table_a();

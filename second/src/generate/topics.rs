@@ -209,8 +209,9 @@ fn run() -> Vec<Case> {
     let mut cases = refusals_of_every_entry(Entry::Run, &examples::table_a(), &first_job);
     cases.extend(refused_budgets(&first_job));
     cases.extend(examples::run_cases().iter().flat_map(with_output_lengths));
+    cases.extend(examples::arity_cases());
     cases.extend(runs_at_limits().iter().flat_map(with_output_lengths));
-    cases.extend(random_cases(Entry::Run, 9, 500));
+    cases.extend(random_cases(Entry::Run, 9, 450));
     cases
 }
 
