@@ -88,7 +88,9 @@ fn check_flat(table: &str, flat: &str) -> Outcome {
 }
 
 fn run(table: &str, job: &str, budget: &str, output: &str) -> Outcome {
-    let budget: u32 = number(budget, "budget")?;
+    // A budget is a number of any width (READINGS A51); all large ones are alike.
+    let budget: u128 = number(budget, "budget")?;
+    let budget = u32::try_from(budget).unwrap_or(u32::MAX);
     let (table_bytes, job_bytes) = (read(table)?, read(job)?);
     let mut space = output_space();
     let answer = crate::run(&table_bytes, &job_bytes, budget, &mut vec![0; limits::RUN_WORK], &mut space);

@@ -70,6 +70,8 @@ fn refusals_leave_the_output_file_alone() {
     assert_eq!(folder.says(&["check", "table.kit", "wrong.hip"]), refused("refused 20 file 2 place 5\n"));
     assert_eq!(folder.says(&["run", "table.kit", "job", "18", "out"]), refused("refused 24 file 0 place 0 steps 18\n"));
     assert!(!folder.0.join("out").exists());
+    let large = folder.says(&["run", "table.kit", "job", "99999999999999999999", "out"]);
+    assert_eq!(large, refused("refused 25 file 0 place 0\n"));
     let (words, _) = folder.complaint(&["check", "table.kit", "wrong.hip"]);
     assert_eq!(words, "wrong.hip, byte 5: the proof does not validate: this term cannot take its goals\n");
 }

@@ -230,6 +230,10 @@ fn number_22_at_the_tensor() {
     let wrong_right = tensor(&full, &atomic(9));
     let place = 3 + 66 + 3 + full.len() as u32;
     assert_eq!(check(&table, &proof(&[40; 33], &wrong_right, &[])), refused(20, 2, place));
+    // Many lists wait for the innermost tensors to join; the fourth of these has
+    // 5 times 64 goals.
+    let waiting = proof(&[40; 227], &limit_files::term_of_most_waiting_goals(), &[]);
+    assert_eq!(check(&table, &waiting), refused(22, 2, 3 + 454 + 222 * 72));
     // 22 ends a run, also inside a left alternative.
     let job = job(&[40; 33], &alternation(&tensor_of(&vec![atomic(4); 33]), &id()));
     assert_eq!(run(&table, &job, 4096).0, run_refused(22, 66));
@@ -259,6 +263,10 @@ fn number_27() {
     let opened = flat(&[10], &[use_entry(1, 10), open_entry(20), open_entry(30)]);
     assert_eq!(check_flat(&a, &opened), accepted(0, 1, 2));
     assert_eq!(write_proof(&a, &flat(&[10], &[])).0, refused(27, 2, 5));
+    // READINGS A37: pending goals have no limit.
+    for most_pending in limit_files::flats_of_most_pending_goals() {
+        assert_eq!(check_flat(&table_of_eight(), &most_pending), refused(27, 2, most_pending.len() as u32));
+    }
 }
 
 #[test]

@@ -50,8 +50,8 @@ pub fn tables() -> Vec<Vec<u8>> {
         [&full[..], &[1, 0, 99]].concat(),
         [&full[..], &[3, 0, 99]].concat(),
         longest_table(),
-        [longest_table(), vec![0]].concat(),
         vec![1; 65_535],
+        vec![1; 65_536],
         definitions(256),
         definitions(257),
         [definitions(256), vec![2, 0, 0]].concat(),
@@ -136,6 +136,25 @@ pub fn proof_of_growing_tree() -> Vec<u8> {
 pub fn proof_of_most_uses() -> Vec<u8> {
     let chain = sequence_of(&vec![atomic(5); 2_047]);
     proof(&[50], &sequence(&chain, &atomic(7)), &[50, 50])
+}
+
+/// Over `table_of_eight`: each of 227 goals is turned into 64, side by side, with
+/// 9 uses. 14,464 goals wait when the last tensors begin to join; 22 in the end.
+pub fn term_of_most_waiting_goals() -> Vec<u8> {
+    let sixty_four = sequence(&atomic(4), &tensor_of(&vec![atomic(4); 8]));
+    tensor_of(&vec![sixty_four; 227])
+}
+
+/// A proof for each of some names, of goal 1 by that name alone.
+pub fn proofs_by_name(names: &[u16]) -> Vec<Vec<u8>> {
+    names.iter().map(|&name| proof(&[1], &atomic(name), &[])).collect()
+}
+
+/// Flat files over `table_of_eight` that leave as many goals pending as 4,096 and
+/// 2,048 uses can: 28,928 and 14,592.
+pub fn flats_of_most_pending_goals() -> Vec<Vec<u8>> {
+    let uses = |count: usize| flat(&[40; 256], &vec![use_entry(4, 40); count]);
+    vec![uses(4_096), uses(2_048)]
 }
 
 /// A flat file of `uses` uses of rule 4 and as many opens as it leaves, for

@@ -144,6 +144,9 @@ fn random_cases(entry: Entry, seed: u64, count: usize) -> Vec<Case> {
 fn check() -> Vec<Case> {
     let mut cases = refusals_of_every_entry(Entry::Check, &examples::table_a(), &examples::first_proof());
     cases.extend(proof_cases(Entry::Check));
+    let many_rules = limit_files::different_rules(4_096);
+    let by_name = limit_files::proofs_by_name(&[0, 1, 2_047, 2_048, 4_094, 4_095, 4_096, 65_535]);
+    cases.extend(by_name.iter().map(|proof| Case::new(Entry::Check, &many_rules, proof)));
     cases.extend(random_cases(Entry::Check, 5, 600));
     cases
 }
@@ -163,7 +166,10 @@ fn flatten() -> Vec<Case> {
 fn proof_cases(entry: Entry) -> Vec<Case> {
     let case = |table: &[u8], proof: &[u8]| Case::new(entry, table, proof);
     let mut cases: Vec<Case> = examples::proofs().iter().map(|(table, proof)| case(table, proof)).collect();
-    cases.push(case(&examples::table_of_eight(), &limit_files::proof_of_growing_tree()));
+    let eights = examples::table_of_eight();
+    let most_waiting = proof(&[40; 227], &limit_files::term_of_most_waiting_goals(), &[]);
+    cases.push(case(&eights, &limit_files::proof_of_growing_tree()));
+    cases.push(case(&eights, &most_waiting));
     cases.push(case(&limit_files::chain_table(), &limit_files::proof_of_most_uses()));
     cases
 }
@@ -200,6 +206,7 @@ fn flat_cases(entry: Entry) -> Vec<Case> {
         case(&eights, &limit_files::flat_of_eights(37)),
         case(&eights, &limit_files::flat_of_roots(128, 128)),
     ];
+    cases.extend(limit_files::flats_of_most_pending_goals().iter().map(|flat| case(&eights, flat)));
     cases.extend(limit_files::flats().iter().map(|flat| case(&chain, flat)));
     cases
 }
@@ -233,6 +240,10 @@ fn runs_at_limits() -> Vec<Case> {
     let eights = examples::table_of_eight();
     let endless = definition(1, &defined(1));
     let growing = definition(1, &sequence(&id(), &defined(1)));
+    // Each of these holds something more at every second step.
+    let many_alternatives = definition(1, &alternation(&defined(1), &id()));
+    let many_sequences = definition(1, &sequence(&defined(1), &id()));
+    let many_labels = definition(1, &label(1, &defined(1)));
     let deep = limit_files::deep_definition(4_095);
     let joined = |count: usize| tensor_of(&vec![atomic(4); count]);
     let arities = limit_files::powers_of_arity();
@@ -240,6 +251,10 @@ fn runs_at_limits() -> Vec<Case> {
     vec![
         run(&endless, &[], &defined(1)),
         run(&growing, &[1], &defined(1)),
+        run(&many_alternatives, &[1; 256], &defined(1)),
+        run(&many_sequences, &[1], &defined(1)),
+        run(&many_labels, &[1], &defined(1)),
+        run(&eights, &[40; 227], &limit_files::term_of_most_waiting_goals()),
         run(&deep, &[1], &defined(1)),
         run(&deep, &[1], &defined(1)).with_budget(4_095),
         run(&eights, &[40; 32], &joined(32)),
