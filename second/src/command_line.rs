@@ -140,7 +140,7 @@ fn generate_vectors(directory: &str) -> Outcome {
     for (name, cases) in crate::generate::vector_set() {
         let path = Path::new(directory).join(name);
         write_file(&path.to_string_lossy(), &vectors::write(&cases))?;
-        println!("{}: {} cases", path.display(), cases.len());
+        say(format!("{}: {} cases", path.display(), cases.len()));
     }
     Ok(ExitCode::SUCCESS)
 }
@@ -150,7 +150,7 @@ fn generate_random(seed: &str, count: &str, output: &str) -> Outcome {
     let count: usize = number(count, "count")?;
     let cases: Vec<_> = (0..count).map(|_| crate::generate::random_case(&mut random)).collect();
     write_file(output, &vectors::write(&cases))?;
-    println!("{output}: {} cases", cases.len());
+    say(format!("{output}: {} cases", cases.len()));
     Ok(ExitCode::SUCCESS)
 }
 
@@ -158,9 +158,9 @@ fn replay(files: &[&str]) -> Outcome {
     let mut status = ExitCode::SUCCESS;
     for file in files {
         match vectors::replay(&read(file)?) {
-            Ok(cases) => println!("{file}: {cases} cases agree"),
+            Ok(cases) => say(format!("{file}: {cases} cases agree")),
             Err(difference) => {
-                println!("{file}: {difference}");
+                say(format!("{file}: {difference}"));
                 status = ExitCode::from(1);
             }
         }
@@ -171,11 +171,11 @@ fn replay(files: &[&str]) -> Outcome {
 /// Prints the answer in one line; explains a refusal on standard error.
 fn report(answer: Answer, success: &str, table: &str, other: &str) -> ExitCode {
     if answer.number == 0 {
-        println!("{success}");
+        say(success.to_string());
         return ExitCode::SUCCESS;
     }
     let steps = if answer.steps > 0 { format!(" steps {}", answer.steps) } else { String::new() };
-    println!("refused {} file {} place {}{steps}", answer.number, answer.file, answer.place);
+    say(format!("refused {} file {} place {}{steps}", answer.number, answer.file, answer.place));
     let meaning = Reason::of_number(answer.number).map_or("unknown refusal", Reason::meaning);
     match answer.file {
         1 => eprintln!("{table}, byte {}: {meaning}", answer.place),
@@ -196,6 +196,10 @@ fn save(answer: Answer, space: &[u8], path: &str) -> Result<(), Trouble> {
         return Ok(());
     }
     write_file(path, &space[..answer.length as usize])
+}
+
+fn say(line: String) {
+    print(&(line + "\n"));
 }
 
 /// Prints to standard output; a reader that went away is no error.

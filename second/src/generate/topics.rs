@@ -26,9 +26,10 @@ pub fn vector_set() -> Vec<(&'static str, Vec<Case>)> {
 fn read_table() -> Vec<Case> {
     let proof = reading::proof_with_every_term();
     let case = |table: Vec<u8>| Case::new(Entry::Check, &table, &proof);
-    let mut tables = reading::systematic_damage(&reading::table_with_every_field());
+    let good = reading::table_with_every_field();
+    let mut tables = vec![good.clone(), vec![]];
+    tables.extend(reading::systematic_damage(&good));
     tables.extend(reading::refused_tables());
-    tables.push(vec![]);
     tables.extend(limit_files::tables());
     tables.extend(damaged_tables(&mut Random::new(1), 200));
     tables.extend(faulty_tables(&mut Random::new(10), 100));
