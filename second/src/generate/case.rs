@@ -74,7 +74,7 @@ pub struct Outcome {
 
 impl Case {
     /// A call with the largest budget, the named work space and an output space
-    /// a few bytes longer than any result could need it to be.
+    /// a few bytes longer than the result.
     pub fn new(entry: Entry, table: &[u8], other: &[u8]) -> Case {
         let mut case = Case {
             entry,
