@@ -15,3 +15,7 @@ pub mod Depth
 pub mod RefusedPlace
 pub mod GoalBytes
 pub mod TermBytes
+pub mod GoalsAt
+pub mod ByTag
+pub mod GoalListBytes
+pub mod EncodedBytes

@@ -1,4 +1,4 @@
--- Laws of a term that stands in a file: its size, and which term it is by its tag.
+-- What the header of a term that stands in a file says of it.
 -- Assumes nothing.
 use mathlib.Core.Path.{_≡_}
 use mathlib.Core.List.{List}
@@ -40,28 +40,3 @@ module _ (s : List ℕ) (at : ℕ) where
   known (alternation a b) st = record { tag-is = st .0 .tag-is; length-is = omega (arith, st .0); inside = omega (arith, st .0); three = omega arith }
   known (assert g) st = record { tag-is = st .0 .tag-is; length-is = omega (arith, st .0); inside = omega (arith, st .0); three = omega arith }
   known (defined d) st = record { tag-is = st .0 .tag-is; length-is = omega (arith, st .0); inside = omega (arith, st .0); three = omega arith }
-
--- a statement of every term with a tag is one of the constructor's terms
-pub if-sequence : (P : Term → Type 0) → ((a b : Term) → P (sequence a b)) → (t : Term) → tagOf t ≡ 19 → P t
-unfolding tagOf
-if-sequence P h (atomic a) e = absurd (omega arith)
-if-sequence P h id e = absurd (omega arith)
-if-sequence P h (label l t) e = absurd (omega arith)
-if-sequence P h (sequence a b) e = h a b
-if-sequence P h (tensor a b) e = absurd (omega arith)
-if-sequence P h empty e = absurd (omega arith)
-if-sequence P h (alternation a b) e = absurd (omega arith)
-if-sequence P h (assert g) e = absurd (omega arith)
-if-sequence P h (defined d) e = absurd (omega arith)
-
-pub if-tensor : (P : Term → Type 0) → ((a b : Term) → P (tensor a b)) → (t : Term) → tagOf t ≡ 20 → P t
-unfolding tagOf
-if-tensor P h (atomic a) e = absurd (omega arith)
-if-tensor P h id e = absurd (omega arith)
-if-tensor P h (label l t) e = absurd (omega arith)
-if-tensor P h (sequence a b) e = absurd (omega arith)
-if-tensor P h (tensor a b) e = h a b
-if-tensor P h empty e = absurd (omega arith)
-if-tensor P h (alternation a b) e = absurd (omega arith)
-if-tensor P h (assert g) e = absurd (omega arith)
-if-tensor P h (defined d) e = absurd (omega arith)

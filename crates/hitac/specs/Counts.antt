@@ -43,7 +43,7 @@ takesGoal c (γ ∷ []) = oneIf (c γ)
 takesGoal c (γ ∷ δ ∷ g) = 0
 
 -- "as many uses carry the two as atomic fields of that name take that goal in the walk": the latter count.
--- The last three forms stand in no hiproof.
+-- A sequence's right term takes what its left gave, which does not depend on the place. The last three forms stand in no hiproof.
 unfoldable pub taken : (RuleName → Goal → Bool) → Table → Term → List Goal → ℕ
 taken c T (atomic a) g = takesGoal (c a) g
 taken c T id g = 0

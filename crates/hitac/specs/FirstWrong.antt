@@ -25,5 +25,5 @@ entriesSize (openEntry γ ∷ es) = 5 + entriesSize es
 -- `FirstWrong S p g es q`: of the entries es, the first at place p, on the pending goals g, the one at place q is the first that does not apply.
 -- "The walk stops at the first entry that does not apply." "27: flat file wrong; place of the entry"
 pub data FirstWrong (S : System) : (place : ℕ) → List Goal → List Entry → (stop : ℕ) → Type 0 where
-  F-Wrong : {p : ℕ} {g k : List Goal} {es : List Entry} {e : Entry} (fs : List Entry) → Derives S g es k → Unfit S k e
+  U-First : {p : ℕ} {g k : List Goal} {es : List Entry} {e : Entry} (fs : List Entry) → Derives S g es k → Unfit S k e
       → FirstWrong S p g (es ++ e ∷ fs) (p + entriesSize es)

@@ -1,5 +1,4 @@
 -- Document 01, "Flat derivations": the forest of a hiproof on its goals.
-use Prim.Native.Nat.{ℕ}
 use mathlib.Core.Option.{Option, none, some}
 use mathlib.Core.List.{List, [], _∷_, _++_, map}
 use lib.ListN.{length, take, drop}
@@ -44,6 +43,7 @@ abbrev pub premisesIn : Option FoundRule → List Goal
 premisesIn none = []
 premisesIn (some r) = r .premises
 
+-- "a use whose premises": those of the rule of that name for that goal
 abbrev pub premisesOf : Table → RuleName → Goal → List Goal
 premisesOf T a γ = premisesIn (findRule T a γ)
 

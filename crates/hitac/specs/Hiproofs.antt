@@ -38,3 +38,15 @@ dropLabels empty = empty
 dropLabels (alternation s t) = alternation (dropLabels s) (dropLabels t)
 dropLabels (assert γ) = assert γ
 dropLabels (defined n) = defined n
+
+-- no label is left
+unfoldable pub Unlabelled : Term → Type 0
+Unlabelled (atomic a) = Unit {0}
+Unlabelled id = Unit {0}
+Unlabelled (label l s) = ⊥
+Unlabelled (sequence s t) = Unlabelled s × Unlabelled t
+Unlabelled (tensor s t) = Unlabelled s × Unlabelled t
+Unlabelled empty = Unit {0}
+Unlabelled (alternation s t) = Unlabelled s × Unlabelled t
+Unlabelled (assert γ) = Unit {0}
+Unlabelled (defined n) = Unit {0}

@@ -36,46 +36,46 @@ after n κ = record { steps = n; control = κ }
 
 -- the run has not ended; at the end of the budget this is 24
 abbrev pub Running : Control → Type 0
-Running (running t g k) = Unit {0}
+Running (running t g w) = Unit {0}
 Running (stopped e) = ⊥
 
 -- From the end of a term to the next term to begin, or to the end of the run. "Alternation runs the left; only if that fails does it run the right
 -- on the same goals"; "neither 24 nor 22 moves on to an alternative".
 unfoldable pub unwind : Ending → List Frame → Control
 unwind e [] = stopped e
-unwind e (labelled l ∷ k) = unwind (inLabel l e) k
-unwind (proved s g) (sequenceLeft u ∷ k) = running u g (sequenceRight s ∷ k)
-unwind failed (sequenceLeft u ∷ k) = unwind failed k
-unwind (ended c) (sequenceLeft u ∷ k) = unwind (ended c) k
-unwind e (sequenceRight s ∷ k) = unwind (afterLeft s e) k
-unwind (proved s g) (tensorLeft u h ∷ k) = running u h (tensorRight s g ∷ k)
-unwind failed (tensorLeft u h ∷ k) = unwind failed k
-unwind (ended c) (tensorLeft u h ∷ k) = unwind (ended c) k
-unwind e (tensorRight s g ∷ k) = unwind (besideLeft s g e) k
-unwind (proved s g) (alternationLeft u h ∷ k) = unwind (proved s g) k
-unwind failed (alternationLeft u h ∷ k) = running u h k
-unwind (ended c) (alternationLeft u h ∷ k) = unwind (ended c) k
+unwind e (labelled l ∷ w) = unwind (inLabel l e) w
+unwind (proved s g) (sequenceLeft u ∷ w) = running u g (sequenceRight s ∷ w)
+unwind failed (sequenceLeft u ∷ w) = unwind failed w
+unwind (ended c) (sequenceLeft u ∷ w) = unwind (ended c) w
+unwind e (sequenceRight s ∷ w) = unwind (afterLeft s e) w
+unwind (proved s g) (tensorLeft u h ∷ w) = running u h (tensorRight s g ∷ w)
+unwind failed (tensorLeft u h ∷ w) = unwind failed w
+unwind (ended c) (tensorLeft u h ∷ w) = unwind (ended c) w
+unwind e (tensorRight s g ∷ w) = unwind (besideLeft s g e) w
+unwind (proved s g) (alternationLeft u h ∷ w) = unwind (proved s g) w
+unwind failed (alternationLeft u h ∷ w) = running u h w
+unwind (ended c) (alternationLeft u h ∷ w) = unwind (ended c) w
 
 -- "a term that cannot take its goals .. fails"; else go on with what is there
 abbrev pub enterOrFail : {A : Type 0} → Option A → List Frame → (A → Control) → Control
-enterOrFail none k f = unwind failed k
-enterOrFail (some a) k f = f a
+enterOrFail none w f = unwind failed w
+enterOrFail (some a) w f = f a
 
 -- what a term does when it begins; "A defined tactic is replaced by its body; one without a definition fails"; "assert leaves id"
 unfoldable pub begin : Table → Term → List Goal → List Frame → Control
-begin T (atomic a) g k = unwind (finished (atomic a) (ruleGives T a g)) k
-begin T id g k = unwind (finished id (oneGoal g)) k
-begin T (label l t) g k = enterOrFail (oneGoal g) k λ h. running t h (labelled l ∷ k)
-begin T (sequence t u) g k = running t g (sequenceLeft u ∷ k)
-begin T (tensor t u) g k = enterOrFail (splitBy (tacticArity T t) g) k λ p. running t (p .leftGoals) (tensorLeft u (p .rightGoals) ∷ k)
-begin T empty g k = unwind (finished empty (noGoal g)) k
-begin T (alternation t u) g k = running t g (alternationLeft u g ∷ k)
-begin T (assert γ) g k = unwind (finished id (assertGives T γ g)) k
-begin T (defined n) g k = enterOrFail (findBody T n) k λ t. running t g k
+begin T (atomic a) g w = unwind (finished (atomic a) (ruleGives T a g)) w
+begin T id g w = unwind (finished id (oneGoal g)) w
+begin T (label l t) g w = enterOrFail (oneGoal g) w λ h. running t h (labelled l ∷ w)
+begin T (sequence t u) g w = running t g (sequenceLeft u ∷ w)
+begin T (tensor t u) g w = enterOrFail (splitBy (tacticArity T t) g) w λ p. running t (p .leftGoals) (tensorLeft u (p .rightGoals) ∷ w)
+begin T empty g w = unwind (finished empty (noGoal g)) w
+begin T (alternation t u) g w = running t g (alternationLeft u g ∷ w)
+begin T (assert γ) g w = unwind (finished id (assertGives T γ g)) w
+begin T (defined n) g w = enterOrFail (findBody T n) w λ t. running t g w
 
 -- "A step begins one term and leaves the next state. Every term begun counts one step"; where the run has ended it stays.
 unfoldable pub stepFrom : Table → (steps : ℕ) → Control → State
-stepFrom T n (running t g k) = after (suc n) (begin T t g k)
+stepFrom T n (running t g w) = after (suc n) (begin T t g w)
 stepFrom T n (stopped e) = after n (stopped e)
 
 unfoldable pub step : Table → State → State

@@ -1,6 +1,6 @@
 -- Document 01, "Running a tactic": how a term ends in a run, and what each form gives for its goals.
 use Prim.Native.Nat.{ℕ}
-use mathlib.Core.Bool.{cond}
+use mathlib.Core.Bool.{Bool, cond}
 use mathlib.Core.List.{List, [], _∷_, _++_}
 use mathlib.Core.Option.{Option, none, some}
 use lib.Dec.{leb}
@@ -21,9 +21,9 @@ pub data Ending : Type 0 where
   ended : Cause → Ending
 
 -- the premises of a rule that was found
-abbrev pub premisesFound : Option FoundRule → Option (List Goal)
-premisesFound none = none
-premisesFound (some r) = some (r .premises)
+abbrev pub foundPremises : Option FoundRule → Option (List Goal)
+foundPremises none = none
+foundPremises (some r) = some (r .premises)
 
 -- what a form that takes exactly one goal gives for a list
 abbrev pub onOne : (Goal → Option (List Goal)) → List Goal → Option (List Goal)
@@ -33,7 +33,7 @@ onOne f (γ ∷ δ ∷ g) = none
 
 -- "atomic: exactly one goal, with a rule of that name for it; gives the premises in order"
 abbrev pub ruleGives : Table → RuleName → List Goal → Option (List Goal)
-ruleGives T a g = onOne (λ γ. premisesFound (findRule T a γ)) g
+ruleGives T a g = onOne (λ γ. foundPremises (findRule T a γ)) g
 
 -- "id: one goal, given back"
 abbrev pub oneGoal : List Goal → Option (List Goal)
@@ -79,8 +79,12 @@ afterLeft s (proved r g) = proved (sequence s r) g
 afterLeft s failed = failed
 afterLeft s (ended c) = ended c
 
+-- "A tensor whose joined list has more than 256 goals ends the walk with 22"
+abbrev pub joinedFits : List Goal → Bool
+joinedFits g = leb (length g) mostJoined
+
 -- a tensor, once its left gave a proof and its right ended: "the two lists joined", "22 included"
 abbrev pub besideLeft : Term → List Goal → Ending → Ending
-besideLeft s g (proved r h) = cond (leb (length (g ++ h)) mostJoined) (proved (tensor s r) (g ++ h)) (ended joinedTooLong)
+besideLeft s g (proved r h) = cond (joinedFits (g ++ h)) (proved (tensor s r) (g ++ h)) (ended joinedTooLong)
 besideLeft s g failed = failed
 besideLeft s g (ended c) = ended c

@@ -1,6 +1,6 @@
 -- Document 01, "Running a tactic": the arity of a tactic, computed.
 use Prim.Native.Nat.{ℕ, zero, suc, _+_}
-use mathlib.Core.Bool.{cond}
+use mathlib.Core.Bool.{Bool, cond}
 use mathlib.Core.List.{List}
 use mathlib.Core.Option.{Option, none, some}
 use lib.Dec.{eqb, leb}
@@ -17,9 +17,13 @@ fromBoth f none b = none
 fromBoth f (some n) none = none
 fromBoth f (some n) (some m) = f n m
 
--- "a tensor the sum"; "an arity over 256 counts as none"
+-- "an arity over 256 counts as none"
+abbrev pub arityCounts : ℕ → Bool
+arityCounts n = leb n mostArity
+
+-- "a tensor the sum", if it counts
 abbrev pub sumArity : Option ℕ → Option ℕ → Option ℕ
-sumArity a b = fromBoth (λ n m. cond (leb (n + m) mostArity) (some (n + m)) none) a b
+sumArity a b = fromBoth (λ n m. cond (arityCounts (n + m)) (some (n + m)) none) a b
 
 -- "an alternation n if both sides have n"
 abbrev pub commonArity : Option ℕ → Option ℕ → Option ℕ

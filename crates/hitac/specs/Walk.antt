@@ -1,6 +1,6 @@
 -- Document 01, "Checking a hiproof": the walk of a hiproof over its goals.
 use Prim.Native.Nat.{ℕ, _+_}
-use mathlib.Core.Bool.{cond}
+use mathlib.Core.Bool.{Bool, cond}
 use mathlib.Core.Option.{Option, none, some}
 use mathlib.Core.List.{List, [], _∷_, _++_}
 use lib.Dec.{ltb}
@@ -15,24 +15,27 @@ use Rattle.tables.specs.Lookup.{FoundRule, findRule}
 use Rattle.hitac.specs.Hiproofs.{inputArity}
 
 -- "exactly one goal"; else the term cannot take its goals
-abbrev pub onOneGoal : (place : ℕ) → (Goal → Result (List Goal)) → List Goal → Result (List Goal)
+unfoldable pub onOneGoal : (place : ℕ) → (Goal → Result (List Goal)) → List Goal → Result (List Goal)
 onOneGoal p next [] = refused goalCountWrong p
 onOneGoal p next (γ ∷ []) = next γ
 onOneGoal p next (γ ∷ δ ∷ g) = refused goalCountWrong p
 
 -- "Empty: none, gives none."
-abbrev pub onNoGoal : (place : ℕ) → List Goal → Result (List Goal)
+unfoldable pub onNoGoal : (place : ℕ) → List Goal → Result (List Goal)
 onNoGoal p [] = gives []
 onNoGoal p (γ ∷ g) = refused goalCountWrong p
 
 -- "with a rule of that name for it; gives the premises in order": else the refusal
-abbrev pub premisesOr : Cause → (place : ℕ) → Option FoundRule → Result (List Goal)
+unfoldable pub premisesOr : Cause → (place : ℕ) → Option FoundRule → Result (List Goal)
 premisesOr c p none = refused c p
 premisesOr c p (some r) = gives (r .premises)
 
 -- "A tensor whose joined list has more than 256 goals ends the walk with 22."
-abbrev pub joined : (place : ℕ) → List Goal → Result (List Goal)
-joined p g = cond (ltb mostJoined (length g)) (refused joinedTooLong p) (gives g)
+unfoldable pub tooLong : List Goal → Bool
+tooLong g = ltb mostJoined (length g)
+
+unfoldable pub joined : (place : ℕ) → List Goal → Result (List Goal)
+joined p g = cond (tooLong g) (refused joinedTooLong p) (gives g)
 
 -- "A term takes a goal list and gives one": the term whose field is at place p, on the goals g.
 -- An inner term's field begins behind the header and the values in front of it: 5 bytes in a label, 3 in a sequence or tensor.

@@ -3,3 +3,9 @@ pub mod Lookup
 pub mod Repeats
 pub mod ReadTables
 pub mod TableBytes
+pub mod Shapes
+pub mod Standing
+pub mod Found
+pub mod Within
+pub mod Search
+pub mod Facts

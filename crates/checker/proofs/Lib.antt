@@ -1,0 +1,4 @@
+pub mod ArityLaws
+pub mod WalkLaws
+pub mod ReadyLaws
+pub mod OtherTerms

@@ -1,0 +1,15 @@
+pub mod ToldLaws
+pub mod ProofLaws
+pub mod JobLaws
+pub mod FlatLaws
+pub mod EntriesLaw
+pub mod EntryBytes
+pub mod EntriesStanding
+pub mod Files
+pub mod WhatStands
+pub mod Sizes
+pub mod ReadsProof
+pub mod ReadsJob
+pub mod ReadsFlat
+pub mod RefusedFiles
+pub mod Answers

@@ -1,0 +1,21 @@
+-- `flats::is_full` meets its contract: the test of the tag says which case of `full` holds.
+-- Assumes nothing.
+use borrow.Author.Needs.{needs}
+use borrow.Author.Tests.{eq-eqb, ne-eqb}
+use Rattle.files.specs.Derivations.{full}
+use Rattle.files.proofs.flats.is_full.Statement.{statement}
+use Rattle.files.proofs.flats.is_full.Tie as tie
+
+shared-slice-read-if1 : tie.Need-shared-slice-read-if1
+shared-slice-read-if1 c = search needs
+
+returns : tie.Need-returns
+unfolding full
+returns c = simp (eq-eqb _ _ (c .if1 .taken))
+
+returns-2 : tie.Need-returns-2
+unfolding full
+returns-2 c = simp (ne-eqb _ _ (c .if1 .left))
+
+pub is-full-spec : {M : Type 1} → statement M
+is-full-spec = tie.close (tie.spec shared-slice-read-if1 returns returns-2)

@@ -1,0 +1,61 @@
+-- The answers of the readers in the code: number and place of a refusal, or the parts of what was read, computed from it alone.
+use Prim.Native.Nat.{ℕ, _+_}
+use mathlib.Core.List.{List}
+use lib.ListN.{length}
+use Rattle.format.specs.declared.terms.TermRead.{TermRead}
+use Rattle.format.specs.declared.terms.TermRead.the-variants as T
+use Rattle.format.specs.Results.{Result, told}
+use Rattle.format.specs.Terms.{Term, size, fields}
+use Rattle.files.specs.declared.proofs.ProofParts.{ProofParts}
+use Rattle.files.specs.declared.proofs.ProofRead.{ProofRead}
+use Rattle.files.specs.declared.proofs.ProofRead.the-variants as P
+use Rattle.files.specs.declared.jobs.JobParts.{JobParts}
+use Rattle.files.specs.declared.jobs.JobRead.{JobRead}
+use Rattle.files.specs.declared.jobs.JobRead.the-variants as J
+use Rattle.files.specs.declared.flats.EntriesRead.{EntriesRead}
+use Rattle.files.specs.declared.flats.EntriesRead.the-variants as E
+use Rattle.files.specs.declared.flats.FlatParts.{FlatParts}
+use Rattle.files.specs.declared.flats.FlatRead.{FlatRead}
+use Rattle.files.specs.declared.flats.FlatRead.the-variants as F
+use Rattle.files.specs.Proofs.{Proof, termPlace, remainingPlace}
+use Rattle.files.specs.Jobs.{Job}
+use Rattle.files.specs.Derivations.{Entry, Derivation, entriesPlace}
+use Rattle.files.specs.Counts.{jobTermPlace, usesIn, opensIn}
+
+-- the parts of a proof: the number of goals, the place of the term, its term fields, the place of the remaining list, and the number of remaining goals
+abbrev pub proofParts : (goals term fields rest remaining : ℕ) → ProofParts
+proofParts g t n r m = record { goals = g; term = t; fields = n; rest = r; remaining = m }
+
+unfoldable pub partsOf : Proof → ProofParts
+partsOf p = proofParts (length (p .goals)) (termPlace p) (fields (p .term)) (remainingPlace p) (length (p .remaining))
+
+unfoldable pub proofShape : Result Proof → ProofRead
+proofShape x = told P.Refused (λ p. P.Read (partsOf p)) x
+
+-- of the last term, which begins at this place, the offset behind it and the term fields
+unfoldable pub lastTermShape : (at : ℕ) → Result Term → TermRead
+lastTermShape at x = told T.Refused (λ t. T.Read (at + size t) (fields t)) x
+
+-- the parts of a job: the number of goals, the place of the term, and its term fields
+abbrev pub jobParts : (goals term fields : ℕ) → JobParts
+jobParts g t n = record { goals = g; term = t; fields = n }
+
+unfoldable pub jobPartsOf : Job → JobParts
+jobPartsOf j = jobParts (length (j .goals)) (jobTermPlace j) (fields (j .term))
+
+unfoldable pub jobShape : Result Job → JobRead
+jobShape x = told J.Refused (λ j. J.Read (jobPartsOf j)) x
+
+-- of entries, behind so many uses and opens, the numbers of uses and opens in all
+unfoldable pub entriesShape : (uses opens : ℕ) → Result (List Entry) → EntriesRead
+entriesShape u o x = told E.Refused (λ es. E.Read (u + usesIn es) (o + opensIn es)) x
+
+-- the parts of a flat file: the number of roots, the place of the first entry, and the numbers of use and open entries
+abbrev pub flatParts : (roots first uses opens : ℕ) → FlatParts
+flatParts r a u o = record { roots = r; first = a; uses = u; opens = o }
+
+unfoldable pub flatPartsOf : Derivation → FlatParts
+flatPartsOf d = flatParts (length (d .roots)) (entriesPlace d) (usesIn (d .entries)) (opensIn (d .entries))
+
+unfoldable pub flatShape : Result Derivation → FlatRead
+flatShape x = told F.Refused (λ d. F.Read (flatPartsOf d)) x

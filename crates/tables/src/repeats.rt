@@ -1,0 +1,97 @@
+// Refusals 6, 7, 8 and 9: a field that clashes with an earlier one. They are one search over the headers from a place to another, each compared with those before it; the refusal's number says which fields are meant, how far it is from one header to the next, and what clashes.
+ghost use mathlib.Core.Path.{_≡_};
+ghost use mathlib.Core.List.{List, []};
+ghost use Prim.Native.Nat.{ℕ, _+_, _≤_};
+ghost use lib.ListN.{length};
+ghost use Rattle.tables.specs.Repeats.{clashesAny, firstClash};
+ghost use Rattle.tables.specs.Search.{searchedTag, stepAt, Room, clashAt, Headers, places, clashTold};
+use format::tags::least_of;
+use words::load16;
+
+// The place of the first field that clashes with an earlier one, or none.
+pub enum Clash {
+    Nowhere,
+    At(usize),
+}
+
+// The tag of the fields that a refusal is about: rules, definitions, labels.
+fn searched(number: u8) -> u8
+    ensures { λ r. ⌜ r ≡ searchedTag number ⌝ }
+{
+    if number < 8 {
+        return 1;
+    }
+    if number == 8 {
+        return 2;
+    }
+    18
+}
+
+// From one header to the next. For 9 only the values in front are passed over, so that the inner terms are met; else the whole field.
+fn step(s: &[u8], at: usize, number: u8) -> usize
+    requires { ⌜ Room (now s) at ⌝ }
+    ensures { λ r. ⌜ r ≡ stepAt number (now (s .entry)) at ⌝ }
+{
+    if number == 9 {
+        return 3 + least_of(s[at]) as usize;
+    }
+    3 + load16(s, at + 1) as usize
+}
+
+// Whether the field at a place clashes with an earlier one. Both have one tag, so their first values are of one kind: names, tactic numbers or labels. For 6 the goals behind the names are compared too, for 7 the lengths.
+fn clashes(s: &[u8], at: usize, earlier: usize, number: u8) -> bool
+    requires { ⌜ Room (now s) at × Room (now s) earlier ⌝ }
+    ensures { λ r. ⌜ r ≡ clashAt number (now (s .entry)) at earlier ⌝ }
+{
+    let tag = searched(number);
+    if s[at] != tag {
+        return false;
+    }
+    if s[earlier] != tag {
+        return false;
+    }
+    if load16(s, at + 3) != load16(s, earlier + 3) {
+        return false;
+    }
+    if number == 6 {
+        return load16(s, at + 5) == load16(s, earlier + 5);
+    }
+    if number == 7 {
+        return load16(s, at + 1) != load16(s, earlier + 1);
+    }
+    true
+}
+
+// Whether the field at a place clashes with any from a place up to it.
+fn clashes_before(s: &[u8], from: usize, at: usize, number: u8) -> bool
+    requires { ⌜ Room (now s) at × ((ps : List ℕ) × Headers number (now s) from ps at) ⌝ }
+    ensures { λ r. ⌜ ((ps : List ℕ) → Headers number (now (s .entry)) from ps at → clashesAny (clashAt number (now (s .entry))) at ps ≡ r) ⌝ }
+{
+    // most headers of a body are no labels
+    if s[at] != searched(number) {
+        return false;
+    }
+    let mut earlier = from;
+    while earlier < at {
+        if clashes(s, at, earlier, number) {
+            return true;
+        }
+        earlier += step(s, earlier, number);
+    }
+    false
+}
+
+// The first field from a place to another that clashes with an earlier one of these.
+pub fn first_clash(s: &[u8], from: usize, to: usize, number: u8) -> Clash
+    requires { ⌜ ((ps : List ℕ) × Headers number (now s) from ps to) ⌝ }
+    ensures { λ r. ⌜ ((ps : List ℕ) → Headers number (now (s .entry)) from ps to → firstClash (clashAt number (now (s .entry))) [] (places ps) ≡ clashTold r) ⌝ }
+{
+    let mut at = from;
+    while at < to {
+        if clashes_before(s, from, at, number) {
+            return Clash::At(at);
+        }
+        at += step(s, at, number);
+    }
+    Clash::Nowhere
+}
