@@ -1,2 +1,3 @@
 pub mod Arities
 pub mod Walks
+pub mod Checks
