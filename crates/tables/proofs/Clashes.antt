@@ -2,7 +2,7 @@
 -- Assumes nothing.
 use mathlib.Core.Path.{_≡_, refl, sym, subst, ap, _∙_}
 use mathlib.Core.Bool.{Bool, true, false, _&&_, not}
-use mathlib.Core.Option.{Option, none}
+use mathlib.Core.Option.{none}
 use mathlib.Core.List.{List, [], _∷_, map}
 use Prim.Native.Nat.{ℕ, _+_}
 use native.Mathlib.Omega.{arith}
@@ -14,7 +14,7 @@ use Rattle.format.specs.declared.values.TacticNo.{TacticNo}
 use Rattle.format.specs.declared.values.RuleName.{RuleName}
 use Rattle.format.specs.declared.values.Goal.{Goal}
 use Rattle.tables.specs.Tables.{Rule, Definition, Table}
-use Rattle.tables.specs.Repeats.{Placed, ruleSize, definitionSize, rulesSize, placedRules, placedTactics, labelsOf, firstClash, repeatsRule, recountsRule, repeatsTactic, repeatsLabel}
+use Rattle.tables.specs.Repeats.{Placed, ruleSize, definitionSize, rulesSize, placedRules, placedTactics, labelsOf, repeatsRule, recountsRule, repeatsTactic, repeatsLabel}
 use Rattle.tables.specs.Within.{Pairs}
 use Rattle.tables.specs.Facts.{sixOf, sevenOf, eightOf, nineOf}
 use Rattle.tables.proofs.PairLaws.{pairs-map, map-pairs, none-pairs, pairs-none}

@@ -1,24 +1,20 @@
 -- A table that stands in a file, within the limits of fields, is what its fields read as: by induction over the definitions, then over the rules.
 -- Assumes nothing.
-use mathlib.Core.Path.{_≡_, refl, sym, subst, ap, ap₂, _∙_}
+use mathlib.Core.Path.{_≡_, sym, subst, ap, ap₂, _∙_}
 use mathlib.Core.Bool.{Bool, true, false, cond}
 use mathlib.Core.List.{List, [], _∷_}
-use Prim.Native.Nat.{ℕ, zero, suc, _+_, _*_, _-_, _/_, _%_, _≤_, _<_}
+use Prim.Native.Nat.{ℕ, zero, suc, _+_, _*_, _-_, _/_, _≤_, _<_}
 use native.Mathlib.Omega.{arith}
-use lib.Dec.{eqb, leb}
+use lib.Dec.{eqb}
 use lib.ListN.{length, getD}
 use borrow.Author.Tests.{eq-eqb, ne-eqb, lt-ltb, le-ltb, lt-leb}
-use Rattle.words.specs.Word.{word}
-use Rattle.format.specs.declared.values.RuleName.{RuleName}
-use Rattle.format.specs.declared.values.Goal.{Goal}
-use Rattle.format.specs.declared.values.TacticNo.{TacticNo}
 use Rattle.format.specs.Limits.{mostRules, mostDefinitions, mostTermFields}
-use Rattle.format.specs.Results.{Result, gives, andThen}
-use Rattle.format.specs.Values.{ruleName, goal, tacticNo}
-use Rattle.format.specs.Tags.{rows, findRow, rowOf, kindOf, leastOf, mostOf, innerOf, ruleKind, definitionKind, hiproofKind, tacticKind}
+use Rattle.format.specs.Results.{gives, andThen}
+use Rattle.format.specs.Values.{goal, tacticNo}
+use Rattle.format.specs.Tags.{rows, findRow, rowOf, kindOf, leastOf, mostOf, innerOf, ruleKind, definitionKind, tacticKind}
 use Rattle.format.specs.Headers.{header, headerAt}
-use Rattle.format.specs.Terms.{Term, size, fields}
-use Rattle.format.specs.ReadTerms.{ParsedTerm, parsedTerm, readTerm}
+use Rattle.format.specs.Terms.{size, fields}
+use Rattle.format.specs.ReadTerms.{parsedTerm, readTerm}
 use Rattle.format.specs.Goals.{goalsAt}
 use Rattle.format.specs.Encoding.{Bytes}
 use Rattle.format.proofs.HeaderLaws.{field-at}
@@ -26,7 +22,7 @@ use Rattle.format.proofs.GoalBytes.{word-value}
 use Rattle.format.proofs.Complete.{complete}
 use Rattle.tables.specs.Tables.{Rule, Definition, Table}
 use Rattle.tables.specs.Repeats.{ruleSize, definitionSize}
-use Rattle.tables.specs.ReadTables.{Field, ruleField, definitionField, full, lowest, ruleOf, definitionOf, fieldOf, readField, withRule, withDefinition, fieldsOf, readFields}
+use Rattle.tables.specs.ReadTables.{ruleField, definitionField, full, lowest, ruleOf, definitionOf, fieldOf, readField, withRule, withDefinition, fieldsOf, readFields}
 use Rattle.tables.specs.Standing.{RuleStands, DefinitionStands, InRow, RulesStand, DefinitionsStand, TableStands}
 use Rattle.tables.specs.Within.{bodyFields}
 use Rattle.tables.proofs.RowLaws as row

@@ -2,14 +2,12 @@
 -- Assumes nothing.
 use mathlib.Core.Path.{_≡_, refl, sym, subst, ap, ap₂, _∙_}
 use mathlib.Core.List.{List, [], _∷_, _++_, append-assoc, append-nil}
-use Prim.Native.Nat.{ℕ, _+_, _*_, _<_}
+use Prim.Native.Nat.{ℕ, _+_, _*_}
 use native.Mathlib.Omega.{arith}
 use lib.ListN.{length, drop}
 use lib.Seq.{drop-length}
-use Rattle.words.specs.Word.{word}
 use Rattle.format.specs.declared.values.Goal.{Goal}
 use Rattle.format.specs.Terms.{size}
-use Rattle.format.specs.Goals.{goalsAt}
 use Rattle.format.specs.Encoding.{Bytes, wordBytes, fieldBytes, termBytes, goalBytes, GoalValues}
 use Rattle.format.proofs.FieldBytes.{value-bytes, field-bytes}
 use Rattle.format.proofs.GoalBytes.{length-goalBytes, word-value, goal-values, goals-bytes}

@@ -3,14 +3,13 @@
 use mathlib.Core.Path.{_≡_, refl, ap}
 use mathlib.Core.Bool.{Bool, true, false, cond}
 use mathlib.Core.List.{List, []}
-use Prim.Native.Nat.{ℕ, zero, suc, _+_, _-_, _≤_, _<_}
+use Prim.Native.Nat.{ℕ, zero, suc, _+_, _-_, _<_}
 use native.Mathlib.Omega.{arith}
 use lib.Dec.{ltb}
 use lib.ListN.{length}
 use borrow.Author.Tests.{ltb-true}
-use Rattle.format.specs.Results.{Result, gives, andThen}
+use Rattle.format.specs.Results.{gives, andThen}
 use Rattle.format.proofs.ResultLaws.{and-same}
-use Rattle.tables.specs.Tables.{Table}
 use Rattle.tables.specs.Repeats.{ruleSize, definitionSize}
 use Rattle.tables.specs.ReadTables.{Field, ruleField, definitionField, readField, withRule, withDefinition, fieldsOf, readFields}
 use Rattle.tables.proofs.FieldLaws.{FieldLaw, field-law}

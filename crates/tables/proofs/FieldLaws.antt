@@ -3,9 +3,9 @@
 use mathlib.Core.Path.{_≡_, refl, sym, subst, ap, _∙_}
 use mathlib.Core.Bool.{Bool, true, false, cond}
 use mathlib.Core.List.{List}
-use Prim.Native.Nat.{ℕ, zero, suc, _+_, _*_, _-_, _/_, _%_, _≤_, _<_}
+use Prim.Native.Nat.{ℕ, _+_, _*_, _-_, _/_, _≤_, _<_}
 use native.Mathlib.Omega.{arith}
-use lib.Dec.{eqb, leb}
+use lib.Dec.{eqb}
 use lib.ListN.{length, getD}
 use borrow.Author.Tests.{eqb-true, leb-false, eq-eqb, ne-eqb}
 use Rattle.words.specs.Word.{word}
@@ -14,20 +14,19 @@ use Rattle.format.specs.declared.terms.TermRead.the-variants as R
 use Rattle.format.specs.Limits.{mostRules, mostDefinitions, mostTermFields}
 use Rattle.format.specs.Refusals.{number, lengthWrong}
 use Rattle.format.specs.Results.{Result, gives, refused, andThen, told}
-use Rattle.format.specs.Values.{ruleName, goal, tacticNo}
+use Rattle.format.specs.Values.{tacticNo}
 use Rattle.format.specs.Tags.{rows, findRow, rowOf, kindOf, leastOf, mostOf, innerOf, ruleKind, definitionKind, tacticKind}
-use Rattle.format.specs.Headers.{Header, header, headerAt}
+use Rattle.format.specs.Headers.{Header, header}
 use Rattle.format.specs.Terms.{Term, size, fields}
-use Rattle.format.specs.ReadTerms.{ParsedTerm, parsedTerm, readTerm}
+use Rattle.format.specs.ReadTerms.{ParsedTerm, readTerm}
 use Rattle.format.specs.Goals.{goalsAt}
 use Rattle.format.specs.Standing.{Head}
 use Rattle.format.specs.Shapes.{headerShape, termShape}
 use Rattle.format.proofs.ResultLaws.{and-gives, kept, same-value, told-refused, told-gives}
 use Rattle.format.proofs.TermTags.{found-row}
-use Rattle.format.proofs.HeaderLaws.{IsField, is-field, told-field}
+use Rattle.format.proofs.HeaderLaws.{IsField, is-field}
 use Rattle.format.proofs.GoalsLaws.{length-goalsAt}
 use Rattle.format.proofs.ReadLaw.{Law, read-gives}
-use Rattle.tables.specs.declared.fields.FieldRead.{FieldRead}
 use Rattle.tables.specs.declared.fields.FieldRead.the-variants as F
 use Rattle.tables.specs.Tables.{Rule, Definition}
 use Rattle.tables.specs.Repeats.{ruleSize, definitionSize}

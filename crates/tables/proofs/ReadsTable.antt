@@ -1,25 +1,24 @@
 -- READING A TABLE: bytes read as a table exactly if they are its encoding and it is within the limits, with none of 6, 7, 8, 9; so encoding, then reading, gives the table back. And what a table that reads says.
 -- Assumes nothing.
-use mathlib.Core.Path.{_≡_, refl, sym, subst, ap, _∙_}
+use mathlib.Core.Path.{_≡_, refl, subst, ap}
 use mathlib.Core.Logic.{_↔_, _⊎_, inl, inr}
-use mathlib.Core.Bool.{Bool, true, false, cond}
 use mathlib.Core.Option.{Option, none, some}
 use mathlib.Core.List.{List, [], _∷_, List·Memᴰ, List·Memᴰ·not-nil, List·Memᴰ·cases-cons}
-use Prim.Native.Nat.{ℕ, _+_, _≤_, _<_}
+use Prim.Native.Nat.{ℕ, _+_, _≤_}
 use native.Mathlib.Omega.{arith}
 use lib.Dec.{ltb}
 use lib.ListN.{length}
 use borrow.Author.Tests.{ltb-false, le-ltb}
-use Rattle.format.specs.Limits.{mostBytes, mostRules, mostDefinitions, mostTermFields}
+use Rattle.format.specs.Limits.{mostBytes}
 use Rattle.format.specs.Refusals.{Cause, inputTooLong}
-use Rattle.format.specs.Results.{Result, gives, refused, andThen}
+use Rattle.format.specs.Results.{Result, gives, andThen}
 use Rattle.format.specs.Encoding.{Bytes}
 use Rattle.format.proofs.ResultLaws.{never-gives, same-value, passed, and-gives}
-use Rattle.tables.specs.Tables.{Rule, Definition, Table, UniqueRules, UniqueDefinitions}
+use Rattle.tables.specs.Tables.{Rule, Table, UniqueRules, UniqueDefinitions}
 use Rattle.tables.specs.Repeats.{rulesSize, refuseAt, wholeTable}
 use Rattle.tables.specs.ReadTables.{readFields, readTable}
 use Rattle.tables.specs.TableBytes.{tableBytes}
-use Rattle.tables.specs.Standing.{DefinitionStands, RuleStands, InRow, RulesStand, TableStands}
+use Rattle.tables.specs.Standing.{DefinitionStands, InRow, RulesStand}
 use Rattle.tables.specs.Within.{TableWithin}
 use Rattle.tables.specs.Facts.{sixOf, sevenOf, eightOf, nineOf, TableFacts}
 use Rattle.tables.proofs.RowLaws.{row-le}

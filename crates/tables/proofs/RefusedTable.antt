@@ -8,24 +8,23 @@ use Prim.Native.Nat.{ℕ, zero, suc, _+_, _≤_, _<_}
 use native.Mathlib.Omega.{arith}
 use lib.Dec.{eqb, ltb}
 use lib.ListN.{length}
-use borrow.Author.Tests.{ltb-true, ltb-false}
+use borrow.Author.Tests.{ltb-false}
 use Rattle.format.specs.Limits.{mostBytes}
 use Rattle.format.specs.Refusals.{Cause, number, inputTooLong, fieldTorn, lengthWrong, ruleRepeated, premiseCountDiffers, tacticRedefined, labelRepeated}
 use Rattle.format.specs.Results.{Result, gives, refused, andThen}
 use Rattle.format.specs.Tags.{definitionKind, tacticKind}
-use Rattle.format.specs.Headers.{Header, header, headerAt}
+use Rattle.format.specs.Headers.{Header, headerAt}
 use Rattle.format.specs.ReadTerms.{ParsedTerm}
 use Rattle.format.proofs.HeaderLaws.{is-field}
-use Rattle.format.proofs.RefusedPlace.{Refusal, RefusedWithin, further, steps, header-place, term-place}
-use Rattle.tables.specs.Tables.{Rule, Definition, Table}
+use Rattle.format.proofs.RefusedPlace.{RefusedWithin, further, steps, header-place, term-place}
+use Rattle.tables.specs.Tables.{Table}
 use Rattle.tables.specs.Repeats.{clashesAny, firstClash, rulesSize, refuseAt, wholeTable}
-use Rattle.tables.specs.ReadTables.{Field, ruleField, definitionField, full, lowest, ruleOf, definitionOf, fieldOf, readField, withRule, withDefinition, fieldsOf, readFields, readTable}
+use Rattle.tables.specs.ReadTables.{Field, ruleField, definitionField, full, lowest, definitionOf, fieldOf, readField, withRule, withDefinition, fieldsOf, readFields, readTable}
 use Rattle.tables.specs.Standing.{DefinitionStands, InRow, TableStands}
 use Rattle.tables.specs.Search.{stepAt, Room, clashAt, Headers, places}
 use Rattle.tables.specs.Facts.{TableRefusal}
 use Rattle.tables.proofs.FieldLaws.{FieldLaw, field-law, behind-value}
 use Rattle.tables.proofs.RowLaws as row
-use Rattle.tables.proofs.RowLaws.{rules-end}
 use Rattle.tables.proofs.TableLaws.{fields-stand}
 use Rattle.tables.proofs.SearchLaws.{step-positive}
 use Rattle.tables.proofs.RepeatLaws.{rules-run, tactics-run, labels-run, six, seven, eight, nine}

@@ -1,10 +1,9 @@
 -- The search over the headers of a table finds what 6, 7, 8 and 9 are about: rules for 6 and 7, tactic numbers for 8, labels for 9, each at the place of its header. By induction over the rules, the definitions and their bodies.
 -- Assumes nothing.
-use mathlib.Core.Path.{_≡_, refl, sym, subst, ap, _∙_}
-use mathlib.Core.Bool.{Bool, true, false, cond, _&&_, not}
-use mathlib.Core.Option.{Option, none, some}
+use mathlib.Core.Path.{_≡_, refl, sym, subst, _∙_}
+use mathlib.Core.Bool.{Bool, true, false, _&&_}
 use mathlib.Core.List.{List, [], _∷_, _++_}
-use Prim.Native.Nat.{ℕ, _+_, _*_, _≤_, _<_}
+use Prim.Native.Nat.{ℕ, _+_, _≤_}
 use native.Mathlib.Omega.{arith}
 use lib.Dec.{eqb, ltb}
 use lib.ListN.{length, getD}
@@ -15,12 +14,12 @@ use Rattle.format.specs.declared.values.TacticNo.{TacticNo}
 use Rattle.format.specs.Tags.{rows, findRow, rowOf, leastOf}
 use Rattle.format.specs.Terms.{Term, atomic, id, label, sequence, tensor, empty, alternation, assert, defined, size}
 use Rattle.format.specs.Standing.{Head, Stands}
-use Rattle.tables.specs.Tables.{Rule, Definition, Table}
+use Rattle.tables.specs.Tables.{Rule, Definition}
 use Rattle.tables.specs.Repeats.{Placed, ruleSize, definitionSize, placedRules, placedTactics, placedLabels, labelsOf, firstClash, repeatsRule, recountsRule, repeatsTactic, repeatsLabel}
-use Rattle.tables.specs.Standing.{RuleStands, DefinitionStands, InRow, RulesStand, DefinitionsStand, TableStands}
-use Rattle.tables.specs.Search.{searchedTag, stepAt, Room, besides, clashAt, Headers, places}
+use Rattle.tables.specs.Standing.{RuleStands, DefinitionStands, InRow, RulesStand, DefinitionsStand}
+use Rattle.tables.specs.Search.{searchedTag, stepAt, Room, besides, clashAt, places}
 use Rattle.tables.proofs.RowLaws.{rule-size, definition-size}
-use Rattle.tables.proofs.SearchLaws.{silent, by-besides, other-value, for-goal, for-length, for-value}
+use Rattle.tables.proofs.SearchLaws.{silent, by-value, for-value}
 use Rattle.tables.proofs.RunLaws.{Run, run-end, run-value, run-other, run-append, run-row, run-first}
 
 -- equal tests
@@ -32,11 +31,6 @@ same-tests a b c d f g = go (eqb a b) refl
     go false e = sym (ne-eqb c d (λ h. eqb-false a b e (g h)))
 
 module _ (s : List ℕ) where
-  -- two fields with the tag searched clash by their values and what holds besides
-  by-value : (number p q : ℕ) → getD s p 0 ≡ searchedTag number → getD s q 0 ≡ searchedTag number → clashAt number s p q ≡ (eqb (word s (p + 3)) (word s (q + 3)) && besides number s p q)
-  unfolding clashAt
-  by-value number p q a b = simp (eq-eqb _ _ a, eq-eqb _ _ b)
-
   -- no header of a row of rules or of definitions is silent
   abbrev Never : ℕ → Type 0
   Never p = ⊥
@@ -59,7 +53,7 @@ module _ (s : List ℕ) where
         → (rs : List Rule) (from to : ℕ) (st : RulesStand s from rs to) → firstClash clash [] (placedRules from rs) ≡ firstClash (clashAt number s) [] (places (rules-run rs from to st .at))
     rules-clash clash same rs from to st =
         run-first (RuleStands s) Never number s clash
-        (λ p q a b h k. by-value number p q (h .head .tag-is ∙ sym rule-tag) (k .head .tag-is ∙ sym rule-tag) ∙ rw (h .name-is, k .name-is) (same p q a b h k))
+        (λ p q a b h k. by-value number s p q (h .head .tag-is ∙ sym rule-tag) (k .head .tag-is ∙ sym rule-tag) ∙ rw (h .name-is, k .name-is) (same p q a b h k))
         (λ p z. absurd z) from to (placedRules from rs) (rules-run rs from to st)
 
   pub six : (rs : List Rule) (from to : ℕ) (st : RulesStand s from rs to) → firstClash repeatsRule [] (placedRules from rs) ≡ firstClash (clashAt 6 s) [] (places (rules-run 6 refl refl rs from to st .at))
@@ -80,7 +74,7 @@ module _ (s : List ℕ) where
   and-true false = refl
 
   by-number : (number p q v w : ℕ) → (number ≡ 6 → ⊥) → (number ≡ 7 → ⊥) → Carries number p v → Carries number q w → clashAt number s p q ≡ eqb v w
-  by-number number p q v w a b h k = by-value number p q (h .0) (k .0) ∙ rw (for-value number s p q a b, h .1, k .1) (and-true (eqb v w))
+  by-number number p q v w a b h k = by-value number s p q (h .0) (k .0) ∙ rw (for-value number s p q a b, h .1, k .1) (and-true (eqb v w))
 
   tactic-header : (at : ℕ) (d : Definition) → DefinitionStands s at d → Carries 8 at (d .tactic .0) × Room s at × (stepAt 8 s at ≡ definitionSize d)
   unfolding searchedTag stepAt leastOf rowOf rows findRow

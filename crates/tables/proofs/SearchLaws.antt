@@ -1,6 +1,6 @@
 -- The turns of the two loops of the search for 6, 7, 8 and 9, over headers one behind the other: the inner one is a search in a row, the outer one takes one header more among the earlier ones.
 -- Assumes nothing.
-use mathlib.Core.Path.{_≡_, refl, sym, subst, ap, _∙_}
+use mathlib.Core.Path.{_≡_, refl, subst, ap, _∙_}
 use mathlib.Core.Bool.{Bool, true, false, cond, _&&_, not}
 use mathlib.Core.Option.{Option, none, some}
 use mathlib.Core.List.{List, [], _∷_, _++_}
@@ -11,7 +11,7 @@ use lib.ListN.{length, getD}
 use borrow.Author.Tests.{eq-eqb, ne-eqb}
 use Rattle.words.specs.Word.{word}
 use Rattle.format.specs.Tags.{rows, findRow, rowOf, leastOf}
-use Rattle.tables.specs.Repeats.{Placed, clashesAny, firstClash}
+use Rattle.tables.specs.Repeats.{clashesAny, firstClash}
 use Rattle.tables.specs.Standing.{InRow}
 use Rattle.tables.specs.Search.{searchedTag, stepAt, Room, besides, clashAt, Headers, places}
 use Rattle.tables.proofs.RowLaws as row
@@ -58,13 +58,15 @@ module _ (number : ℕ) (s : List ℕ) (at : ℕ) where
 -- the test of two fields, one law for each return of the code
 module _ (number : ℕ) (s : List ℕ) (at earlier : ℕ) where
   module _ (here : getD s at 0 ≡ searchedTag number) (there : getD s earlier 0 ≡ searchedTag number) where
-    pub other-value : (word s (at + 3) ≡ word s (earlier + 3) → ⊥) → clashAt number s at earlier ≡ false
+    pub by-value : clashAt number s at earlier ≡ (eqb (word s (at + 3)) (word s (earlier + 3)) && besides number s at earlier)
     unfolding clashAt
-    other-value h = simp (eq-eqb _ _ here, eq-eqb _ _ there, ne-eqb _ _ h)
+    by-value = simp (eq-eqb _ _ here, eq-eqb _ _ there)
 
-    pub by-besides : word s (at + 3) ≡ word s (earlier + 3) → clashAt number s at earlier ≡ besides number s at earlier
-    unfolding clashAt
-    by-besides e = simp (eq-eqb _ _ here, eq-eqb _ _ there, eq-eqb _ _ e)
+    pub other-value : (word s (at + 3) ≡ word s (earlier + 3) → ⊥) → clashAt number s at earlier ≡ false
+    other-value h = by-value ∙ rw (ne-eqb _ _ h)
+
+    pub same-value : word s (at + 3) ≡ word s (earlier + 3) → clashAt number s at earlier ≡ besides number s at earlier
+    same-value e = by-value ∙ rw (eq-eqb _ _ e)
 
   pub for-goal : number ≡ 6 → besides number s at earlier ≡ eqb (word s (at + 5)) (word s (earlier + 5))
   unfolding besides

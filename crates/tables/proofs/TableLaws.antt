@@ -1,20 +1,20 @@
 -- What a table that was read says: its fields stand in the file, rules from the first byte on and definitions behind them up to the end, and each limit holds. By induction over the bound of the fields' number.
 -- Assumes nothing.
-use mathlib.Core.Path.{_≡_, refl, sym, subst, ap, _∙_}
+use mathlib.Core.Path.{_≡_, refl, sym, subst, ap}
 use mathlib.Core.Bool.{Bool, true, false, cond}
 use mathlib.Core.List.{List, [], _∷_}
-use Prim.Native.Nat.{ℕ, zero, suc, _+_, _-_, _≤_, _<_}
+use Prim.Native.Nat.{ℕ, zero, suc, _+_, _≤_, _<_}
 use native.Mathlib.Omega.{arith}
 use lib.Dec.{ltb}
 use lib.ListN.{length}
 use borrow.Author.Tests.{ltb-false}
 use Rattle.format.specs.Limits.{mostRules, mostDefinitions, mostTermFields}
-use Rattle.format.specs.Results.{Result, gives, refused, andThen}
+use Rattle.format.specs.Results.{Result, gives, andThen}
 use Rattle.format.proofs.ResultLaws.{never-gives, same-value, and-gives}
 use Rattle.tables.specs.Tables.{Rule, Definition, Table}
 use Rattle.tables.specs.Repeats.{ruleSize, definitionSize, rulesSize}
 use Rattle.tables.specs.ReadTables.{Field, ruleField, definitionField, readField, withRule, withDefinition, fieldsOf, readFields}
-use Rattle.tables.specs.Standing.{RuleStands, DefinitionStands, InRow, RulesStand, DefinitionsStand, TableStands}
+use Rattle.tables.specs.Standing.{DefinitionStands, InRow, RulesStand, DefinitionsStand, TableStands}
 use Rattle.tables.specs.Within.{bodyFields}
 use Rattle.tables.proofs.FieldLaws.{RuleRead, DefinitionRead, FieldLaw, field-law}
 

@@ -1,6 +1,6 @@
 -- What the answer of `read_table` says of the table: by the two cases of a result. Later code that walks over a table begins here.
 -- Assumes nothing.
-use mathlib.Core.Path.{_≡_, refl, subst}
+use mathlib.Core.Path.{_≡_, subst}
 use mathlib.Core.List.{List}
 use Prim.Native.Nat.{ℕ}
 use native.Mathlib.Omega.{arith}

@@ -1,6 +1,6 @@
 -- Two members of a list of which every two, one before the other, agree are one and the same: by induction over the list. So a table without 6 has no two rules of one name and goal, and one without 8 no tactic with two bodies.
 -- Assumes nothing.
-use mathlib.Core.Path.{_≡_, refl, sym, subst, ap, _∙_}
+use mathlib.Core.Path.{_≡_, refl, sym, ap, _∙_}
 use mathlib.Core.Logic.{_⊎_, inl, inr}
 use mathlib.Core.List.{List, [], _∷_, _++_, List·Memᴰ, List·Memᴰ·not-nil, List·Memᴰ·cases-cons}
 use Rattle.tables.specs.Tables.{Rule, Definition, Table, UniqueRules, UniqueDefinitions}

@@ -13,12 +13,11 @@ use Rattle.format.specs.Limits.{mostBytes}
 use Rattle.format.specs.Refusals.{number}
 use Rattle.format.specs.Results.{Result, gives, refused, andThen, told}
 use Rattle.format.proofs.ResultLaws.{told-refused}
-use Rattle.tables.specs.declared.fields.TableRead.{TableRead}
 use Rattle.tables.specs.declared.fields.TableRead.the-variants as R
 use Rattle.tables.specs.declared.repeats.Clash.{Clash}
 use Rattle.tables.specs.declared.repeats.Clash.the-variants as C
 use Rattle.tables.specs.Tables.{Table}
-use Rattle.tables.specs.Repeats.{rulesSize, placedRules, placedTactics, labelsOf, firstClash, repeatsRule, recountsRule, repeatsTactic, repeatsLabel, refuseAt, wholeTable}
+use Rattle.tables.specs.Repeats.{rulesSize, placedRules, placedTactics, labelsOf, firstClash, repeatsTactic, repeatsLabel, refuseAt, wholeTable}
 use Rattle.tables.specs.ReadTables.{readFields, readTable}
 use Rattle.tables.specs.Shapes.{tableShape}
 use Rattle.tables.specs.Standing.{RuleStands, TableStands}

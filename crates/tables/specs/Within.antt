@@ -3,12 +3,11 @@ use Prim.Native.Nat.{ℕ, _+_, _≤_, _<_}
 use mathlib.Core.Path.{_≡_}
 use mathlib.Core.List.{List, [], _∷_, _++_}
 use lib.ListN.{length}
-use Rattle.format.specs.declared.values.Label.{Label}
 use Rattle.format.specs.Limits.{mostBytes, mostRules, mostDefinitions, mostTermFields}
 use Rattle.format.specs.Terms.{fields}
 use Rattle.format.specs.Encoding.{GoalValues, TermValues}
 use Rattle.tables.specs.Tables.{Rule, Definition, Table}
-use Rattle.tables.specs.Repeats.{Placed, rulesSize, labelsOf}
+use Rattle.tables.specs.Repeats.{rulesSize, labelsOf}
 use Rattle.tables.specs.TableBytes.{tableBytes}
 
 -- term fields of all bodies

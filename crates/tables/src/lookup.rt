@@ -33,7 +33,9 @@ fn carries(table: &[u8], at: usize, name: RuleName, goal: Goal) -> bool
     let here = rule_name_at(table, at + 3);
     if name.0 == here.0 {
         let on = goal_at(table, at + 5);
-        return goal.0 == on.0;
+        let wanted = goal.0;
+        let carried = on.0;
+        return wanted == carried;
     }
     false
 }

@@ -1,6 +1,6 @@
 -- `lookup::carries` meets its contract: the tests of the name and of the goal are those of `isCarried`.
 -- Assumes nothing.
-use mathlib.Core.Path.{_≡_, sym, _∙_}
+use mathlib.Core.Path.{sym, _∙_}
 use borrow.Author.Needs.{needs}
 use borrow.Author.Tests.{eq-eqb, ne-eqb}
 use Rattle.tables.specs.Found.{isCarried}
@@ -21,7 +21,7 @@ goal-at-requires c κs = search needs
 
 returns : tie.Need-returns
 unfolding isCarried
-returns c = simp (eq-eqb _ _ (c .before .before .before .if1 .taken ∙ c .before .before .before .before .before .before .rule-name-at .ensures), ← c .before .before .goal-at .ensures)
+returns c = simp (eq-eqb _ _ (c .before .if1 .taken ∙ c .before .before .before .before .rule-name-at .ensures), ← c .goal-at .ensures)
 
 returns-2 : tie.Need-returns-2
 unfolding isCarried

@@ -1,14 +1,12 @@
 -- `lookup::find_body` meets its contract. The invariant: what the search finds in the definitions of a table is what it finds in those from here on.
 -- Assumes nothing.
-use mathlib.Core.Path.{_≡_, refl, sym, subst, _∙_}
-use mathlib.Core.Option.{Option}
+use mathlib.Core.Path.{_≡_, refl, sym, _∙_}
 use mathlib.Core.List.{List}
-use Prim.Native.Nat.{ℕ, _+_, _-_, _≤_, _<_}
+use Prim.Native.Nat.{_-_}
 use native.Mathlib.Omega.{arith}
 use denote.Ref.{now}
 use lib.ListN.{length}
 use borrow.Author.Needs.{needs}
-use Rattle.format.specs.Terms.{Term}
 use Rattle.tables.specs.Tables.{Definition, Table}
 use Rattle.tables.specs.Lookup.{findBodyIn, findBody}
 use Rattle.tables.specs.Standing.{DefinitionsStand, TableStands}

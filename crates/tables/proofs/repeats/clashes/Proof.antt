@@ -10,7 +10,7 @@ use lib.Dec.{eqb}
 use lib.ListN.{length, getD}
 use borrow.Author.Needs.{needs}
 use Rattle.tables.specs.Search.{searchedTag}
-use Rattle.tables.proofs.SearchLaws.{silent, value-inside, goal-inside, other-value, by-besides, for-goal, for-length, for-value}
+use Rattle.tables.proofs.SearchLaws.{silent, value-inside, goal-inside, other-value, same-value, for-goal, for-length, for-value}
 use Rattle.tables.proofs.repeats.clashes.Statement.{statement}
 use Rattle.tables.proofs.repeats.clashes.Tie as tie
 
@@ -82,7 +82,7 @@ load16-requires-4 c κs = omega (arith, seven (c .before .before .before .before
 returns-4 : tie.Need-returns-4
 returns-4 c =
     ap₂ (λ (a b : ℕ). eqb a b) (c .before .load163 .ensures) (c .load164 .ensures)
-    ∙ sym (by-besides _ _ _ _ (here (c .before .before .before .before .before .before)) (there (c .before .before .before .before .before .before)) (sym (c .before .before .before .before .before .load16 .ensures) ∙ c .before .before .before .if3 .left ∙ c .before .before .before .before .load162 .ensures) ∙ for-goal _ _ _ _ (c .before .before .if4 .taken))
+    ∙ sym (same-value _ _ _ _ (here (c .before .before .before .before .before .before)) (there (c .before .before .before .before .before .before)) (sym (c .before .before .before .before .before .load16 .ensures) ∙ c .before .before .before .if3 .left ∙ c .before .before .before .before .load162 .ensures) ∙ for-goal _ _ _ _ (c .before .before .if4 .taken))
 
 add-load16-5 : tie.Need-add-load16-5
 add-load16-5 c = search needs
@@ -99,10 +99,10 @@ load16-requires-6 c κs = search needs
 returns-5 : tie.Need-returns-5
 returns-5 c =
     ap₂ (λ (a b : ℕ). not (eqb a b)) (c .before .load165 .ensures) (c .load166 .ensures)
-    ∙ sym (by-besides _ _ _ _ (here (c .before .before .before .before .before .before .before)) (there (c .before .before .before .before .before .before .before)) (sym (c .before .before .before .before .before .before .load16 .ensures) ∙ c .before .before .before .before .if3 .left ∙ c .before .before .before .before .before .load162 .ensures) ∙ for-length _ _ _ _ (c .before .before .before .if4 .left) (c .before .before .if5 .taken))
+    ∙ sym (same-value _ _ _ _ (here (c .before .before .before .before .before .before .before)) (there (c .before .before .before .before .before .before .before)) (sym (c .before .before .before .before .before .before .load16 .ensures) ∙ c .before .before .before .before .if3 .left ∙ c .before .before .before .before .before .load162 .ensures) ∙ for-length _ _ _ _ (c .before .before .before .if4 .left) (c .before .before .if5 .taken))
 
 returns-6 : tie.Need-returns-6
-returns-6 c = sym (by-besides _ _ _ _ (here (c .before .before .before .before .before)) (there (c .before .before .before .before .before)) (sym (c .before .before .before .before .load16 .ensures) ∙ c .before .before .if3 .left ∙ c .before .before .before .load162 .ensures) ∙ for-value _ _ _ _ (c .before .if4 .left) (c .if5 .left))
+returns-6 c = sym (same-value _ _ _ _ (here (c .before .before .before .before .before)) (there (c .before .before .before .before .before)) (sym (c .before .before .before .before .load16 .ensures) ∙ c .before .before .if3 .left ∙ c .before .before .before .load162 .ensures) ∙ for-value _ _ _ _ (c .before .if4 .left) (c .if5 .left))
 
 pub clashes-spec : {M : Type 1} → statement M
 clashes-spec =

@@ -1,11 +1,10 @@
 -- `repeats::first_clash` meets its contract. The invariant: the first clash of all these headers is the first from here on, after the headers seen.
 -- Assumes nothing.
-use mathlib.Core.Path.{_≡_, refl, sym, _∙_}
+use mathlib.Core.Path.{_≡_, refl, _∙_}
 use mathlib.Core.List.{List, []}
-use Prim.Native.Nat.{ℕ, _+_, _-_, _≤_, _<_}
+use Prim.Native.Nat.{ℕ, _+_, _-_, _≤_}
 use native.Mathlib.Omega.{arith}
 use denote.Ref.{now}
-use borrow.Author.Needs.{needs}
 use Rattle.tables.specs.Repeats.{firstClash}
 use Rattle.tables.specs.Standing.{InRow}
 use Rattle.tables.specs.Search.{stepAt, Room, clashAt, Headers, places, clashTold}

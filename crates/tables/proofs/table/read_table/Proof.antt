@@ -3,13 +3,9 @@
 use mathlib.Core.Path.{_≡_, refl, sym, ap, _∙_}
 use mathlib.Core.Option.{none}
 use mathlib.Core.List.{List}
-use Prim.Native.Nat.{ℕ, _≤_}
-use native.Mathlib.Omega.{arith}
+use Prim.Native.Nat.{ℕ}
 use denote.Ref.{now}
-use lib.ListN.{length}
 use borrow.Author.Needs.{needs}
-use Rattle.format.specs.Limits.{mostBytes}
-use Rattle.tables.specs.declared.fields.TableRead.{TableRead}
 use Rattle.tables.specs.Tables.{Table}
 use Rattle.tables.specs.Repeats.{wholeTable}
 use Rattle.tables.specs.ReadTables.{readTable}
