@@ -1,0 +1,4 @@
+// The check program, run by the gate on the first proof of document 01: it is accepted.
+fn main() {
+    check_kit::run();
+}
