@@ -1,0 +1,251 @@
+-- The promises of check: by the cases of reading both files, of the walk and of the comparison of the remaining goals, each of which the rules decide.
+-- Assumes nothing.
+use Prim.Native.Nat.{ℕ, _+_, _≤_, _<_}
+use native.Mathlib.Omega.{arith}
+use native.Mathlib.Decide.{decLt}
+use mathlib.Core.Path.{_≡_, refl, sym, subst, ap, _∙_}
+use mathlib.Core.Bool.{Bool, true, false, cond, _&&_, false≢true}
+use mathlib.Core.Logic.{_⊎_, inl, inr, _↔_}
+use mathlib.Core.List.{List, [], _∷_}
+use lib.Dec.{eqb}
+use lib.ListN.{length, replicate}
+use borrow.Author.Tests.{lt-ltb, le-ltb, eqb-true, eq-eqb}
+use Rattle.format.specs.declared.values.Goal.{Goal}
+use Rattle.format.specs.Refusals.{Cause, number, remainingDiffer}
+use Rattle.format.specs.Results.{Result, gives, refused, andThen}
+use Rattle.format.specs.Terms.{size, fields, Hiproof}
+use Rattle.format.proofs.ResultLaws.{number-positive, same-place, same-cause, never-gives, same-value}
+use Rattle.tables.specs.Tables.{Table, HasRule, UniqueRules}
+use Rattle.tables.specs.ReadTables.{readTable}
+use Rattle.tables.proofs.ReadsTable.{reads-unique-rules}
+use Rattle.tables.proofs.RefusedTable.{table-place}
+use Rattle.files.specs.Proofs.{Proof, readProof, termPlace, remainingPlace}
+use Rattle.files.proofs.RefusedFiles.{Proof-refused}
+use Rattle.files.proofs.WhatStands.{proof-stands}
+use Rattle.hitac.specs.Hiproofs.{atomics}
+use Rattle.hitac.specs.Validates.{AtMost256, Validates}
+use Rattle.hitac.specs.Stops.{Stops}
+use Rattle.hitac.specs.Walk.{walk}
+use Rattle.hitac.proofs.WalkValidates.{walk↔validates}
+use Rattle.hitac.proofs.WalkStops.{walk↔stops}
+use Rattle.hitac.proofs.StopPlaces.{walk-number, walk-place}
+use Rattle.answers.specs.declared.Answer.{Answer}
+use Rattle.answers.specs.Answers as answer
+use Rattle.entries.specs.Outcomes.{Outcome, inFile, done, tableFile, otherFile}
+use Rattle.entries.specs.LentSpace.{Counts, countedAnswer, Checked, checkIn}
+use Rattle.entries.specs.Check.{sameGoals, remainingAre, checked, onProof, proofCounts, checkWork, check}
+use Rattle.promises.specs.Accepted.{Accepted}
+use Rattle.promises.specs.CheckPromises.{Check-accepts, Check-counts, Refuses, Check-refuses, CheckEnds, ends-accepted, ends-table, ends-proof, ends-invalid, ends-unstarted, Ends, Check-ends}
+
+-- the comparison of goals is equality
+both-true : (b c : Bool) → (b && c) ≡ true → (b ≡ true) × (c ≡ true)
+both-true true c e = (refl, e)
+both-true false c e = absurd (false≢true e)
+
+same-equal : (g h : List Goal) → sameGoals g h ≡ true → g ≡ h
+unfolding sameGoals
+same-equal [] [] e = refl
+same-equal [] (δ ∷ h) e = absurd (false≢true e)
+same-equal (γ ∷ g) [] e = absurd (false≢true e)
+same-equal (γ ∷ g) (δ ∷ h) e =
+    let b = both-true (eqb (γ .0) (δ .0)) (sameGoals g h) e in
+    let n = eqb-true (γ .0) (δ .0) (b .0) in
+    let r = same-equal g h (b .1) in
+    λ i. record { 0 = n i } ∷ r i
+
+equal-same : (g : List Goal) → sameGoals g g ≡ true
+unfolding sameGoals
+equal-same [] = refl
+equal-same (γ ∷ g) = rw (eq-eqb (γ .0) (γ .0) refl, equal-same g)
+
+-- the answer, once the work space is long enough
+answered : (t p w : List ℕ) → checkWork ≤ length w → check t p w .answer ≡ countedAnswer (onProof proofCounts t p)
+unfolding check checkIn
+answered t p w h = rw (le-ltb (length w) checkWork h)
+
+-- what the answer is, by the cases of both files
+table-refuses : (t p : List ℕ) {c : Cause} {q : ℕ} → readTable t ≡ refused c q → countedAnswer (onProof proofCounts t p) ≡ answer.refusal (number c) 1 q 0
+unfolding onProof
+table-refuses t p e = rw e
+
+proof-refuses : (t p : List ℕ) {T : Table} {c : Cause} {q : ℕ} → readTable t ≡ gives T → readProof p ≡ refused c q → countedAnswer (onProof proofCounts t p) ≡ answer.refusal (number c) 2 q 0
+unfolding onProof
+proof-refuses t p e f = rw (e, f)
+
+module _ (t p : List ℕ) (T : Table) (x : Proof) (e : readTable t ≡ gives T) (f : readProof p ≡ gives x) where
+  abbrev walked : Result (List Goal)
+  walked = walk T (x .term) (termPlace x) (x .goals)
+
+  walk-refuses : {c : Cause} {q : ℕ} → walked ≡ refused c q → countedAnswer (onProof proofCounts t p) ≡ answer.refusal (number c) 2 q 0
+  unfolding onProof checked andThen
+  walk-refuses g = rw (e, f, g)
+
+  accepts : (h : List Goal) → walked ≡ gives h → sameGoals h (x .remaining) ≡ true → countedAnswer (onProof proofCounts t p) ≡ answer.counted (fields (x .term)) (atomics (x .term)) (length (x .remaining))
+  unfolding onProof checked andThen remainingAre proofCounts
+  accepts h g s = rw (e, f, g, s)
+
+  differs : (h : List Goal) → walked ≡ gives h → sameGoals h (x .remaining) ≡ false → countedAnswer (onProof proofCounts t p) ≡ answer.refusal 21 2 (remainingPlace x) 0
+  unfolding onProof checked andThen remainingAre number
+  differs h g s = rw (e, f, g, s)
+
+  unique : UniqueRules T
+  unique = reads-unique-rules t T e
+
+  hiproof : Hiproof (x .term)
+  hiproof = proof-stands p x f .hiproof
+
+  validated : (h : List Goal) → (walked ≡ gives h) ↔ Validates (HasRule T) AtMost256 (x .term) (x .goals) h
+  validated h = walk↔validates T unique (x .term) (termPlace x) (x .goals) h
+
+  stopped-at : (n q : ℕ) → Stops (HasRule T) (x .term) (termPlace x) (x .goals) n q ↔ ((c : Cause) × (walked ≡ refused c q) × (number c ≡ n))
+  stopped-at n q = walk↔stops T unique (x .term) hiproof (termPlace x) (x .goals) n q
+
+positive : (c : Cause) (f q k : ℕ) (a : Answer) → a ≡ answer.refusal (number c) f q k → a .number ≡ 0 → ⊥
+positive c f q k a e z = omega (arith, number-positive c, ap (λ (b : Answer). b .number) e)
+
+module _ (t p : List ℕ) where
+  abbrev A : Answer
+  A = countedAnswer (onProof proofCounts t p)
+
+  -- answer 0: by the three cases in turn
+  compare : (T : Table) (x : Proof) → readTable t ≡ gives T → readProof p ≡ gives x → (h : List Goal) → walk T (x .term) (termPlace x) (x .goals) ≡ gives h → (b : Bool) → sameGoals h (x .remaining) ≡ b → A .number ≡ 0 → Accepted t p
+  compare T x e f h g true s z = record {
+    the-table = T;
+    the-proof = x;
+    table-reads = e;
+    proof-reads = f;
+    validates = validated t p T x e f (x .remaining) .0 (g ∙ ap gives (same-equal h (x .remaining) s));
+  }
+  compare T x e f h g false s z = absurd (omega (arith, ap (λ (b : Answer). b .number) (differs t p T x e f h g s)))
+
+  walk-case : (T : Table) (x : Proof) → readTable t ≡ gives T → readProof p ≡ gives x → (r : Result (List Goal)) → walk T (x .term) (termPlace x) (x .goals) ≡ r → A .number ≡ 0 → Accepted t p
+  walk-case T x e f (gives h) g z = compare T x e f h g (sameGoals h (x .remaining)) refl z
+  walk-case T x e f (refused c q) g z = absurd (positive c 2 q 0 A (walk-refuses t p T x e f g) z)
+
+  proof-case : (T : Table) → readTable t ≡ gives T → (r : Result Proof) → readProof p ≡ r → A .number ≡ 0 → Accepted t p
+  proof-case T e (gives x) f z = walk-case T x e f (walk T (x .term) (termPlace x) (x .goals)) refl z
+  proof-case T e (refused c q) f z = absurd (positive c 2 q 0 A (proof-refuses t p e f) z)
+
+  table-case : (r : Result Table) → readTable t ≡ r → A .number ≡ 0 → Accepted t p
+  table-case (gives T) e z = proof-case T e (readProof p) refl z
+  table-case (refused c q) e z = absurd (positive c 1 q 0 A (table-refuses t p e) z)
+
+  accepted-answer : (a : Accepted t p) → A ≡ answer.counted (fields (a .the-proof .term)) (atomics (a .the-proof .term)) (length (a .the-proof .remaining))
+  accepted-answer a =
+      let x = a .the-proof in
+      accepts t p (a .the-table) x (a .table-reads) (a .proof-reads) (x .remaining) (validated t p (a .the-table) x (a .table-reads) (a .proof-reads) (x .remaining) .1 (a .validates)) (equal-same (x .remaining))
+
+pub check-accepts : Check-accepts
+check-accepts t p w h = (
+  (λ z. table-case t p (readTable t) refl (sym (ap (λ (a : Answer). a .number) (answered t p w h)) ∙ z)),
+  (λ a. ap (λ (b : Answer). b .number) (answered t p w h ∙ accepted-answer t p a)),
+)
+
+pub check-counts : Check-counts
+check-counts t p w h a = answered t p w h ∙ accepted-answer t p a
+
+-- 20, 21, 22
+module _ (t p w : List ℕ) (T : Table) (x : Proof) (h : checkWork ≤ length w) (e : readTable t ≡ gives T) (f : readProof p ≡ gives x) where
+  abbrev result : Result (List Goal)
+  result = walk T (x .term) (termPlace x) (x .goals)
+
+  the-stop : (n q : ℕ) → (n ≡ 20) ⊎ (n ≡ 22) → A t p ≡ answer.refusal n 2 q 0 → (r : Result (List Goal)) → result ≡ r → (c : Cause) × (result ≡ refused c q) × (number c ≡ n)
+  the-stop n q k a (refused c q′) g =
+      let b = sym (walk-refuses t p T x e f g) ∙ a in
+      let m : q′ ≡ q = ap (λ (y : Answer). y .place) b in
+      (c, g ∙ ap (refused c) m, ap (λ (y : Answer). y .number) b)
+  the-stop n q k a (gives l) g = by-comparison (sameGoals l (x .remaining)) refl k
+    where
+      by-comparison : (b : Bool) → sameGoals l (x .remaining) ≡ b → (n ≡ 20) ⊎ (n ≡ 22) → (c : Cause) × (result ≡ refused c q) × (number c ≡ n)
+      by-comparison true s (inl m) = absurd (omega (arith, ap (λ (y : Answer). y .number) (sym (accepts t p T x e f l g s) ∙ a)))
+      by-comparison true s (inr m) = absurd (omega (arith, ap (λ (y : Answer). y .number) (sym (accepts t p T x e f l g s) ∙ a)))
+      by-comparison false s (inl m) = absurd (omega (arith, ap (λ (y : Answer). y .number) (sym (differs t p T x e f l g s) ∙ a)))
+      by-comparison false s (inr m) = absurd (omega (arith, ap (λ (y : Answer). y .number) (sym (differs t p T x e f l g s) ∙ a)))
+
+  other-list : (l : List Goal) → (l ≡ x .remaining → ⊥) → (b : Bool) → sameGoals l (x .remaining) ≡ b → sameGoals l (x .remaining) ≡ false
+  other-list l ne true s = absurd (ne (same-equal l (x .remaining) s))
+  other-list l ne false s = s
+
+  not-same : (l : List Goal) → sameGoals l (x .remaining) ≡ false → l ≡ x .remaining → ⊥
+  not-same l s m = false≢true (sym s ∙ ap (λ (g : List Goal). sameGoals g (x .remaining)) m ∙ equal-same (x .remaining))
+
+  the-list : A t p .number ≡ 21 → (r : Result (List Goal)) → result ≡ r → (l : List Goal) × Validates (HasRule T) AtMost256 (x .term) (x .goals) l × (l ≡ x .remaining → ⊥)
+  the-list a (refused c q) g = absurd (no-21 (walk-number T (x .term) (hiproof t p T x e f) (termPlace x) (x .goals) g) (sym (ap (λ (y : Answer). y .number) (walk-refuses t p T x e f g)) ∙ a))
+    where
+      no-21 : (number c ≡ 20) ⊎ (number c ≡ 22) → number c ≡ 21 → ⊥
+      no-21 (inl m) n = omega arith
+      no-21 (inr m) n = omega arith
+  the-list a (gives l) g = by-comparison (sameGoals l (x .remaining)) refl
+    where
+      by-comparison : (b : Bool) → sameGoals l (x .remaining) ≡ b → (l : List Goal) × Validates (HasRule T) AtMost256 (x .term) (x .goals) l × (l ≡ x .remaining → ⊥)
+      by-comparison true s = absurd (omega (arith, a, ap (λ (y : Answer). y .number) (accepts t p T x e f l g s)))
+      by-comparison false s = (l, validated t p T x e f l .0 g, not-same l s)
+
+  refuses : Refuses t p w T x
+  refuses = record {
+    stops = λ n q s.
+        let (c, g, m) = stopped-at t p T x e f n q .0 s in
+        answered t p w h ∙ walk-refuses t p T x e f g ∙ ap (λ (k : ℕ). answer.refusal k 2 q 0) m;
+    stopped = λ n q k a. stopped-at t p T x e f n q .1 (the-stop n q k (sym (answered t p w h) ∙ a) result refl);
+    differs = λ l v ne. answered t p w h ∙ differs t p T x e f l (validated t p T x e f l .1 v) (other-list l ne (sameGoals l (x .remaining)) refl);
+    differed = λ a. the-list (sym (ap (λ (y : Answer). y .number) (answered t p w h)) ∙ a) result refl;
+  }
+
+pub check-refuses : Check-refuses
+check-refuses t p w T x h e f = refuses t p w T x h e f
+
+-- the remaining list stands behind the term
+remaining-behind : (x : Proof) → termPlace x + size (x .term) ≡ remainingPlace x
+unfolding remainingPlace
+remaining-behind x = refl
+
+-- demand 1
+module _ (t p : List ℕ) where
+  abbrev E : Answer → Type 0
+  E = CheckEnds t p
+
+  told : {a b : Answer} → a ≡ b → E b → E a
+  told e x = subst E (sym e) x
+
+  end-compare : (T : Table) (x : Proof) → readTable t ≡ gives T → readProof p ≡ gives x → (l : List Goal) → walk T (x .term) (termPlace x) (x .goals) ≡ gives l → (b : Bool) → sameGoals l (x .remaining) ≡ b → E (A t p)
+  end-compare T x e f l g true s = told (accepts t p T x e f l g s) (ends-accepted _ _ _)
+  end-compare T x e f l g false s = told (differs t p T x e f l g s) (ends-invalid 21 (remainingPlace x) (omega arith) (omega arith) (omega (arith, proof-stands p x f .end-is)))
+
+  end-walk : (T : Table) (x : Proof) → readTable t ≡ gives T → readProof p ≡ gives x → (r : Result (List Goal)) → walk T (x .term) (termPlace x) (x .goals) ≡ r → E (A t p)
+  end-walk T x e f (gives l) g = end-compare T x e f l g (sameGoals l (x .remaining)) refl
+  end-walk T x e f (refused c q) g =
+      let y = hiproof t p T x e f in
+      told (walk-refuses t p T x e f g)
+      (in-range c q (walk-number T (x .term) y (termPlace x) (x .goals) g) (omega (arith, walk-place T (x .term) y (termPlace x) (x .goals) g, proof-stands p x f .end-is, remaining-behind x)))
+    where
+      in-range : (c : Cause) (q : ℕ) → (number c ≡ 20) ⊎ (number c ≡ 22) → q < length p → E (answer.refusal (number c) 2 q 0)
+      in-range c q (inl m) l = ends-invalid (number c) q (omega arith) (omega arith) l
+      in-range c q (inr m) l = ends-invalid (number c) q (omega arith) (omega arith) l
+
+  end-proof : (T : Table) → readTable t ≡ gives T → (r : Result Proof) → readProof p ≡ r → E (A t p)
+  end-proof T e (gives x) f = end-walk T x e f (walk T (x .term) (termPlace x) (x .goals)) refl
+  end-proof T e (refused c q) f = let r = Proof-refused p c q f in told (proof-refuses t p e f) (ends-proof (number c) q (r .least) (r .most) (r .within))
+
+  end-table : (r : Result Table) → readTable t ≡ r → E (A t p)
+  end-table (gives T) e = end-proof T e (readProof p) refl
+  end-table (refused c q) e = let r = table-place t c q e in told (table-refuses t p e) (ends-table (number c) q (r .least) (r .most) (r .within))
+
+-- by the test of the work space
+kept-29 : (t p w : List ℕ) → length w < checkWork → (check t p w .answer ≡ answer.refusal 29 0 0 0) × (check t p w .work ≡ w)
+unfolding check checkIn number
+kept-29 t p w h = (rw (lt-ltb (length w) checkWork h), rw (lt-ltb (length w) checkWork h))
+
+cleared : (t p w : List ℕ) → checkWork ≤ length w → check t p w .work ≡ replicate (length w) 0
+unfolding check checkIn
+cleared t p w h = rw (le-ltb (length w) checkWork h)
+
+pub check-ends : Check-ends
+check-ends t p w = record {
+  answers = by-space (decLt (length w) checkWork);
+  clears = cleared t p w;
+  keeps = kept-29 t p w;
+}
+  where
+    by-space : Dec (length w < checkWork) → CheckEnds t p (check t p w .answer)
+    by-space (yes h) = subst (CheckEnds t p) (sym (kept-29 t p w h .0)) ends-unstarted
+    by-space (no h) = subst (CheckEnds t p) (sym (answered t p w (omega arith))) (end-table t p (readTable t) refl)
