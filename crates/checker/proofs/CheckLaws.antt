@@ -22,7 +22,7 @@ use Rattle.tables.specs.ReadTables.{readTable}
 use Rattle.files.specs.Proofs.{Proof, readProof, termPlace, remainingPlace}
 use Rattle.files.specs.Standing.{ProofStands}
 use Rattle.files.proofs.WhatStands.{proof-stands}
-use Rattle.files.proofs.Sizes.{Proof-size}
+use Rattle.files.proofs.Sizes.{proof-size}
 use Rattle.hitac.specs.Hiproofs.{atomics}
 use Rattle.hitac.specs.Walk.{walk}
 use Rattle.answers.specs.declared.Answer.{Answer}
@@ -63,11 +63,11 @@ module _ (s : List ℕ) (p : Proof) (e : readProof s ≡ gives p) where
         goals-inside = omega (arith, st .goals-stand .head);
         remaining = st .remaining-stand .few;
         remaining-inside = omega (arith, st .end-is);
-        file = Proof-size s p e;
+        file = proof-size s p e;
         term-inside = omega (arith, st .end-is);
         uses = omega (arith, st .few-fields, atomics-fields (p .term));
         term-fields = st .few-fields;
-        arities-below = omega (arith, st .end-is, Proof-size s p e);
+        arities-below = omega (arith, st .end-is, proof-size s p e);
       }
 
 -- the walk of a proof's term, on its goals at the end of a work space where its arities are noted

@@ -49,12 +49,12 @@ module _ (s : List ℕ) (bytes : Bytes s) (d : Derivation) where
       let st : EntriesStand s at (length s) (d .entries) = entries-lie s (d .entries) at (length s) [] all (w .entry-values) (b .1 ∙ sym (append-nil es)) in
       b .0 ∙ rw (entries-read (d .entries) (length s + 1) s at 0 0 st (omega (arith, w .few-uses)) (omega (arith, w .few-opens)) (omega (arith, all, count-entries (d .entries))))
 
-pub Reads-flat : (s : List ℕ) (d : Derivation) → Bytes s → (readFlat s ≡ gives d) ↔ ((s ≡ flatBytes d) × FlatWithin d)
-Reads-flat s d bytes = (λ e. flat-encoded s bytes d (flat-stands s d e), λ q. flat-decoded s bytes d (q .0) (q .1))
+pub reads-flat : (s : List ℕ) (d : Derivation) → Bytes s → (readFlat s ≡ gives d) ↔ ((s ≡ flatBytes d) × FlatWithin d)
+reads-flat s d bytes = (λ e. flat-encoded s bytes d (flat-stands s d e), λ q. flat-decoded s bytes d (q .0) (q .1))
 
 -- encoding, then reading, gives the derivation back
-pub Flat-back : (d : Derivation) → FlatWithin d → readFlat (flatBytes d) ≡ gives d
-Flat-back d w = Reads-flat (flatBytes d) d bytes .1 (refl, w)
+pub flat-back : (d : Derivation) → FlatWithin d → readFlat (flatBytes d) ≡ gives d
+flat-back d w = reads-flat (flatBytes d) d bytes .1 (refl, w)
   where
     bytes : Bytes (flatBytes d)
     bytes = unfold flatBytes in append-bytes (goalListBytes (d .roots)) (entriesBytes (d .entries)) (list-is-bytes (d .roots) (w .root-values) (omega (arith, w .few-roots))) (entries-are-bytes (d .entries) (w .entry-values))

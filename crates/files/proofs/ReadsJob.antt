@@ -56,12 +56,12 @@ module _ (s : List ℕ) (bytes : Bytes s) (j : Job) where
       let term = bytes-read s bytes tacticKind (omega arith) (j .term) (length s + 1) at (length s) 0 [] (w .term-values) (omega (arith, most, all)) (b .1 ∙ sym (append-nil t)) (λ h. absurd (omega arith)) (omega (arith, all)) (omega (arith, w .few-fields)) (omega (arith, all)) in
       b .0 ∙ rw (term, eq-eqb (at + size (j .term)) (length s) (sym all))
 
-pub Reads-job : (s : List ℕ) (j : Job) → Bytes s → (readJob s ≡ gives j) ↔ ((s ≡ jobBytes j) × JobWithin j)
-Reads-job s j bytes = (λ e. job-encoded s bytes j (job-stands s j e), λ q. job-decoded s bytes j (q .0) (q .1))
+pub reads-job : (s : List ℕ) (j : Job) → Bytes s → (readJob s ≡ gives j) ↔ ((s ≡ jobBytes j) × JobWithin j)
+reads-job s j bytes = (λ e. job-encoded s bytes j (job-stands s j e), λ q. job-decoded s bytes j (q .0) (q .1))
 
 -- encoding, then reading, gives the job back
-pub Job-back : (j : Job) → JobWithin j → readJob (jobBytes j) ≡ gives j
-Job-back j w = Reads-job (jobBytes j) j bytes .1 (refl, w)
+pub job-back : (j : Job) → JobWithin j → readJob (jobBytes j) ≡ gives j
+job-back j w = reads-job (jobBytes j) j bytes .1 (refl, w)
   where
     bytes : Bytes (jobBytes j)
     bytes = unfold jobBytes in append-bytes (goalListBytes (j .goals)) (termBytes (j .term)) (list-is-bytes (j .goals) (w .goal-values) (omega (arith, w .few-goals))) (term-is-bytes (j .term) (w .term-values) (omega (arith, size-most (j .term), w .few-fields)))

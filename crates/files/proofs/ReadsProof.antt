@@ -64,12 +64,12 @@ module _ (s : List ℕ) (bytes : Bytes s) (p : Proof) where
       let rest = list-read s to (length s) (p .remaining) [] (w .remaining-values) (w .few-remaining) (behind-term s at (p .term) r (b .1) ∙ sym (append-nil r)) (omega (arith, all)) in
       b .0 ∙ rw (term, rest .0, eq-eqb (to + 3 + length (p .remaining) * 2) (length s) (sym all))
 
-pub Reads-proof : (s : List ℕ) (p : Proof) → Bytes s → (readProof s ≡ gives p) ↔ ((s ≡ proofBytes p) × ProofWithin p)
-Reads-proof s p bytes = (λ e. proof-encoded s bytes p (proof-stands s p e), λ q. proof-decoded s bytes p (q .0) (q .1))
+pub reads-proof : (s : List ℕ) (p : Proof) → Bytes s → (readProof s ≡ gives p) ↔ ((s ≡ proofBytes p) × ProofWithin p)
+reads-proof s p bytes = (λ e. proof-encoded s bytes p (proof-stands s p e), λ q. proof-decoded s bytes p (q .0) (q .1))
 
 -- encoding, then reading, gives the proof back
-pub Proof-back : (p : Proof) → ProofWithin p → readProof (proofBytes p) ≡ gives p
-Proof-back p w = Reads-proof (proofBytes p) p bytes .1 (refl, w)
+pub proof-back : (p : Proof) → ProofWithin p → readProof (proofBytes p) ≡ gives p
+proof-back p w = reads-proof (proofBytes p) p bytes .1 (refl, w)
   where
     bytes : Bytes (proofBytes p)
     bytes =

@@ -60,20 +60,20 @@ unfolding entriesPlace
 flat-most d w = omega (arith, length-flatBytes d, w .few-roots, w .few-uses, w .few-opens)
 
 -- of a file that reads
-pub Proof-size : (s : List ℕ) (p : Proof) → readProof s ≡ gives p → length s ≤ 21510
+pub proof-size : (s : List ℕ) (p : Proof) → readProof s ≡ gives p → length s ≤ 21510
 unfolding remainingPlace termPlace
-Proof-size s p e =
+proof-size s p e =
     let st = proof-stands s p e in
     omega (arith, st .end-is, size-most (p .term), st .goals-stand .few, st .few-fields, st .remaining-stand .few)
 
-pub Job-size : (s : List ℕ) (j : Job) → readJob s ≡ gives j → length s ≤ 20995
+pub job-size : (s : List ℕ) (j : Job) → readJob s ≡ gives j → length s ≤ 20995
 unfolding jobTermPlace
-Job-size s j e =
+job-size s j e =
     let st = job-stands s j e in
     omega (arith, st .end-is, size-most (j .term), st .goals-stand .few, st .few-fields)
 
-pub Flat-size : (s : List ℕ) (d : Derivation) → readFlat s ≡ gives d → length s ≤ 30467
+pub flat-size : (s : List ℕ) (d : Derivation) → readFlat s ≡ gives d → length s ≤ 30467
 unfolding entriesPlace
-Flat-size s d e =
+flat-size s d e =
     let st = flat-stands s d e in
     omega (arith, entries-end s (d .entries) (entriesPlace d) (length s) (st .entries-stand), st .roots-stand .few, st .few-uses, st .few-opens)
