@@ -2,14 +2,13 @@
 -- Assumes nothing.
 use Prim.Native.Nat.{ℕ, _+_, _≤_, _<_}
 use native.Mathlib.Omega.{arith}
-use native.Mathlib.Decide.{decLt}
 use mathlib.Core.Path.{_≡_, refl, sym, subst, ap, _∙_}
 use mathlib.Core.Bool.{Bool, true, false, cond, _&&_, false≢true}
 use mathlib.Core.Logic.{_⊎_, inl, inr, _↔_}
 use mathlib.Core.List.{List, [], _∷_}
 use lib.Dec.{eqb}
-use lib.ListN.{length, replicate}
-use borrow.Author.Tests.{lt-ltb, le-ltb, eqb-true, eq-eqb}
+use lib.ListN.{length}
+use borrow.Author.Tests.{eqb-true, eq-eqb}
 use Rattle.format.specs.declared.values.Goal.{Goal}
 use Rattle.format.specs.Refusals.{Cause, number, remainingDiffer}
 use Rattle.format.specs.Results.{Result, gives, refused, andThen}
@@ -32,10 +31,13 @@ use Rattle.hitac.proofs.StopPlaces.{walk-number, walk-place}
 use Rattle.answers.specs.declared.Answer.{Answer}
 use Rattle.answers.specs.Answers as answer
 use Rattle.entries.specs.Outcomes.{Outcome, inFile, done, tableFile, otherFile}
-use Rattle.entries.specs.LentSpace.{Counts, countedAnswer, Checked, checkIn}
+use Rattle.entries.specs.LentSpace.{countedAnswer}
 use Rattle.entries.specs.Check.{sameGoals, remainingAre, checked, onProof, proofCounts, checkWork, check}
 use Rattle.promises.specs.Accepted.{Accepted}
-use Rattle.promises.specs.CheckPromises.{Check-accepts, Check-counts, Refuses, Check-refuses, CheckEnds, ends-accepted, ends-table, ends-proof, ends-invalid, ends-unstarted, Ends, Check-ends}
+use Rattle.promises.specs.Ended.{Ended, ended-counted, ended-table, ended-other, ended-own}
+use Rattle.promises.specs.CheckPromises.{Check-accepts, Check-counts, Refuses, Check-refuses, CheckRefuses, Check-ends}
+use Rattle.promises.proofs.LentLaws as lent
+use Rattle.promises.proofs.LentLaws.{ends-checked}
 
 -- the comparison of goals is equality
 both-true : (b c : Bool) → (b && c) ≡ true → (b ≡ true) × (c ≡ true)
@@ -60,8 +62,8 @@ equal-same (γ ∷ g) = rw (eq-eqb (γ .0) (γ .0) refl, equal-same g)
 
 -- the answer, once the work space is long enough
 answered : (t p w : List ℕ) → checkWork ≤ length w → check t p w .answer ≡ countedAnswer (onProof proofCounts t p)
-unfolding check checkIn
-answered t p w h = rw (le-ltb (length w) checkWork h)
+unfolding check
+answered t p w h = lent.answered checkWork w (onProof proofCounts t p) h
 
 -- what the answer is, by the cases of both files
 table-refuses : (t p : List ℕ) {c : Cause} {q : ℕ} → readTable t ≡ refused c q → countedAnswer (onProof proofCounts t p) ≡ answer.refusal (number c) 1 q 0
@@ -202,14 +204,14 @@ remaining-behind x = refl
 -- demand 1
 module _ (t p : List ℕ) where
   abbrev E : Answer → Type 0
-  E = CheckEnds t p
+  E = Ended t p (CheckRefuses p)
 
   told : {a b : Answer} → a ≡ b → E b → E a
   told e x = subst E (sym e) x
 
   end-compare : (T : Table) (x : Proof) → readTable t ≡ gives T → readProof p ≡ gives x → (l : List Goal) → walk T (x .term) (termPlace x) (x .goals) ≡ gives l → (b : Bool) → sameGoals l (x .remaining) ≡ b → E (A t p)
-  end-compare T x e f l g true s = told (accepts t p T x e f l g s) (ends-accepted _ _ _)
-  end-compare T x e f l g false s = told (differs t p T x e f l g s) (ends-invalid 21 (remainingPlace x) (omega arith) (omega arith) (omega (arith, proof-stands p x f .end-is)))
+  end-compare T x e f l g true s = told (accepts t p T x e f l g s) (ended-counted _ _ _)
+  end-compare T x e f l g false s = told (differs t p T x e f l g s) (ended-own 21 (remainingPlace x) (omega arith, omega arith, omega (arith, proof-stands p x f .end-is)))
 
   end-walk : (T : Table) (x : Proof) → readTable t ≡ gives T → readProof p ≡ gives x → (r : Result (List Goal)) → walk T (x .term) (termPlace x) (x .goals) ≡ r → E (A t p)
   end-walk T x e f (gives l) g = end-compare T x e f l g (sameGoals l (x .remaining)) refl
@@ -219,33 +221,17 @@ module _ (t p : List ℕ) where
       (in-range c q (walk-number T (x .term) y (termPlace x) (x .goals) g) (omega (arith, walk-place T (x .term) y (termPlace x) (x .goals) g, proof-stands p x f .end-is, remaining-behind x)))
     where
       in-range : (c : Cause) (q : ℕ) → (number c ≡ 20) ⊎ (number c ≡ 22) → q < length p → E (answer.refusal (number c) 2 q 0)
-      in-range c q (inl m) l = ends-invalid (number c) q (omega arith) (omega arith) l
-      in-range c q (inr m) l = ends-invalid (number c) q (omega arith) (omega arith) l
+      in-range c q (inl m) l = ended-own (number c) q (omega arith, omega arith, l)
+      in-range c q (inr m) l = ended-own (number c) q (omega arith, omega arith, l)
 
   end-proof : (T : Table) → readTable t ≡ gives T → (r : Result Proof) → readProof p ≡ r → E (A t p)
   end-proof T e (gives x) f = end-walk T x e f (walk T (x .term) (termPlace x) (x .goals)) refl
-  end-proof T e (refused c q) f = let r = Proof-refused p c q f in told (proof-refuses t p e f) (ends-proof (number c) q (r .least) (r .most) (r .within))
+  end-proof T e (refused c q) f = let r = Proof-refused p c q f in told (proof-refuses t p e f) (ended-other (number c) q (r .least) (r .most) (r .within))
 
   end-table : (r : Result Table) → readTable t ≡ r → E (A t p)
   end-table (gives T) e = end-proof T e (readProof p) refl
-  end-table (refused c q) e = let r = table-place t c q e in told (table-refuses t p e) (ends-table (number c) q (r .least) (r .most) (r .within))
-
--- by the test of the work space
-kept-29 : (t p w : List ℕ) → length w < checkWork → (check t p w .answer ≡ answer.refusal 29 0 0 0) × (check t p w .work ≡ w)
-unfolding check checkIn number
-kept-29 t p w h = (rw (lt-ltb (length w) checkWork h), rw (lt-ltb (length w) checkWork h))
-
-cleared : (t p w : List ℕ) → checkWork ≤ length w → check t p w .work ≡ replicate (length w) 0
-unfolding check checkIn
-cleared t p w h = rw (le-ltb (length w) checkWork h)
+  end-table (refused c q) e = let r = table-place t c q e in told (table-refuses t p e) (ended-table (number c) q (r .least) (r .most) (r .within))
 
 pub check-ends : Check-ends
-check-ends t p w = record {
-  answers = by-space (decLt (length w) checkWork);
-  clears = cleared t p w;
-  keeps = kept-29 t p w;
-}
-  where
-    by-space : Dec (length w < checkWork) → CheckEnds t p (check t p w .answer)
-    by-space (yes h) = subst (CheckEnds t p) (sym (kept-29 t p w h .0)) ends-unstarted
-    by-space (no h) = subst (CheckEnds t p) (sym (answered t p w (omega arith))) (end-table t p (readTable t) refl)
+unfolding check
+check-ends t p w = ends-checked checkWork w (onProof proofCounts t p) t p (CheckRefuses p) (end-table t p (readTable t) refl)

@@ -1,1 +1,3 @@
+pub mod LentLaws
 pub mod CheckPromises
+pub mod CheckFlatPromises

@@ -3,7 +3,7 @@ use Prim.Native.Nat.{ℕ, _≤_, _<_}
 use mathlib.Core.Path.{_≡_}
 use mathlib.Core.Logic.{_⊎_, _↔_}
 use mathlib.Core.List.{List}
-use lib.ListN.{length, replicate}
+use lib.ListN.{length}
 use Rattle.format.specs.declared.values.Goal.{Goal}
 use Rattle.format.specs.Results.{gives}
 use Rattle.format.specs.Terms.{fields}
@@ -13,10 +13,10 @@ use Rattle.files.specs.Proofs.{Proof, readProof, termPlace, remainingPlace}
 use Rattle.hitac.specs.Hiproofs.{atomics}
 use Rattle.hitac.specs.Validates.{AtMost256, Validates}
 use Rattle.hitac.specs.Stops.{Stops}
-use Rattle.answers.specs.declared.Answer.{Answer}
 use Rattle.answers.specs.Answers as answer
 use Rattle.entries.specs.Check.{checkWork, check}
 use Rattle.promises.specs.Accepted.{Accepted}
+use Rattle.promises.specs.Ended.{EndsChecked}
 
 -- "Given the space of 29, the checker answers 0 for such a proof and for no other."
 abbrev pub Check-accepts : Type 0
@@ -37,19 +37,9 @@ pub record Refuses (t p w : List ℕ) (T : Table) (x : Proof) : Type 0 where
 abbrev pub Check-refuses : Type 0
 Check-refuses = (t p w : List ℕ) (T : Table) (x : Proof) → checkWork ≤ length w → readTable t ≡ gives T → readProof p ≡ gives x → Refuses t p w T x
 
--- Demand 1: 0 with its counts, or a refusal of this list, with its file and a place in it
-pub data CheckEnds (t p : List ℕ) : Answer → Type 0 where
-  ends-accepted : (f u r : ℕ) → CheckEnds t p (answer.counted f u r)
-  ends-table : (n q : ℕ) → 1 ≤ n → n ≤ 9 → q ≤ length t → CheckEnds t p (answer.refusal n 1 q 0)
-  ends-proof : (n q : ℕ) → 1 ≤ n → n ≤ 5 → q ≤ length p → CheckEnds t p (answer.refusal n 2 q 0)
-  ends-invalid : (n q : ℕ) → 20 ≤ n → n ≤ 22 → q < length p → CheckEnds t p (answer.refusal n 2 q 0)
-  ends-unstarted : CheckEnds t p (answer.refusal 29 0 0 0)
-
--- and the work space all zero, or untouched after 29
-pub record Ends (t p w : List ℕ) : Type 0 where
-  pub answers : CheckEnds t p (check t p w .answer)
-  pub clears : checkWork ≤ length w → check t p w .work ≡ replicate (length w) 0
-  pub keeps : length w < checkWork → (check t p w .answer ≡ answer.refusal 29 0 0 0) × (check t p w .work ≡ w)
+-- 20 and 22 in the walk, then 21: at a field of the proof file
+abbrev pub CheckRefuses : (proof : List ℕ) → (number place : ℕ) → Type 0
+CheckRefuses proof n q = (20 ≤ n) × (n ≤ 22) × (q < length proof)
 
 abbrev pub Check-ends : Type 0
-Check-ends = (t p w : List ℕ) → Ends t p w
+Check-ends = (t p w : List ℕ) → EndsChecked t p w checkWork (CheckRefuses p) (check t p w)

@@ -1,2 +1,5 @@
 pub mod Accepted
+pub mod Right
+pub mod Ended
 pub mod CheckPromises
+pub mod CheckFlatPromises
