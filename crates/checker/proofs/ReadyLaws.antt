@@ -63,9 +63,6 @@ module _ (s : List ℕ) (at : ℕ) (w : List ℕ) (low top : ℕ) where
     pub some-tensor : getD s at 0 ≡ 20 → (a : Term) × (b : Term) × Parts s at a b w low top × (word w (slot at) ≡ inputArity a)
     some-tensor e = by-tag s at (λ v. R v → (a : Term) × (b : Term) × Parts s at a b w low top × (word w (slot at) ≡ inputArity a)) 20 (λ a b x q. let p = parts-of-tensor a b x q in (a, b, p .0, p .1)) e t (r .stands) r
 
-    pub some-label : getD s at 0 ≡ 18 → (a : Term) × One s at a × Ready s (at + 5) a w low top
-    some-label e = by-tag s at (λ v. R v → (a : Term) × One s at a × Ready s (at + 5) a w low top) 18 (λ l a o q. (a, o, inner-of-label l a o q)) e t (r .stands) r
-
     pub some-atomic : getD s at 0 ≡ 16 → (at + 4 < length s) × (low + 14 ≤ top)
     unfolding atomics
     some-atomic e = by-tag s at (λ v. R v → (at + 4 < length s) × (low + 14 ≤ top)) 16 (λ a v q. (omega (arith, v), omega (arith, q .room))) e t (r .stands) r

@@ -1,3 +1,4 @@
 pub mod Arities
+pub mod Labels
 pub mod Walks
 pub mod Checks

@@ -10,6 +10,8 @@ ghost use Rattle.tables.specs.Standing.{TableStands};
 ghost use Rattle.checker.specs.Walks.{Ready, Walks};
 use crate::arity::noted;
 use crate::arity::second_at;
+use crate::labels::label_count_wrong;
+use crate::labels::unlabelled;
 use format::values::goal_at;
 use format::values::rule_name_at;
 use tables::lookup::RuleFound;
@@ -67,7 +69,7 @@ fn keep_goal(at: usize, count: usize, work: &mut [u8], low: usize, top: usize) -
     Walked::Gives(1, 0)
 }
 
-// The term at a place takes the goals from `top` on, as many as count says, and puts those that it gives from `low` on. Each atomic gives at most seven goals more than it takes, so 14 bytes for each keep the two stacks apart.
+// The term at a place takes the goals from `top` on, as many as count says, and puts those that it gives from `low` on. Each atomic gives at most seven goals more than it takes, so 14 bytes for each keep the two stacks apart. Labels pass their one goal on as it is: only the outermost is tested, and none is a level of the recursion.
 pub fn walk(
     table: &[u8],
     first: usize,
@@ -81,25 +83,23 @@ pub fn walk(
     requires { ⌜ ((T : Table) × TableStands (now table) first T) × ((t : Term) × Ready (now proof) at t (now work) low top) × (top + count * 2 ≤ length (now work)) ⌝ }
     ensures { λ r. ⌜ ((T : Table) (t : Term) → TableStands (now (table .entry)) first T → Ready (now (proof .entry)) at t (now (work .entry)) low top → Walks T t at (length (now (proof .entry))) (now (work .entry)) (now (work .exit)) low top count r) ⌝ }
 {
-    let tag = proof[at];
+    if label_count_wrong(proof, at, count) {
+        return Walked::Refused(20, at);
+    }
+    let start = unlabelled(proof, at);
+    let tag = proof[start];
     if tag == 16 {
-        return take_rule(table, first, proof, at, count, work, low, top);
+        return take_rule(table, first, proof, start, count, work, low, top);
     }
     if tag == 17 {
-        return keep_goal(at, count, work, low, top);
-    }
-    if tag == 18 {
-        if count != 1 {
-            return Walked::Refused(20, at);
-        }
-        return walk(table, first, proof, at + 5, 1, work, low, top);
+        return keep_goal(start, count, work, low, top);
     }
     if tag == 19 {
-        let left = walk(table, first, proof, at + 3, count, work, low, top);
+        let left = walk(table, first, proof, start + 3, count, work, low, top);
         let Walked::Gives(between, uses) = left else {
             return left;
         };
-        let next = second_at(proof, at);
+        let next = second_at(proof, start);
         let again = top + count * 2 - between * 2;
         move_up(work, low, again, between * 2);
         let right = walk(table, first, proof, next, between, work, low, again);
@@ -109,15 +109,15 @@ pub fn walk(
         return Walked::Gives(last, uses + more);
     }
     if tag == 20 {
-        let share = noted(work, at);
+        let share = noted(work, start);
         if count < share {
-            return Walked::Refused(20, at);
+            return Walked::Refused(20, start);
         }
-        let left = walk(table, first, proof, at + 3, share, work, low, top);
+        let left = walk(table, first, proof, start + 3, share, work, low, top);
         let Walked::Gives(given, uses) = left else {
             return left;
         };
-        let next = second_at(proof, at);
+        let next = second_at(proof, start);
         let right = walk(
             table,
             first,
@@ -132,15 +132,15 @@ pub fn walk(
             return right;
         };
         if 256 < given + others {
-            return Walked::Refused(22, at);
+            return Walked::Refused(22, start);
         }
         return Walked::Gives(given + others, uses + more);
     }
     if tag == 21 {
         if count != 0 {
-            return Walked::Refused(20, at);
+            return Walked::Refused(20, start);
         }
         return Walked::Gives(0, 0);
     }
-    Walked::Refused(20, at)
+    Walked::Refused(20, start)
 }
