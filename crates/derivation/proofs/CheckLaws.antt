@@ -34,7 +34,7 @@ use Rattle.derivation.specs.declared.walk.Stop.{Stop}
 use Rattle.derivation.specs.Pending.{pendingIn, firstEntry, walked, Given, Ready}
 use Rattle.derivation.specs.CheckedEntries.{DerivationAt, checkedEntries}
 use Rattle.derivation.proofs.Stack.{none-pending, first-pending}
-use Rattle.derivation.proofs.EntryCounts.{uses-counted, opens-counted}
+use Rattle.hitac.proofs.EntryCounts.{uses-counted, opens-counted}
 
 -- what the parts of a derivation that stands in a file say
 pub record PartsHold (flat : List ℕ) (parts : FlatParts) (d : Derivation) : Type 0 where

@@ -1,5 +1,4 @@
 pub mod Stack
 pub mod EntryLaws
 pub mod WalkLaws
-pub mod EntryCounts
 pub mod CheckLaws

@@ -17,6 +17,7 @@ pub mod Nodes
 pub mod NodeForest
 pub mod TermBounds
 pub mod WalkBounds
+pub mod EntryCounts
 pub mod FlatBounds
 pub mod WrittenRules
 pub mod ForestRules

@@ -55,7 +55,7 @@ same-equal (γ ∷ g) (δ ∷ h) e =
     let r = same-equal g h (b .1) in
     λ i. record { 0 = n i } ∷ r i
 
-equal-same : (g : List Goal) → sameGoals g g ≡ true
+pub equal-same : (g : List Goal) → sameGoals g g ≡ true
 unfolding sameGoals
 equal-same [] = refl
 equal-same (γ ∷ g) = rw (eq-eqb (γ .0) (γ .0) refl, equal-same g)

@@ -1,3 +1,5 @@
 pub mod LentLaws
 pub mod CheckPromises
 pub mod CheckFlatPromises
+pub mod WrittenWithin
+pub mod WriteProofPromises

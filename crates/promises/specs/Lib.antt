@@ -3,3 +3,4 @@ pub mod Right
 pub mod Ended
 pub mod CheckPromises
 pub mod CheckFlatPromises
+pub mod WriteProofPromises
