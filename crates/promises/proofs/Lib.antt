@@ -3,3 +3,5 @@ pub mod CheckPromises
 pub mod CheckFlatPromises
 pub mod WrittenWithin
 pub mod WriteProofPromises
+pub mod FlattenedWithin
+pub mod FlattenPromises

@@ -4,3 +4,4 @@ pub mod Ended
 pub mod CheckPromises
 pub mod CheckFlatPromises
 pub mod WriteProofPromises
+pub mod FlattenPromises
