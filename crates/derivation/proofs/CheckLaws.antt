@@ -1,23 +1,23 @@
 -- The answer of the flat-derivation checker: one law for each way that it ends, by where the walk stopped and by what the two files read as.
 -- Assumes nothing.
-use mathlib.Core.Path.{_≡_, refl, sym, subst, ap, ap₂, _∙_}
-use mathlib.Core.List.{List, [], _∷_}
-use Prim.Native.Nat.{ℕ, _+_, _*_, _-_, _≤_, _<_}
+use mathlib.Core.Path.{_≡_, sym, subst, ap, ap₂, _∙_}
+use mathlib.Core.List.{List}
+use Prim.Native.Nat.{ℕ, _*_, _-_, _≤_, _<_}
 use native.Mathlib.Omega.{arith}
 use lib.ListN.{length, drop}
 use lib.Seq.{paste}
 use borrow.Author.Tests.{lt-ltb, le-ltb}
 use Rattle.format.specs.declared.values.Goal.{Goal}
 use Rattle.format.specs.Limits.{mostBytes, mostGoals, mostUses, mostOpens}
-use Rattle.format.specs.Refusals.{Cause, number, entryWrong, goalsPending, workTooShort}
-use Rattle.format.specs.Results.{Result, gives, refused, andThen}
+use Rattle.format.specs.Refusals.{Cause, number}
+use Rattle.format.specs.Results.{gives, refused, andThen}
 use Rattle.format.specs.Goals.{goalsAt}
 use Rattle.format.proofs.GoalsAt.{goals-paste}
 use Rattle.tables.specs.Tables.{Table}
 use Rattle.tables.specs.ReadTables.{readTable}
 use Rattle.tables.specs.Standing.{TableStands}
 use Rattle.files.specs.declared.flats.FlatParts.{FlatParts}
-use Rattle.files.specs.Derivations.{Entry, Derivation, readFlat, entriesPlace}
+use Rattle.files.specs.Derivations.{Derivation, readFlat, entriesPlace}
 use Rattle.files.specs.Counts.{usesIn, opensIn}
 use Rattle.files.specs.Shapes.{flatPartsOf}
 use Rattle.files.specs.Standing.{EntriesStand}
@@ -28,7 +28,7 @@ use Rattle.hitac.specs.FlatWalk.{flatWalk}
 use Rattle.answers.specs.declared.Answer.{Answer}
 use Rattle.answers.specs.Answers.{refusal, counted}
 use Rattle.entries.specs.Outcomes.{tableFile, otherFile, noFile}
-use Rattle.entries.specs.LentSpace.{Checked, countedAnswer, checkIn, cleared}
+use Rattle.entries.specs.LentSpace.{countedAnswer, checkIn, cleared}
 use Rattle.entries.specs.CheckFlat.{nonePending, right, flatCounts, checkFlatOutcome, checkFlatWork, checkFlat}
 use Rattle.derivation.specs.declared.walk.Stop.{Stop}
 use Rattle.derivation.specs.Pending.{pendingIn, firstEntry, walked, Given, Ready}

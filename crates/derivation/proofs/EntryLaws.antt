@@ -1,10 +1,10 @@
 -- One step of the walk over entries, by whether the first entry carries the first pending goal and what its rule is. By the cases of the pending goals and of the entry.
 -- Assumes nothing.
-use mathlib.Core.Path.{_≡_, refl, sym, ap, _∙_}
-use mathlib.Core.Bool.{true, false, false≢true, cond}
+use mathlib.Core.Path.{_≡_, refl, sym, _∙_}
+use mathlib.Core.Bool.{true, false, false≢true}
 use mathlib.Core.Option.{none, some}
 use mathlib.Core.List.{List, [], _∷_, _++_}
-use Prim.Native.Nat.{ℕ, _+_, _*_, _-_, _≤_, _<_}
+use Prim.Native.Nat.{ℕ, _+_, _*_, _-_, _<_}
 use native.Mathlib.Omega.{arith}
 use lib.Dec.{eqb}
 use lib.ListN.{length, getD, drop}
@@ -13,7 +13,8 @@ use Rattle.words.specs.Word.{word}
 use Rattle.format.specs.declared.values.RuleName.{RuleName}
 use Rattle.format.specs.declared.values.Goal.{Goal}
 use Rattle.format.specs.Refusals.{entryWrong}
-use Rattle.format.specs.Results.{gives, refused, andThen}
+use Rattle.format.specs.Results.{refused, andThen}
+use Rattle.format.specs.Values.{goal}
 use Rattle.tables.specs.Tables.{Table}
 use Rattle.tables.specs.Lookup.{foundRule, findRule}
 use Rattle.files.specs.Derivations.{Entry, useEntry, openEntry}
@@ -82,12 +83,17 @@ first-entry s at end (openEntry γ ∷ es) st l = record {
   inside = record { some-entry = omega (arith, st .0 .inside); some-use = λ e. absurd (let z : _≡_ {A = ℕ} 32 33 = sym e ∙ st .0 .tag-is in omega arith) };
 }
 
--- the goal of an entry, as it was read, compared with the one on top of the stack
-module _ (flat work : List ℕ) (at n g f : ℕ) (some-goal : n ≡ 0 → ⊥) (top : f ≡ word work (length work - n * 2)) where
-  pub use-compared : getD flat at 0 ≡ 32 → g ≡ word flat (at + 5) → eqb g f ≡ carriesFirst (carriedGoal flat at) (pendingIn work n)
-  unfolding carriedGoal carriesFirst
-  use-compared t e = rw (eq-eqb (getD flat at 0) 32 t, first-pending work n (omega arith), e, top)
+-- the goal of an entry, by its tag
+pub use-goal : (s : List ℕ) (at : ℕ) → getD s at 0 ≡ 32 → carriedGoal s at ≡ goal (word s (at + 5))
+unfolding carriedGoal
+use-goal s at t = rw (eq-eqb (getD s at 0) 32 t)
 
-  pub open-compared : (getD flat at 0 ≡ 32 → ⊥) → g ≡ word flat (at + 3) → eqb g f ≡ carriesFirst (carriedGoal flat at) (pendingIn work n)
-  unfolding carriedGoal carriesFirst
-  open-compared t e = rw (ne-eqb (getD flat at 0) 32 t, first-pending work n (omega arith), e, top)
+pub open-goal : (s : List ℕ) (at : ℕ) → (getD s at 0 ≡ 32 → ⊥) → carriedGoal s at ≡ goal (word s (at + 3))
+unfolding carriedGoal
+open-goal s at t = rw (ne-eqb (getD s at 0) 32 t)
+
+-- as it was read, compared with the one on top of the stack
+pub compared : (flat work : List ℕ) (at n g v f : ℕ) → (n ≡ 0 → ⊥) → f ≡ word work (length work - n * 2) → carriedGoal flat at ≡ goal v → g ≡ v
+    → eqb g f ≡ carriesFirst (carriedGoal flat at) (pendingIn work n)
+unfolding carriesFirst
+compared flat work at n g v f some-goal top c e = rw (c, first-pending work n (omega arith), e, top)

@@ -1,20 +1,20 @@
 -- The turns of the walk over a flat file's entries: one law for each way that an entry applies or does not. What is to be walked from the first entry on is what is to be walked from here on.
 -- Assumes nothing.
-use mathlib.Core.Path.{_≡_, refl, sym, ap, _∙_}
+use mathlib.Core.Path.{_≡_, sym, ap, _∙_}
 use mathlib.Core.Bool.{true, false}
 use mathlib.Core.Option.{none, some}
-use mathlib.Core.List.{List, [], _∷_, _++_}
+use mathlib.Core.List.{List, _∷_, _++_}
 use Prim.Native.Nat.{ℕ, _+_, _*_, _-_, _≤_, _<_}
 use native.Mathlib.Omega.{arith}
 use lib.ListN.{length, getD, drop}
 use lib.Seq.{paste}
-use borrow.Author.Tests.{lt-ltb, le-ltb, eq-eqb, ne-eqb}
+use borrow.Author.Tests.{lt-ltb, le-ltb}
 use Rattle.words.specs.Word.{word}
 use Rattle.format.specs.declared.values.RuleName.{RuleName}
 use Rattle.format.specs.declared.values.Goal.{Goal}
 use Rattle.format.specs.Limits.{mostGoals, mostUses}
 use Rattle.format.specs.Refusals.{entryWrong}
-use Rattle.format.specs.Results.{Result, gives, refused}
+use Rattle.format.specs.Results.{Result, refused}
 use Rattle.format.specs.Values.{ruleName, goal}
 use Rattle.format.specs.Goals.{goalsAt}
 use Rattle.tables.specs.Tables.{Table}
@@ -25,10 +25,9 @@ use Rattle.files.specs.Standing.{EntriesStand}
 use Rattle.files.proofs.EntryBytes.{entries-end}
 use Rattle.files.proofs.EntriesStanding.{First, none-left, first-use, first-open}
 use Rattle.hitac.specs.FlatWalk.{flatWalk}
-use Rattle.derivation.specs.declared.walk.Stop.{Stop}
 use Rattle.derivation.specs.Pending.{pendingIn, EntryInside, carriedGoal, carriesFirst, walked, mostPending}
 use Rattle.derivation.proofs.Stack.{popped, pushed, some-pending}
-use Rattle.derivation.proofs.EntryLaws.{stops-other, steps-open, stops-missing, steps-use, FirstEntry, first-entry}
+use Rattle.derivation.proofs.EntryLaws.{use-goal, open-goal, stops-other, steps-open, stops-missing, steps-use, FirstEntry, first-entry}
 
 -- The walk from the first entry on is the walk from here on. The pending goals are at most 256 and seven more for each use so far.
 pub record Reached (T : Table) (flat : List ℕ) (whole : Result (List Goal)) (work : List ℕ) (at pending : ℕ) : Type 0 where
@@ -42,15 +41,6 @@ pub record Reached (T : Table) (flat : List ℕ) (whole : Result (List Goal)) (w
 -- where a walk stops
 abbrev pub StopsAt : List ℕ → Result (List Goal) → List ℕ → (at pending : ℕ) → Type 0
 StopsAt flat whole work at pending = whole ≡ walked (length flat) work (record { place = at; pending = pending })
-
--- of a goal and its tag
-use-goal : (s : List ℕ) (at : ℕ) → getD s at 0 ≡ 32 → carriedGoal s at ≡ goal (word s (at + 5))
-unfolding carriedGoal
-use-goal s at t = rw (eq-eqb (getD s at 0) 32 t)
-
-open-goal : (s : List ℕ) (at : ℕ) → (getD s at 0 ≡ 32 → ⊥) → carriedGoal s at ≡ goal (word s (at + 3))
-unfolding carriedGoal
-open-goal s at t = rw (ne-eqb (getD s at 0) 32 t)
 
 use-counts : (es fs : List Entry) (a : RuleName) (γ : Goal) → es ≡ useEntry a γ ∷ fs → usesIn es ≡ 1 + usesIn fs
 unfolding usesIn

@@ -1,17 +1,19 @@
--- An entry that writes nothing, by the test of its work space: whatever the call comes to.
+-- An entry by the tests of its work space and its output space, whatever the call comes to.
 -- Assumes nothing.
 use Prim.Native.Nat.{ℕ, _≤_, _<_}
 use native.Mathlib.Omega.{arith}
 use native.Mathlib.Decide.{decLt}
-use mathlib.Core.Path.{_≡_, sym, subst}
-use mathlib.Core.List.{List}
-use lib.ListN.{length, replicate}
+use mathlib.Core.Path.{_≡_, refl, sym, subst, ap, _∙_}
+use mathlib.Core.List.{List, _++_}
+use lib.ListN.{length, drop, replicate}
 use borrow.Author.Tests.{lt-ltb, le-ltb}
-use Rattle.format.specs.Refusals.{number}
+use Rattle.format.specs.Refusals.{Cause, number, outputTooShort}
+use Rattle.format.proofs.ResultLaws.{number-positive}
 use Rattle.answers.specs.Answers as answer
-use Rattle.entries.specs.Outcomes.{Outcome}
-use Rattle.entries.specs.LentSpace.{Counts, countedAnswer, checkIn}
-use Rattle.promises.specs.Ended.{Ended, ended-unstarted, EndsChecked}
+use Rattle.entries.specs.Outcomes.{Outcome, success, refusal}
+use Rattle.entries.specs.LentSpace.{Counts, countedAnswer, checkIn, Written, writeOut, writeIn}
+use Rattle.promises.specs.Ended as ended
+use Rattle.promises.specs.Ended.{Ended, ended-unstarted, EndsChecked, EndedWriting, ended-wrote, ended-output, EndsWritten}
 
 module _ (size : ℕ) (work : List ℕ) (o : Outcome Counts) where
   -- the answer, once the work space is long enough
@@ -33,3 +35,79 @@ module _ (size : ℕ) (work : List ℕ) (o : Outcome Counts) where
       by-space : Dec (length work < size) → Ended table other Own (checkIn size work o .answer)
       by-space (yes h) = subst (Ended table other Own) (sym (kept h .0)) ended-unstarted
       by-space (no h) = subst (Ended table other Own) (sym (answered (omega arith))) e
+
+-- what an outcome may be, for the answer of a call that writes
+unfoldable pub Answers : (table other : List ℕ) (Own : (number file place steps : ℕ) → Type 0) → Outcome (List ℕ) → Type 0
+Answers table other Own (success b k) = Unit {0}
+Answers table other Own (refusal c f q k) = EndedWriting table other Own (answer.refusal (number c) f q k)
+
+-- all but the work space, which is long enough
+record Ends (table other out : List ℕ) (Own : (number file place steps : ℕ) → Type 0) (c : Written) : Type 0 where
+  answers : EndedWriting table other Own (c .answer)
+  refused : (c .answer .number ≡ 0 → ⊥) → (c .out ≡ out) × (c .answer .length ≡ 0)
+  succeeded : c .answer .number ≡ 0 → ended.Result out c
+
+module _ (table other work out : List ℕ) (Own : (number file place steps : ℕ) → Type 0) where
+  abbrev E : Written → Type 0
+  E = Ends table other out Own
+
+  -- a refusal, for any reason, with any work space
+  refuses : (c : Cause) (f q k : ℕ) (w : List ℕ) → EndedWriting table other Own (answer.refusal (number c) f q k) → E (record { answer = answer.refusal (number c) f q k; work = w; out = out })
+  refuses c f q k w e = record { answers = e; refused = λ z. (refl, refl); succeeded = λ z. absurd (omega (arith, z, number-positive c)) }
+
+  over : (k : ℕ) → EndedWriting table other Own (answer.refusal (number outputTooShort) 0 0 k)
+  unfolding number
+  over k = ended-output k
+
+  -- 26, or the result
+  by-output : (b : List ℕ) (k : ℕ) → Dec (length out < length b) → E (writeOut work out (success b k))
+  unfolding writeOut
+  by-output b k (yes h) = rw (lt-ltb (length out) (length b) h) (refuses outputTooShort 0 0 k (replicate (length work) 0) (over k))
+  by-output b k (no h) =
+      rw
+      (le-ltb (length out) (length b) (omega arith))
+      (record { answers = ended-wrote (length b) k; refused = λ z. absurd (z refl); succeeded = λ z. record { bytes = b; fits = omega arith; length-is = refl; out-is = refl } })
+
+  by-outcome : (o : Outcome (List ℕ)) → Answers table other Own o → E (writeOut work out o)
+  unfolding Answers writeOut
+  by-outcome (success b k) e = by-output b k (decLt (length out) (length b))
+  by-outcome (refusal c f q k) e = refuses c f q k (replicate (length work) 0) e
+
+  -- the work space after a call that was begun
+  cleared-after : (o : Outcome (List ℕ)) → writeOut work out o .work ≡ replicate (length work) 0
+  unfolding writeOut
+  cleared-after (refusal c f q k) = refl
+  cleared-after (success b k) = by-length (decLt (length out) (length b))
+    where
+      by-length : Dec (length out < length b) → writeOut work out (success b k) .work ≡ replicate (length work) 0
+      by-length (yes h) = rw (lt-ltb (length out) (length b) h)
+      by-length (no h) = rw (le-ltb (length out) (length b) (omega arith))
+
+  unstarted : EndedWriting table other Own (answer.refusal 29 0 0 0)
+  unstarted = ended-unstarted
+
+  -- 29, or a call that was begun
+  abbrev unbegun : Written
+  unbegun = record { answer = answer.refusal 29 0 0 0; work = work; out = out }
+
+  module _ (size : ℕ) (o : Outcome (List ℕ)) where
+    short : length work < size → writeIn size work out o ≡ unbegun
+    unfolding writeIn number
+    short h = rw (lt-ltb (length work) size h)
+
+    long : size ≤ length work → writeIn size work out o ≡ writeOut work out o
+    unfolding writeIn
+    long h = rw (le-ltb (length work) size h)
+
+    pub ends-written : Answers table other Own o → EndsWritten table other work out size Own (writeIn size work out o)
+    ends-written e = record {
+      answers = by-space (decLt (length work) size) .answers;
+      clears = λ h. ap (λ (c : Written). c .work) (long h) ∙ cleared-after o;
+      keeps = λ h. (ap (λ (c : Written). c .answer) (short h), ap (λ (c : Written). c .work) (short h));
+      refused = by-space (decLt (length work) size) .refused;
+      succeeded = by-space (decLt (length work) size) .succeeded;
+    }
+      where
+        by-space : Dec (length work < size) → E (writeIn size work out o)
+        by-space (yes h) = subst E (sym (short h)) (record { answers = unstarted; refused = λ z. (refl, refl); succeeded = λ z. absurd (omega (arith, z)) })
+        by-space (no h) = subst E (sym (long (omega arith))) (by-outcome o e)

@@ -1,11 +1,10 @@
 -- `walk::carries_first` meets its contract: the goal on top of the stack is compared with the goal that the entry carries, by its tag.
 -- Assumes nothing.
-use mathlib.Core.Path.{_≡_}
 use native.Mathlib.Omega.{arith}
 use borrow.Author.Needs.{needs}
 use Rattle.derivation.specs.Pending.{carriesFirst}
 use Rattle.derivation.proofs.Stack.{none-pending}
-use Rattle.derivation.proofs.EntryLaws.{use-compared, open-compared}
+use Rattle.derivation.proofs.EntryLaws.{use-goal, open-goal, compared}
 use Rattle.derivation.proofs.walk.carries_first.Statement.{statement}
 use Rattle.derivation.proofs.walk.carries_first.Tie as tie
 
@@ -32,7 +31,8 @@ goal-at-requires-2 : tie.Need-goal-at-requires-2
 goal-at-requires-2 c κs = omega (arith, c .before .before .before .before .before .before .pre .0 .some-use (c .if2 .taken))
 
 returns-2 : tie.Need-returns-2
-returns-2 c = use-compared _ _ _ _ _ _ (c .before .before .before .before .before .before .if1 .left) (c .before .before .before .before .before .goal-at .ensures) (c .before .before .before .if2 .taken) (c .before .before .goal-at2 .ensures)
+returns-2 c =
+    compared _ _ _ _ _ _ _ (c .before .before .before .before .before .before .if1 .left) (c .before .before .before .before .before .goal-at .ensures) (use-goal _ _ (c .before .before .before .if2 .taken)) (c .before .before .goal-at2 .ensures)
 
 add-goal-at-2 : tie.Need-add-goal-at-2
 add-goal-at-2 c = search needs
@@ -41,7 +41,8 @@ goal-at-requires-3 : tie.Need-goal-at-requires-3
 goal-at-requires-3 c κs = search needs
 
 returns-3 : tie.Need-returns-3
-returns-3 c = open-compared _ _ _ _ _ _ (c .before .before .before .before .before .before .if1 .left) (c .before .before .before .before .before .goal-at .ensures) (c .before .before .before .if2 .left) (c .before .before .goal-at3 .ensures)
+returns-3 c =
+    compared _ _ _ _ _ _ _ (c .before .before .before .before .before .before .if1 .left) (c .before .before .before .before .before .goal-at .ensures) (open-goal _ _ (c .before .before .before .if2 .left)) (c .before .before .goal-at3 .ensures)
 
 pub carries-first-spec : {M : Type 1} → statement M
 carries-first-spec =

@@ -1,6 +1,6 @@
 -- `walk::is_rule_of` meets its contract: the tests of the name and of the goal are those of `isCarried`.
 -- Assumes nothing.
-use mathlib.Core.Path.{_≡_, sym, _∙_}
+use mathlib.Core.Path.{sym, _∙_}
 use borrow.Author.Needs.{needs}
 use borrow.Author.Tests.{eq-eqb, ne-eqb}
 use Rattle.tables.specs.Found.{isCarried}

@@ -3,13 +3,12 @@
 -- Assumes nothing.
 use mathlib.Core.Path.{_≡_, refl, sym, subst, ap, _∙_}
 use mathlib.Core.Bool.{Bool, true, false, not}
-use mathlib.Core.Option.{none, some}
+use mathlib.Core.Option.{some}
 use mathlib.Core.List.{List}
 use Prim.Native.Nat.{ℕ, _+_, _*_, _-_, _/_, _≤_, _<_}
 use native.Mathlib.Omega.{arith}
 use denote.Ref.{now}
-use lib.ListN.{length, getD, drop}
-use lib.Seq.{paste}
+use lib.ListN.{length, getD}
 use borrow.Author.Needs.{needs}
 use Rattle.words.specs.Word.{word}
 use Rattle.format.specs.declared.values.RuleName.{RuleName}
@@ -24,7 +23,7 @@ use Rattle.tables.proofs.LookupLaws as rules
 use Rattle.files.specs.Derivations.{Entry}
 use Rattle.hitac.specs.FlatWalk.{flatWalk}
 use Rattle.derivation.specs.Pending.{pendingIn, EntryInside, carriedGoal, carriesFirst, firstEntry, Given, Ready, mostPending}
-use Rattle.derivation.proofs.WalkLaws.{Reached, StopsAt, here-inside, stack-fits, at-end, entry-inside, not-first, pending-here, goes-open, no-rule, room-for, goes-use}
+use Rattle.derivation.proofs.WalkLaws.{Reached, here-inside, stack-fits, at-end, entry-inside, not-first, pending-here, goes-open, no-rule, room-for, goes-use}
 use Rattle.derivation.proofs.walk.walk.Statement.{statement}
 use Rattle.derivation.proofs.walk.walk.Tie as tie
 

@@ -1,0 +1,9 @@
+pub mod Lent
+pub mod TreeLaws
+pub mod FoundLaws
+pub mod DoneLaws
+pub mod SizeLaws
+pub mod GoalLaws
+pub mod LeafLaws
+pub mod FileLaws
+pub mod EntryLaws

@@ -1,0 +1,58 @@
+-- `entry::write_proof` meets its contract: 29 with everything untouched, or the answer and the output with the work space cleared.
+-- Assumes nothing.
+use mathlib.Core.Path.{_≡_, sym, ap, _∙_}
+use Prim.Native.Nat.{ℕ}
+use native.Mathlib.Omega.{arith}
+use denote.Ref.{now}
+use lib.ListN.{length, replicate}
+use borrow.Author.Needs.{needs}
+use Rattle.entries.specs.LentSpace.{Written}
+use Rattle.writer.proofs.EntryLaws.{too-short, long-enough}
+use Rattle.writer.proofs.entry.write_proof.Statement.{statement}
+use Rattle.writer.proofs.entry.write_proof.Tie as tie
+
+refusal-requires : tie.Need-refusal-requires
+refusal-requires c κs = search needs
+
+returns : tie.Need-returns
+returns c =
+    let a = c .before .before .before .before .before .before .args in
+    let e = too-short (now (a .table)) (now (a .flat)) (now (a .out)) (now (a .work)) (omega (arith, c .before .if1 .taken)) in
+    (c .refusal .ensures ∙ sym (ap (λ (x : Written). x .answer) e), (sym (ap (λ (x : Written). x .work) e), sym (ap (λ (x : Written). x .out) e)))
+
+write-within-requires : tie.Need-write-within-requires
+write-within-requires c κs = omega (arith, c .before .before .if1 .left)
+
+clear-requires : tie.Need-clear-requires
+clear-requires c κs = search needs
+
+same-length : tie.Need-same-length
+same-length c = search needs
+
+same-length-2 : tie.Need-same-length-2
+same-length-2 c = search needs
+
+returns-2 : tie.Need-returns-2
+returns-2 c =
+    let a = c .before .before .before .before .before .before .before .before .before .before .before .before .before .before .before .before .args in
+    let w = c .before .before .before .before .before .before .before .before .write-within in
+    let e = long-enough (now (a .table)) (now (a .flat)) (now (a .out)) (now (a .work)) (omega (arith, c .before .before .before .before .before .before .before .before .before .before .before .if1 .left)) in
+    let same : length (w .last .1 .1 .0) ≡ length (now (a .work)) = w .kept .1 .1 .0 in (
+      w .ensures .0 ∙ sym (ap (λ (x : Written). x .answer) e),
+      (
+        c .before .before .clear .ensures ∙ ap (λ (k : ℕ). replicate k 0) same ∙ sym (ap (λ (x : Written). x .work) e),
+        w .ensures .1 ∙ sym (ap (λ (x : Written). x .out) e),
+      ),
+    )
+
+pub write-proof-spec : {M : Type 1} → statement M
+write-proof-spec =
+    tie.close
+    (tie.spec
+    refusal-requires
+    returns
+    write-within-requires
+    clear-requires
+    same-length
+    same-length-2
+    returns-2)

@@ -1,0 +1,7 @@
+// The writer of a proof from a flat derivation: its fields, trees, sizes, goal lists and file, and the entry write_proof.
+pub mod entry;
+pub mod fields;
+pub mod file;
+pub mod lists;
+pub mod sizes;
+pub mod trees;
