@@ -6,13 +6,12 @@ use mathlib.Core.Path.{_≡_, refl, sym, subst, ap, _∙_}
 use mathlib.Core.List.{List, [], _∷_}
 use lib.ListN.{length}
 use Rattle.format.specs.declared.values.Goal.{Goal}
-use Rattle.format.specs.Refusals.{Cause, number, entryWrong}
+use Rattle.format.specs.Refusals.{Cause, number, entryWrong, goalsPending}
 use Rattle.format.specs.Results.{Result, gives, refused, andThen}
-use Rattle.format.proofs.ResultLaws.{number-positive}
+use Rattle.format.proofs.ResultLaws.{number-positive, same-place, same-cause, never-gives}
 use Rattle.tables.specs.Tables.{Table, HasRule, UniqueRules}
 use Rattle.tables.specs.ReadTables.{readTable}
 use Rattle.tables.proofs.ReadsTable.{reads-unique-rules}
-use Rattle.tables.proofs.RefusedTable.{table-place}
 use Rattle.files.specs.Derivations.{Derivation, Entry, useEntry, openEntry, readFlat, entriesPlace}
 use Rattle.files.specs.Standing.{EntriesStand}
 use Rattle.files.proofs.RefusedFiles.{Flat-refused}
@@ -29,10 +28,10 @@ use Rattle.answers.specs.Answers as answer
 use Rattle.entries.specs.LentSpace.{countedAnswer}
 use Rattle.entries.specs.CheckFlat.{nonePending, right, flatCounts, checkFlatOutcome, checkFlatWork, checkFlat}
 use Rattle.promises.specs.Right.{Right}
-use Rattle.promises.specs.Ended.{Ended, ended-counted, ended-table, ended-other, ended-own}
 use Rattle.promises.specs.CheckFlatPromises.{CheckFlat-right, CheckFlat-counts, RefusesFlat, CheckFlat-refuses, CheckFlatRefuses, CheckFlat-ends}
 use Rattle.promises.proofs.LentLaws as lent
 use Rattle.promises.proofs.LentLaws.{ends-checked}
+use Rattle.promises.proofs.OutcomeLaws.{comes, counted-ends}
 
 abbrev A : (t f : List ℕ) → Answer
 A t f = countedAnswer (checkFlatOutcome t f)
@@ -134,29 +133,40 @@ entries-fill s [] at end x = omega (arith, x)
 entries-fill s (useEntry a γ ∷ es) at end x = omega (arith, entries-fill s es (at + 7) end (x .3))
 entries-fill s (openEntry γ ∷ es) at end x = omega (arith, entries-fill s es (at + 5) end (x .2))
 
--- demand 1
-module _ (t f : List ℕ) where
-  abbrev E : Answer → Type 0
-  E = Ended t f (CheckFlatRefuses f)
+-- demand 1, for every entry that checks a derivation: its own refusals are 27, at an entry or at the end
+module _ {B : Type 0} (f : List ℕ) (T : Table) (d : Derivation) (g : readFlat f ≡ gives d) (v : B) where
+  stopped-so : (c : Cause) (q : ℕ) → flatWalk T (entriesPlace d) (d .roots) (d .entries) ≡ refused c q → right T d (length f) v ≡ refused c q
+  unfolding right andThen
+  stopped-so c q x = rw x
 
-  told : {a b : Answer} → a ≡ b → E b → E a
-  told e x = subst E (sym e) x
+  over-so : flatWalk T (entriesPlace d) (d .roots) (d .entries) ≡ gives [] → right T d (length f) v ≡ gives v
+  unfolding right andThen nonePending
+  over-so x = rw x
 
-  end-walk : (T : Table) (d : Derivation) → readTable t ≡ gives T → readFlat f ≡ gives d → (r : Result (List Goal)) → flatWalk T (entriesPlace d) (d .roots) (d .entries) ≡ r → E (A t f)
-  end-walk T d e g (gives []) x = told (none-left t f T d e g x) (ended-counted _ _ _)
-  end-walk T d e g (gives (γ ∷ k)) x = told (some-left t f T d e g γ k x) (ended-own 27 (length f) (refl, omega arith))
-  end-walk T d e g (refused c q) x =
-      let y = x ∙ ap (λ (b : Cause). refused b q) (flatWalk-cause T (entriesPlace d) (d .roots) (d .entries) x) in
-      told (wrong-at t f T d e g y) (ended-own 27 q (refl, omega (arith, flatWalk-place T (entriesPlace d) (d .roots) (d .entries) x, entries-fill f (d .entries) (entriesPlace d) (length f) (flat-stands f d g .entries-stand))))
+  pending-so : (γ : Goal) (k : List Goal) → flatWalk T (entriesPlace d) (d .roots) (d .entries) ≡ gives (γ ∷ k) → right T d (length f) v ≡ refused goalsPending (length f)
+  unfolding right andThen nonePending
+  pending-so γ k x = rw x
 
-  end-flat : (T : Table) → readTable t ≡ gives T → (r : Result Derivation) → readFlat f ≡ r → E (A t f)
-  end-flat T e (gives d) g = end-walk T d e g (flatWalk T (entriesPlace d) (d .roots) (d .entries)) refl
-  end-flat T e (refused c q) g = let r = Flat-refused f c q g in told (flat-refuses t f e g) (ended-other (number c) q (r .least) (r .most) (r .within))
+  numbers : (number entryWrong ≡ 27) × (number goalsPending ≡ 27)
+  unfolding number
+  numbers = (refl, refl)
 
-  end-table : (r : Result Table) → readTable t ≡ r → E (A t f)
-  end-table (gives T) e = end-flat T e (readFlat f) refl
-  end-table (refused c q) e = let r = table-place t c q e in told (table-refuses t f e) (ended-table (number c) q (r .least) (r .most) (r .within))
+  moved : (b c : Cause) (i q : ℕ) → _≡_ {A = Result B} (refused b i) (refused c q) → number b ≡ 27 → i ≤ length f → CheckFlatRefuses f (number c) q
+  moved b c i q e n l = (ap number (sym (same-cause e)) ∙ n, subst (λ (j : ℕ). j ≤ length f) (same-place e) l)
+
+  pub right-refuses : (r : Result (List Goal)) → flatWalk T (entriesPlace d) (d .roots) (d .entries) ≡ r → (c : Cause) (q : ℕ) → right T d (length f) v ≡ refused c q → CheckFlatRefuses f (number c) q
+  right-refuses (gives []) x c q h = never-gives (sym h ∙ over-so x)
+  right-refuses (gives (γ ∷ k)) x c q h = moved goalsPending c (length f) q (sym (pending-so γ k x) ∙ h) (numbers .1) (omega arith)
+  right-refuses (refused b i) x c q h =
+      moved b c i q
+      (sym (stopped-so b i x) ∙ h)
+      (ap number (flatWalk-cause T (entriesPlace d) (d .roots) (d .entries) x) ∙ numbers .0)
+      (omega (arith, flatWalk-place T (entriesPlace d) (d .roots) (d .entries) x, entries-fill f (d .entries) (entriesPlace d) (length f) (flat-stands f d g .entries-stand)))
 
 pub checkFlat-ends : CheckFlat-ends
-unfolding checkFlat
-checkFlat-ends t f w = ends-checked checkFlatWork w (checkFlatOutcome t f) t f (CheckFlatRefuses f) (end-table t f (readTable t) refl)
+unfolding checkFlat checkFlatOutcome
+checkFlat-ends t f w =
+    ends-checked checkFlatWork w (checkFlatOutcome t f) t f (CheckFlatRefuses f)
+    (counted-ends
+    (comes t f (CheckFlatRefuses f) (readFlat f) (λ T d. right T d (length f) (flatCounts d)) (λ c q e. Flat-refused f c q e)
+    (λ T d e g c q h. right-refuses f T d g (flatCounts d) (flatWalk T (entriesPlace d) (d .roots) (d .entries)) refl c q h)))

@@ -17,7 +17,6 @@ use Rattle.format.proofs.ResultLaws.{number-positive, same-place, same-cause, n
 use Rattle.tables.specs.Tables.{Table, HasRule, UniqueRules}
 use Rattle.tables.specs.ReadTables.{readTable}
 use Rattle.tables.proofs.ReadsTable.{reads-unique-rules}
-use Rattle.tables.proofs.RefusedTable.{table-place}
 use Rattle.files.specs.Proofs.{Proof, readProof, termPlace, remainingPlace}
 use Rattle.files.proofs.RefusedFiles.{Proof-refused}
 use Rattle.files.proofs.WhatStands.{proof-stands}
@@ -34,10 +33,10 @@ use Rattle.entries.specs.Outcomes.{Outcome, inFile, done, tableFile, otherFile}
 use Rattle.entries.specs.LentSpace.{countedAnswer}
 use Rattle.entries.specs.Check.{sameGoals, remainingAre, checked, onProof, proofCounts, checkWork, check}
 use Rattle.promises.specs.Accepted.{Accepted}
-use Rattle.promises.specs.Ended.{Ended, ended-counted, ended-table, ended-other, ended-own}
 use Rattle.promises.specs.CheckPromises.{Check-accepts, Check-counts, Refuses, Check-refuses, CheckRefuses, Check-ends}
 use Rattle.promises.proofs.LentLaws as lent
 use Rattle.promises.proofs.LentLaws.{ends-checked}
+use Rattle.promises.proofs.OutcomeLaws.{Comes, comes, counted-ends}
 
 -- the comparison of goals is equality
 both-true : (b c : Bool) → (b && c) ≡ true → (b ≡ true) × (c ≡ true)
@@ -201,37 +200,53 @@ remaining-behind : (x : Proof) → termPlace x + size (x .term) ≡ remainingPla
 unfolding remainingPlace
 remaining-behind x = refl
 
--- demand 1
-module _ (t p : List ℕ) where
-  abbrev E : Answer → Type 0
-  E = Ended t p (CheckRefuses p)
+-- demand 1, for every entry that checks a proof: its own refusals are those of the walk, then 21
+module _ {B : Type 0} (t p : List ℕ) (T : Table) (x : Proof) (f : readProof p ≡ gives x) (v : B) where
+  in-range : (c : Cause) (q : ℕ) → (number c ≡ 20) ⊎ (number c ≡ 22) → q < length p → CheckRefuses p (number c) q
+  in-range c q (inl m) l = (omega arith, omega arith, l)
+  in-range c q (inr m) l = (omega arith, omega arith, l)
 
-  told : {a b : Answer} → a ≡ b → E b → E a
-  told e x = subst E (sym e) x
+  agreeing : (l : List Goal) → sameGoals l (x .remaining) ≡ true → remainingAre x v l ≡ gives v
+  unfolding remainingAre
+  agreeing l s = rw s
 
-  end-compare : (T : Table) (x : Proof) → readTable t ≡ gives T → readProof p ≡ gives x → (l : List Goal) → walk T (x .term) (termPlace x) (x .goals) ≡ gives l → (b : Bool) → sameGoals l (x .remaining) ≡ b → E (A t p)
-  end-compare T x e f l g true s = told (accepts t p T x e f l g s) (ended-counted _ _ _)
-  end-compare T x e f l g false s = told (differs t p T x e f l g s) (ended-own 21 (remainingPlace x) (omega arith, omega arith, omega (arith, proof-stands p x f .end-is)))
+  differing : (l : List Goal) → sameGoals l (x .remaining) ≡ false → remainingAre x v l ≡ refused remainingDiffer (remainingPlace x)
+  unfolding remainingAre
+  differing l s = rw s
 
-  end-walk : (T : Table) (x : Proof) → readTable t ≡ gives T → readProof p ≡ gives x → (r : Result (List Goal)) → walk T (x .term) (termPlace x) (x .goals) ≡ r → E (A t p)
-  end-walk T x e f (gives l) g = end-compare T x e f l g (sameGoals l (x .remaining)) refl
-  end-walk T x e f (refused c q) g =
-      let y = hiproof t p T x e f in
-      told (walk-refuses t p T x e f g)
-      (in-range c q (walk-number T (x .term) y (termPlace x) (x .goals) g) (omega (arith, walk-place T (x .term) y (termPlace x) (x .goals) g, proof-stands p x f .end-is, remaining-behind x)))
-    where
-      in-range : (c : Cause) (q : ℕ) → (number c ≡ 20) ⊎ (number c ≡ 22) → q < length p → E (answer.refusal (number c) 2 q 0)
-      in-range c q (inl m) l = ended-own (number c) q (omega arith, omega arith, l)
-      in-range c q (inr m) l = ended-own (number c) q (omega arith, omega arith, l)
+  own-21 : CheckRefuses p (number remainingDiffer) (remainingPlace x)
+  unfolding number
+  own-21 = (omega arith, omega arith, omega (arith, proof-stands p x f .end-is))
 
-  end-proof : (T : Table) → readTable t ≡ gives T → (r : Result Proof) → readProof p ≡ r → E (A t p)
-  end-proof T e (gives x) f = end-walk T x e f (walk T (x .term) (termPlace x) (x .goals)) refl
-  end-proof T e (refused c q) f = let r = Proof-refused p c q f in told (proof-refuses t p e f) (ended-other (number c) q (r .least) (r .most) (r .within))
+  moved : (b c : Cause) (i q : ℕ) → _≡_ {A = Result B} (refused b i) (refused c q) → CheckRefuses p (number b) i → CheckRefuses p (number c) q
+  moved b c i q e k = subst (λ (d : Cause). CheckRefuses p (number d) q) (same-cause e) (subst (λ (j : ℕ). CheckRefuses p (number b) j) (same-place e) k)
 
-  end-table : (r : Result Table) → readTable t ≡ r → E (A t p)
-  end-table (gives T) e = end-proof T e (readProof p) refl
-  end-table (refused c q) e = let r = table-place t c q e in told (table-refuses t p e) (ended-table (number c) q (r .least) (r .most) (r .within))
+  by-comparison : (l : List Goal) (b : Bool) → sameGoals l (x .remaining) ≡ b → (c : Cause) (q : ℕ) → remainingAre x v l ≡ refused c q → CheckRefuses p (number c) q
+  by-comparison l true s c q g = never-gives (sym g ∙ agreeing l s)
+  by-comparison l false s c q g = moved remainingDiffer c (remainingPlace x) q (sym (differing l s) ∙ g) own-21
+
+  given-on : (l : List Goal) → walk T (x .term) (termPlace x) (x .goals) ≡ gives l → checked T x v ≡ remainingAre x v l
+  unfolding checked andThen
+  given-on l g = rw g
+
+  stopped-so : (c : Cause) (q : ℕ) → walk T (x .term) (termPlace x) (x .goals) ≡ refused c q → checked T x v ≡ refused c q
+  unfolding checked andThen
+  stopped-so c q g = rw g
+
+  by-walk : (r : Result (List Goal)) → walk T (x .term) (termPlace x) (x .goals) ≡ r → (c : Cause) (q : ℕ) → checked T x v ≡ refused c q → CheckRefuses p (number c) q
+  by-walk (gives l) g c q h = by-comparison l (sameGoals l (x .remaining)) refl c q (sym (given-on l g) ∙ h)
+  by-walk (refused b i) g c q h =
+      let y = proof-stands p x f .hiproof in
+      moved b c i q
+      (sym (stopped-so b i g) ∙ h)
+      (in-range b i (walk-number T (x .term) y (termPlace x) (x .goals) g) (omega (arith, walk-place T (x .term) y (termPlace x) (x .goals) g, proof-stands p x f .end-is, remaining-behind x)))
+
+pub proof-comes : {B : Type 0} (value : Table → Proof → B) (t p : List ℕ) → Comes t p (CheckRefuses p) (onProof value t p)
+unfolding onProof
+proof-comes value t p =
+    comes t p (CheckRefuses p) (readProof p) (λ T x. checked T x (value T x)) (λ c q e. Proof-refused p c q e)
+    (λ T x e f c q g. by-walk t p T x f (value T x) (walk T (x .term) (termPlace x) (x .goals)) refl c q g)
 
 pub check-ends : Check-ends
 unfolding check
-check-ends t p w = ends-checked checkWork w (onProof proofCounts t p) t p (CheckRefuses p) (end-table t p (readTable t) refl)
+check-ends t p w = ends-checked checkWork w (onProof proofCounts t p) t p (CheckRefuses p) (counted-ends (proof-comes proofCounts t p))

@@ -34,9 +34,13 @@ use Rattle.entries.specs.LentSpace.{writeOut, writeIn}
 use Rattle.entries.specs.Check.{remainingAre, checked, onProof, forestFile, flattenWork, flatten}
 use Rattle.promises.specs.Accepted.{Accepted}
 use Rattle.promises.specs.Right.{Right}
+use Rattle.promises.specs.Ended.{InOther}
+use Rattle.promises.specs.CheckPromises.{CheckRefuses}
 use Rattle.promises.specs.WriteProofPromises.{wrote}
-use Rattle.promises.specs.FlattenPromises.{derivationOf, plain, FlattensRight, Flattens-right}
-use Rattle.promises.proofs.CheckPromises.{equal-same}
+use Rattle.promises.specs.FlattenPromises.{derivationOf, plain, FlattensRight, Flattens-right, Flatten-ends}
+use Rattle.promises.proofs.LentLaws.{ends-written}
+use Rattle.promises.proofs.OutcomeLaws.{written-ends}
+use Rattle.promises.proofs.CheckPromises.{equal-same, proof-comes}
 use Rattle.promises.proofs.FlattenedWithin.{derived-values, plain-values}
 
 -- a call on a proof that is accepted writes the file of its forest
@@ -140,3 +144,7 @@ module _ (t p : List ℕ) (table-bytes : Bytes t) (proof-bytes : Bytes p) (a : A
 
 pub flattens-right : Flattens-right
 flattens-right t p table-bytes proof-bytes a = flattened t p table-bytes proof-bytes a
+
+pub flatten-ends : Flatten-ends
+unfolding flatten
+flatten-ends t p w o = ends-written t p w o (InOther (CheckRefuses p)) flattenWork (onProof forestFile t p) (written-ends (proof-comes forestFile t p))

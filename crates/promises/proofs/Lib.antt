@@ -1,4 +1,5 @@
 pub mod LentLaws
+pub mod OutcomeLaws
 pub mod CheckPromises
 pub mod CheckFlatPromises
 pub mod WrittenWithin

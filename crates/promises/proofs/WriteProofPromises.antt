@@ -4,12 +4,15 @@ use Prim.Native.Nat.{ℕ, _+_, _*_, _-_, _≤_, _<_}
 use native.Mathlib.Omega.{arith}
 use native.Mathlib.Decide.{decLt}
 use mathlib.Core.Path.{_≡_, refl, sym, subst, ap, _∙_}
+use mathlib.Core.Logic.{inl, inr}
 use mathlib.Core.List.{List, [], _∷_}
 use lib.ListN.{length}
-use borrow.Author.Tests.{le-ltb}
+use borrow.Author.Tests.{lt-ltb, le-ltb}
 use Rattle.format.specs.declared.values.Goal.{Goal}
 use Rattle.format.specs.Encoding.{Bytes}
 use Rattle.format.specs.Limits.{mostEntries}
+use Rattle.format.specs.Refusals.{Cause, number, entriesTooMany}
+use Rattle.format.proofs.ResultLaws.{same-place, same-cause}
 use Rattle.format.specs.Results.{Result, gives, refused, andThen}
 use Rattle.format.specs.Terms.{Term, fields}
 use Rattle.tables.specs.Tables.{Table, HasRule, UniqueRules}
@@ -18,6 +21,7 @@ use Rattle.tables.proofs.ReadsTable.{reads-unique-rules}
 use Rattle.files.specs.Derivations.{Derivation, Entry, readFlat, flatBytes, entriesPlace}
 use Rattle.files.specs.Proofs.{Proof, readProof, proofBytes, termPlace}
 use Rattle.files.specs.Within.{ProofWithin, FlatWithin}
+use Rattle.files.proofs.RefusedFiles.{Flat-refused}
 use Rattle.files.proofs.ReadsProof.{proof-back}
 use Rattle.files.proofs.ReadsFlat.{reads-flat}
 use Rattle.hitac.specs.Derives.{Derives}
@@ -39,9 +43,13 @@ use Rattle.entries.specs.Check.{remainingAre, checked, onProof, forestFile, fla
 use Rattle.entries.specs.CheckFlat.{nonePending, right, writtenProof, writtenFile, writeOutcome, writeProofWork, writeProof}
 use Rattle.promises.specs.Accepted.{Accepted}
 use Rattle.promises.specs.Right.{Right}
-use Rattle.promises.specs.WriteProofPromises.{wrote, proofOf, WritesBack, Writes-back}
+use Rattle.promises.specs.Ended.{InOther}
+use Rattle.promises.specs.WriteProofPromises.{wrote, proofOf, WritesBack, Writes-back, WriteRefuses, Write-ends}
 use Rattle.promises.proofs.WrittenWithin.{written-values, leaf-values}
+use Rattle.promises.proofs.LentLaws.{ends-written}
+use Rattle.promises.proofs.OutcomeLaws.{comes, written-ends}
 use Rattle.promises.proofs.CheckPromises.{equal-same}
+use Rattle.promises.proofs.CheckFlatPromises.{right-refuses}
 
 module _ (t f : List ℕ) (bytes : Bytes f) (r : Right t f) (few : length (r .the-derivation .entries) ≤ 2048) where
   abbrev T : Table
@@ -136,3 +144,29 @@ module _ (t f : List ℕ) (bytes : Bytes f) (r : Right t f) (few : length (r .th
 
 pub writes-back : Writes-back
 writes-back t f bytes r few = back t f bytes r few
+
+-- demand 1
+module _ (t f : List ℕ) (T : Table) (d : Derivation) (g : readFlat f ≡ gives d) where
+  too-many : mostEntries < length (d .entries) → writtenFile T d (length f) ≡ refused entriesTooMany 0
+  unfolding writtenFile
+  too-many h = rw (lt-ltb mostEntries (length (d .entries)) h)
+
+  enough : length (d .entries) ≤ mostEntries → writtenFile T d (length f) ≡ right T d (length f) (proofBytes (writtenProof T d))
+  unfolding writtenFile
+  enough h = rw (le-ltb mostEntries (length (d .entries)) h)
+
+  number-28 : number entriesTooMany ≡ 28
+  unfolding number
+  number-28 = refl
+
+  own : Dec (mostEntries < length (d .entries)) → (c : Cause) (q : ℕ) → writtenFile T d (length f) ≡ refused c q → WriteRefuses f (number c) q
+  own (yes h) c q e = let m = sym (too-many h) ∙ e in inl (ap number (sym (same-cause m)) ∙ number-28, sym (same-place m))
+  own (no h) c q e = inr (right-refuses f T d g (proofBytes (writtenProof T d)) (flatWalk T (entriesPlace d) (d .roots) (d .entries)) refl c q (sym (enough (omega arith)) ∙ e))
+
+pub write-ends : Write-ends
+unfolding writeProof writeOutcome
+write-ends t f w o =
+    ends-written t f w o (InOther (WriteRefuses f)) writeProofWork (writeOutcome t f)
+    (written-ends
+    (comes t f (WriteRefuses f) (readFlat f) (λ T d. writtenFile T d (length f)) (λ c q e. Flat-refused f c q e)
+    (λ T d e g c q h. own t f T d g (decLt mostEntries (length (d .entries))) c q h)))

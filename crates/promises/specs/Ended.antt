@@ -31,6 +31,10 @@ pub data EndedWriting (table other : List ℕ) (Own : (number file place steps :
   ended-output : (k : ℕ) → EndedWriting table other Own (answer.refusal 26 0 0 k)
   ended-unstarted : EndedWriting table other Own (answer.refusal 29 0 0 0)
 
+-- one of the entry's own refusals that is in the other file, without steps
+abbrev pub InOther : ((number place : ℕ) → Type 0) → (number file place steps : ℕ) → Type 0
+InOther Own n f q k = (f ≡ 2) × (k ≡ 0) × Own n q
+
 -- what a success leaves in the output space: the result, as long as the answer says, and behind it what was there
 pub record Result (out : List ℕ) (c : Written) : Type 0 where
   pub bytes : List ℕ

@@ -18,6 +18,8 @@ use Rattle.hitac.specs.Hiproofs.{dropLabels}
 use Rattle.entries.specs.Check.{flattenWork, flatten}
 use Rattle.promises.specs.Accepted.{Accepted}
 use Rattle.promises.specs.Right.{Right}
+use Rattle.promises.specs.Ended.{InOther, EndsWritten}
+use Rattle.promises.specs.CheckPromises.{CheckRefuses}
 use Rattle.promises.specs.WriteProofPromises.{wrote}
 
 -- "Written with the stated goals as roots, then depth first, left first."
@@ -47,3 +49,7 @@ pub record FlattensRight (t p : List ℕ) (a : Accepted t p) : Type 0 where
 -- the bytes of the table are needed: a value of a rule's premises is written
 abbrev pub Flattens-right : Type 0
 Flattens-right = (t p : List ℕ) → Bytes t → Bytes p → (a : Accepted t p) → FlattensRight t p a
+
+-- Demand 1: check's refusals, then 26
+abbrev pub Flatten-ends : Type 0
+Flatten-ends = (t p w o : List ℕ) → EndsWritten t p w o flattenWork (InOther (CheckRefuses p)) (flatten t p w o)

@@ -2,6 +2,7 @@
 -- flattens back to exactly its bytes".
 use Prim.Native.Nat.{ℕ, _*_, _-_, _≤_, _<_}
 use mathlib.Core.Path.{_≡_}
+use mathlib.Core.Logic.{_⊎_}
 use mathlib.Core.List.{List, _++_}
 use lib.ListN.{length, drop, replicate}
 use Rattle.format.specs.Encoding.{Bytes}
@@ -18,6 +19,8 @@ use Rattle.entries.specs.Check.{flattenWork, flatten}
 use Rattle.entries.specs.CheckFlat.{writeProofWork, writeProof}
 use Rattle.promises.specs.Accepted.{Accepted}
 use Rattle.promises.specs.Right.{Right}
+use Rattle.promises.specs.Ended.{InOther, EndsWritten}
+use Rattle.promises.specs.CheckFlatPromises.{CheckFlatRefuses}
 
 -- what a call that writes these bytes leaves: its answer, the work space all zero, the bytes and behind them what was there
 abbrev pub wrote : (bytes work out : List ℕ) → Written
@@ -40,3 +43,10 @@ pub record WritesBack (t f : List ℕ) (r : Right t f) : Type 0 where
 
 abbrev pub Writes-back : Type 0
 Writes-back = (t f : List ℕ) → Bytes f → (r : Right t f) → length (r .the-derivation .entries) ≤ 2048 → WritesBack t f r
+
+-- Demand 1: 28, without a place, then 27, at an entry or at the end of the file; then 26
+abbrev pub WriteRefuses : (flat : List ℕ) → (number place : ℕ) → Type 0
+WriteRefuses flat n q = ((n ≡ 28) × (q ≡ 0)) ⊎ CheckFlatRefuses flat n q
+
+abbrev pub Write-ends : Type 0
+Write-ends = (t f w o : List ℕ) → EndsWritten t f w o writeProofWork (InOther (WriteRefuses f)) (writeProof t f w o)
