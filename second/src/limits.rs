@@ -23,7 +23,8 @@ pub const MOST_BUDGET: u32 = 4_096;
 pub const MOST_ENTRIES_WRITTEN_BACK: usize = 2_048;
 
 /// The work space that each entry must be lent (29, READINGS A56). Changing one
-/// of them is this one line, followed by `second generate-vectors vectors`.
+/// of them is this one line, followed by
+/// `second generate-vectors crates/replay_vectors/data`.
 pub const CHECK_WORK: usize = 65_536;
 pub const CHECK_FLAT_WORK: usize = 65_536;
 pub const WRITE_PROOF_WORK: usize = 65_536;

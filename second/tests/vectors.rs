@@ -1,4 +1,5 @@
-//! The fixed set of vectors: coverage, the format, and the files in vectors/.
+//! The fixed set of vectors: coverage, the format, and the files in
+//! crates/replay_vectors/data.
 
 use second::generate::case::Entry;
 use second::generate::random::Random;
@@ -73,7 +74,7 @@ fn sizes_stay_as_documented() {
 /// byte, what the generator writes is tested by the script second/ci.
 #[test]
 fn committed_files_agree() {
-    let folder = concat!(env!("CARGO_MANIFEST_DIR"), "/../vectors");
+    let folder = concat!(env!("CARGO_MANIFEST_DIR"), "/../crates/replay_vectors/data");
     for (name, generated) in vector_files() {
         let bytes = std::fs::read(format!("{folder}/{name}")).expect("a committed vector file");
         assert_eq!(vectors::replay(&bytes), Ok(cases_of(generated).len()), "{name}");

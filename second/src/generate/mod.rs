@@ -2,7 +2,7 @@
 //!
 //! `random_case` is meant for testing any engine at length: it gives calls, and
 //! `Case::outcome` says what this engine does with one. `vector_set` is the fixed
-//! set in the folder vectors/.
+//! set in the folder crates/replay_vectors/data.
 
 pub mod build;
 pub mod case;

@@ -7,7 +7,7 @@ use super::random_table::{RandomTable, Size};
 use super::{damage, examples, limit_files, other_file, random_case_of, reading};
 use crate::limits::MOST_BUDGET;
 
-/// File names in the folder vectors/, with their cases.
+/// File names in the folder crates/replay_vectors/data, with their cases.
 pub fn vector_set() -> Vec<(&'static str, Vec<Case>)> {
     vec![
         ("read-table.vec", read_table()),
