@@ -1,0 +1,12 @@
+pub mod SpaceLaws
+pub mod StackLaws
+pub mod CellLaws
+pub mod WalkLaws
+pub mod PairLaws
+pub mod PrintLaws
+pub mod PassLaws
+pub mod GrowthLaws
+pub mod SameGoals
+pub mod DecideLaws
+pub mod PlantLaws
+pub mod FlattenLaws

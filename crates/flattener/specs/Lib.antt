@@ -1,0 +1,5 @@
+pub mod Space
+pub mod Walks
+pub mod Prints
+pub mod Decides
+pub mod Forests

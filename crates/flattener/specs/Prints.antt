@@ -1,0 +1,62 @@
+-- What the depth-first pass leaves: for each node its entry behind those written, and its premises in front of the nodes still to come.
+use Prim.Native.Nat.{ℕ, _+_, _*_, _≤_, _<_}
+use mathlib.Core.Path.{_≡_}
+use mathlib.Core.List.{List, [], _∷_, _++_}
+use lib.ListN.{length}
+use lib.Seq.{sets}
+use Rattle.words.specs.Word.{word}
+use Rattle.files.specs.Derivations.{Entry, entryBytes, entriesBytes}
+use Rattle.hitac.proofs.Nodes.{Cell, openCell, useCell, entryOf, premiseNodes, range, nodeEntries}
+use Rattle.flattener.specs.declared.print.Printed.{Printed}
+use Rattle.flattener.specs.Space.{mostNodes, floor, cellBytes, stacks, cellIn, cellsOf, nodesAt}
+
+-- the cell of the node on top of the stack
+abbrev pub topCell : List ℕ → (top : ℕ) → Cell
+topCell w top = cellIn w (word (stacks w) top * 8)
+
+abbrev pub firstPremise : Cell → ℕ
+firstPremise (openCell γ) = 0
+firstPremise (useCell a γ f c) = f
+
+-- the bytes of a cell's entry
+abbrev pub cellEntry : Cell → List ℕ
+cellEntry c = entryBytes (entryOf c)
+
+-- There is room for the entry, and on the stack for the premises.
+pub record PrintReady (w : List ℕ) (top at room : ℕ) : Type 0 where
+  pub node-there : word (stacks w) top < mostNodes
+  pub within : floor + top + 2 ≤ length w
+  pub entry-fits : at + length (cellEntry (topCell w top)) ≤ room
+  pub premises-fit : length (premiseNodes (topCell w top)) * 2 ≤ top + 2
+  pub premises-there : firstPremise (topCell w top) + length (premiseNodes (topCell w top)) ≤ 65535
+
+pub record NodePrinted (w w′ : List ℕ) (top at : ℕ) (o o′ : List ℕ) (r : Printed) : Type 0 where
+  pub out-is : o′ ≡ sets o at (cellEntry (topCell w top))
+  pub at-is : r .at ≡ at + length (cellEntry (topCell w top))
+  pub cells-same : cellBytes w′ ≡ cellBytes w
+  pub top-is : r .top + length (premiseNodes (topCell w top)) * 2 ≡ top + 2
+  pub pending : (m : ℕ) → nodesAt (stacks w′) (r .top) (length (premiseNodes (topCell w top)) + m) ≡ premiseNodes (topCell w top) ++ nodesAt (stacks w) (top + 2) m
+
+-- where the stacks end: room for the arities of a file, for 256 goals and for seven more of each of 2,048 atomics
+abbrev pub stackEnd : ℕ
+stackEnd = 47104
+
+-- the premises of every use are among so many nodes
+unfoldable pub Closed : (nodes : ℕ) → List Cell → Type 0
+Closed b [] = Unit {0}
+Closed b (openCell γ ∷ A) = Closed b A
+Closed b (useCell a γ f c ∷ A) = (f + c ≤ b) × Closed b A
+
+-- the entries of a forest of so many nodes, its roots the first of them
+abbrev pub forestEntries : List ℕ → (roots nodes : ℕ) → List Entry
+forestEntries w roots nodes = nodeEntries nodes (cellsOf (cellBytes w) nodes) (range 0 roots)
+
+-- The nodes of a work space make a forest, all of them one entry each, and there is room for these.
+pub record Printable (w : List ℕ) (roots nodes at room : ℕ) : Type 0 where
+  pub few : nodes ≤ mostNodes
+  pub closed : Closed nodes (cellsOf (cellBytes w) nodes)
+  pub whole : (j : ℕ) → nodeEntries (nodes + j) (cellsOf (cellBytes w) nodes) (range 0 roots) ≡ forestEntries w roots nodes
+  pub count : length (forestEntries w roots nodes) ≡ nodes
+  pub roots-there : roots ≤ nodes
+  pub fits : at + length (entriesBytes (forestEntries w roots nodes)) ≤ room
+  pub within : floor + stackEnd ≤ length w
