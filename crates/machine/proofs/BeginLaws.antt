@@ -1,0 +1,336 @@
+-- One term begun: a law for each form but atomic terms, tensors and defined tactics. A form that fails writes nothing; one that ends leaves its field; one
+-- that enters an inner term lays a frame on the others.
+-- Assumes nothing.
+use Prim.Native.Nat.{ℕ, zero, suc, _+_, _*_, _-_, _≤_, _<_}
+use mathlib.Core.Path.{_≡_, refl, sym, ap, subst, _∙_}
+use mathlib.Core.List.{List, _∷_}
+use mathlib.Core.Option.{Option, none, some}
+use native.Mathlib.Omega.{arith}
+use lib.ListN.{length, getD}
+use borrow.Author.Tests.{eq-eqb, ne-eqb}
+use Rattle.words.specs.Word.{word, putWord}
+use Rattle.words.proofs.WordLaws.{word-same}
+use Rattle.format.specs.declared.values.Goal.{Goal}
+use Rattle.format.specs.declared.values.Label.{Label}
+use Rattle.format.specs.Goals.{goalsAt}
+use Rattle.format.specs.Terms.{Term, id, label, sequence, empty, alternation, assert, size}
+use Rattle.format.specs.Standing.{Head, Stands}
+use Rattle.tables.specs.Tables.{Table}
+use Rattle.tables.specs.Lookup.{matches}
+use Rattle.hitac.specs.Outcomes as outcome
+use Rattle.hitac.specs.Outcomes.{proved, onOne, oneGoal, noGoal, assertGives, finished}
+use Rattle.hitac.specs.Machine as M
+use Rattle.hitac.specs.Machine.{labelled, sequenceLeft, alternationLeft}
+use Rattle.machine.specs.declared.frames.Frame.{Frame}
+use Rattle.machine.specs.declared.state.State.{State}
+use Rattle.machine.specs.Layout.{framesEnd}
+use Rattle.machine.specs.Memory.{Only}
+use Rattle.machine.specs.Frames.{frameAt, putFrame, putHeader}
+use Rattle.machine.specs.Shows.{source, GoalsIs, FrameIs, FramesAt, frameAside, setAside, Sizes, Runs, Ends, Config, next, done, Holds}
+use Rattle.machine.specs.Begun.{enter, Room, Begins, failed, kept, entered, idNext, emptyNext, assertNext, sequenceNext, alternationNext, labelNext, sequenceFrame, alternationFrame, labelFrame}
+use Rattle.machine.specs.Step.{Grown}
+use Rattle.machine.proofs.MemoryLaws.{only-then, only-wider, only-word, same-word}
+use Rattle.machine.proofs.FrameLaws.{only-frame, frame-same, only-header, header-tag, header-head}
+use Rattle.machine.proofs.KeepLaws.{kept-output, kept-behind, goals-kept, frames-kept}
+
+-- what the forms on one goal and on none give for the goals in bytes
+module _ (w : List ℕ) (at : ℕ) where
+  pub one-at : (f : Goal → Option (List Goal)) (γ : Goal) (n : ℕ) → n ≡ 1 → γ .0 ≡ word w at → onOne f (goalsAt w at n) ≡ f γ
+  unfolding goalsAt
+  one-at f γ zero e q = absurd (omega arith)
+  one-at f γ (suc zero) e q = ap f (λ i. record { 0 = sym q i })
+  one-at f γ (suc (suc n)) e q = absurd (omega arith)
+
+  pub not-one-at : (f : Goal → Option (List Goal)) (n : ℕ) → (n ≡ 1 → ⊥) → onOne f (goalsAt w at n) ≡ none
+  unfolding goalsAt
+  not-one-at f zero e = refl
+  not-one-at f (suc zero) e = absurd (e refl)
+  not-one-at f (suc (suc n)) e = refl
+
+  same-one : (n : ℕ) → n ≡ 1 → oneGoal (goalsAt w at n) ≡ some (goalsAt w at n)
+  unfolding goalsAt
+  same-one zero e = absurd (omega arith)
+  same-one (suc zero) e = refl
+  same-one (suc (suc n)) e = absurd (omega arith)
+
+  none-at : (n : ℕ) → n ≡ 0 → noGoal (goalsAt w at n) ≡ some (goalsAt w at n)
+  unfolding goalsAt
+  none-at zero e = refl
+  none-at (suc n) e = absurd (omega arith)
+
+  not-none-at : (n : ℕ) → (n ≡ 0 → ⊥) → noGoal (goalsAt w at n) ≡ none
+  unfolding goalsAt
+  not-none-at zero e = absurd (e refl)
+  not-none-at (suc n) e = refl
+
+  assert-at : (T : Table) (γ : Goal) (n : ℕ) → n ≡ 1 → word w at ≡ γ .0 → assertGives T γ (goalsAt w at n) ≡ some (goalsAt w at n)
+  unfolding goalsAt matches
+  assert-at T γ zero e q = absurd (omega arith)
+  assert-at T γ (suc zero) e q = rw (eq-eqb (γ .0) (word w at) (sym q))
+  assert-at T γ (suc (suc n)) e q = absurd (omega arith)
+
+  assert-not-at : (T : Table) (γ : Goal) (n : ℕ) → (word w at ≡ γ .0 → ⊥) → assertGives T γ (goalsAt w at n) ≡ none
+  unfolding goalsAt matches
+  assert-not-at T γ zero q = refl
+  assert-not-at T γ (suc zero) q = rw (ne-eqb (γ .0) (word w at) (λ e. q (sym e)))
+  assert-not-at T γ (suc (suc n)) q = refl
+
+-- a frame laid on the others
+pushed : (table job w : List ℕ) (arena top o o′ : ℕ) (f : Frame) (x : M.Frame) (k : List M.Frame)
+    → arena + 14 ≤ top → o + 14 ≤ top → top ≤ length w → f .mark ≡ o
+    → FramesAt table job w arena k top o → FrameIs table job (putFrame w (top - 14) f) arena f o′ x → FramesAt table job (putFrame w (top - 14) f) arena (x ∷ k) (top - 14) o′
+unfolding FramesAt
+pushed table job w arena top o o′ f x k a b n e h i =
+    let v = putFrame w (top - 14) f in
+    let only : Only (top - 14) (top - 14 + 14) w v = only-frame w (top - 14) f (omega arith) in
+    let back : frameAt v (top - 14) ≡ f = frame-same w (top - 14) f (omega arith) in
+    let up : top ≡ top - 14 + 14 = omega arith in
+    let rest : FramesAt table job v arena k top o = frames-kept w v arena arena (omega arith) table job k top o
+    (kept-behind (top - 14) (top - 14 + 14) o arena top w v only (omega arith) (omega arith) (omega arith)) h in
+    let rest′ : FramesAt table job v arena k (top - 14 + 14) (f .mark) =
+    subst (λ (y : ℕ). FramesAt table job v arena k (top - 14 + 14) y) (sym e) (subst (λ (y : ℕ). FramesAt table job v arena k y o) up rest) in (
+      subst (λ (y : Frame). FrameIs table job v arena y o′ x) (sym back) i,
+      subst (λ (y : Frame). FramesAt table job v arena k (top - 14 + 14) (y .mark)) (sym back) rest′,
+    )
+
+module _ (w : List ℕ) (s : State) (room : Room w s) where
+  pub fail-grown : (r : State) → r ≡ failed s → Grown w s w r
+  fail-grown r q = subst (λ (x : State). Grown w s w x) (sym q) (record { beyond = λ i b. refl; same-length = refl; one-step = refl })
+
+  -- the term fails
+  pub fail-holds : (table job : List ℕ) (t : Term) (g : List Goal) (k : List M.Frame) (r : State) → r ≡ failed s → Runs table job w s t g k → Holds table job w r (done outcome.failed k)
+  unfolding Holds Ends
+  fail-holds table job t g k r q h = subst (λ (x : State). Holds table job w x (done outcome.failed k)) (sym q) (record {
+    mode-is = refl;
+    from = s .out;
+    below = omega arith;
+    frames = h .frames;
+    sizes = record { output-fits = omega (arith, h .sizes .output-fits); goals-fit = omega (arith, h .sizes .goals-fit); frames-fit = omega (arith, h .sizes .frames-fit) };
+  })
+
+  pub fail-begins : (t : Term) (c : List Goal → List M.Frame → Config) → ((g : List Goal) (k : List M.Frame) → GoalsIs w (s .arena) (s .start) (s .count) g → c g k ≡ done outcome.failed k)
+      → (r : State) → r ≡ failed s → Begins w s w r t c
+  fail-begins t c e r q table job g k h = subst (λ (y : Config). Holds table job w r y) (sym (e g k (h .goals))) (fail-holds table job t g k r q h)
+
+  -- what lies elsewhere than the output stays
+  module _ (v : List ℕ) (n : ℕ) (only : Only (s .out) (s .out + n) w v) (small : n ≤ 5) where
+    pub goals-stay : (g : List Goal) → GoalsIs w (s .arena) (s .start) (s .count) g → GoalsIs v (s .arena) (s .start) (s .count) g
+    goals-stay g h = goals-kept w v (s .arena) (s .arena) (omega arith) (s .start) (s .count) g (λ i l r. only .kept .above i (omega (arith, room .output-fits))) h
+
+    pub frames-stay : (table job : List ℕ) (k : List M.Frame) → FramesAt table job w (s .arena) k (s .top) (s .out) → FramesAt table job v (s .arena) k (s .top) (s .out)
+    frames-stay table job k h =
+        frames-kept w v (s .arena) (s .arena) (omega arith) table job k (s .top) (s .out)
+        (kept-output (s .out) (s .out + n) (s .out) (s .arena) (s .top) w v only (omega arith) (omega (arith, room .output-fits)) (omega (arith, room .frames-low))) h
+
+    pub beyond-output : (i : ℕ) → framesEnd ≤ i → getD v i 0 ≡ getD w i 0
+    beyond-output i b = only .kept .above i (omega (arith, room .output-fits))
+
+  pub keep-grown : (tag : ℕ) (v : List ℕ) (r : State) → v ≡ putHeader w (s .out) tag 0 → r ≡ kept s → Grown w s v r
+  keep-grown tag v r q₁ q₂ =
+      let only : Only (s .out) (s .out + 3) w v = subst (λ (x : List ℕ). Only (s .out) (s .out + 3) w x) (sym q₁) (only-header w (s .out) tag 0) in
+      subst (λ (x : State). Grown w s v x) (sym q₂) (record { beyond = beyond-output v 3 only (omega arith); same-length = only .same-length; one-step = refl })
+
+  -- the term gives its goals back
+  keep-begins : (tag : ℕ) (p t : Term) (c : List Goal → List M.Frame → Config) → ((v : List ℕ) (at : ℕ) → Head v at tag 0 → Stands v at p) → size p ≡ 3
+      → ((g : List Goal) (k : List M.Frame) → GoalsIs w (s .arena) (s .start) (s .count) g → c g k ≡ done (proved p g) k)
+      → (v : List ℕ) (r : State) → v ≡ putHeader w (s .out) tag 0 → r ≡ kept s → Begins w s v r t c
+  unfolding Holds Ends
+  keep-begins tag p t c st three e v r q₁ q₂ =
+      let only = only-header w (s .out) tag 0 in
+      let y = putHeader w (s .out) tag 0 in
+      subst (λ (x : State). Begins w s v x t c) (sym q₂)
+      (subst (λ (z : List ℕ). Begins w s z (kept s) t c) (sym q₁)
+      (λ table job g k h. subst (λ (z : Config). Holds table job y (kept s) z) (sym (e g k (h .goals)))
+      (record {
+        mode-is = refl;
+        from = s .out;
+        stands = st y (s .out) (header-head w (s .out) tag 0 (omega (arith, room .output-fits, room .space)));
+        out-is = omega (arith, three);
+        goals = goals-stay y 3 only (omega arith) g (h .goals);
+        frames = frames-stay y 3 only (omega arith) table job k (h .frames);
+        sizes = record { output-fits = omega (arith, h .sizes .output-fits); goals-fit = omega (arith, h .sizes .goals-fit); frames-fit = omega (arith, h .sizes .frames-fit) };
+      })))
+
+  stands-id : (v : List ℕ) (at : ℕ) → Head v at 17 0 → Stands v at id
+  unfolding Stands
+  stands-id v at h = h
+
+  stands-empty : (v : List ℕ) (at : ℕ) → Head v at 21 0 → Stands v at empty
+  unfolding Stands
+  stands-empty v at h = h
+
+  three-id : size id ≡ 3
+  unfolding size
+  three-id = refl
+
+  three-empty : size empty ≡ 3
+  unfolding size
+  three-empty = refl
+
+  -- what a form gives, by the goals in bytes
+  by-goals : (p : Term) (o : List Goal → Option (List Goal)) (k : List M.Frame) (g : List Goal) → GoalsIs w (s .arena) (s .start) (s .count) g
+      → o (goalsAt w (s .start) (s .count)) ≡ some (goalsAt w (s .start) (s .count)) → done (finished p (o g)) k ≡ done (proved p g) k
+  by-goals p o k g h e = ap (λ (x : Option (List Goal)). done (finished p x) k) (subst (λ (x : List Goal). o x ≡ some x) (h .are) e)
+
+  pub by-none : {A : Type 0} (o : List Goal → Option A) (f : Option A → Config) (g : List Goal) → GoalsIs w (s .arena) (s .start) (s .count) g
+      → o (goalsAt w (s .start) (s .count)) ≡ none → f (o g) ≡ f none
+  by-none o f g h e = ap f (subst (λ (x : List Goal). o x ≡ none) (h .are) e)
+
+  pub id-fails : (r : State) → (s .count ≡ 1 → ⊥) → r ≡ failed s → Begins w s w r id idNext × Grown w s w r
+  id-fails r n q = (fail-begins id idNext (λ g k h. by-none oneGoal (λ o. done (finished id o) k) g h (not-one-at w (s .start) _ (s .count) n)) r q, fail-grown r q)
+
+  pub id-keeps : (v : List ℕ) (r : State) → s .count ≡ 1 → v ≡ putHeader w (s .out) 17 0 → r ≡ kept s → Begins w s v r id idNext × Grown w s v r
+  id-keeps v r n q₁ q₂ =
+      (keep-begins 17 id id idNext stands-id three-id (λ g k h. by-goals id oneGoal k g h (same-one w (s .start) (s .count) n)) v r q₁ q₂, keep-grown 17 v r q₁ q₂)
+
+  pub empty-fails : (r : State) → (s .count ≡ 0 → ⊥) → r ≡ failed s → Begins w s w r empty emptyNext × Grown w s w r
+  empty-fails r n q = (fail-begins empty emptyNext (λ g k h. by-none noGoal (λ o. done (finished empty o) k) g h (not-none-at w (s .start) (s .count) n)) r q, fail-grown r q)
+
+  pub empty-keeps : (v : List ℕ) (r : State) → s .count ≡ 0 → v ≡ putHeader w (s .out) 21 0 → r ≡ kept s → Begins w s v r empty emptyNext × Grown w s v r
+  empty-keeps v r n q₁ q₂ =
+      (keep-begins 21 empty empty emptyNext stands-empty three-empty (λ g k h. by-goals empty noGoal k g h (none-at w (s .start) (s .count) n)) v r q₁ q₂, keep-grown 21 v r q₁ q₂)
+
+  abbrev Asserts : ℕ → List ℕ → State → Type 0
+  Asserts value v r = ((T : Table) (γ : Goal) → value ≡ γ .0 → Begins w s v r (assert γ) (assertNext T γ)) × Grown w s v r
+
+  pub assert-many-end : (value : ℕ) (r : State) → (s .count ≡ 1 → ⊥) → r ≡ failed s → Asserts value w r
+  assert-many-end value r n q = (
+    λ T γ e. fail-begins (assert γ) (assertNext T γ) (λ g k h. by-none (assertGives T γ) (λ o. done (finished id o) k) g h (not-one-at w (s .start) _ (s .count) n)) r q,
+    fail-grown r q,
+  )
+
+  pub assert-other-end : (value : ℕ) (r : State) → (word w (s .start) ≡ value → ⊥) → r ≡ failed s → Asserts value w r
+  assert-other-end value r n q = (
+    λ T γ e. fail-begins (assert γ) (assertNext T γ)
+        (λ g k h. by-none (assertGives T γ) (λ o. done (finished id o) k) g h (assert-not-at w (s .start) T γ (s .count) (λ i. n (i ∙ sym e)))) r q,
+    fail-grown r q,
+  )
+
+  pub assert-end : (value : ℕ) (v : List ℕ) (r : State) → s .count ≡ 1 → word w (s .start) ≡ value → v ≡ putHeader w (s .out) 17 0 → r ≡ kept s → Asserts value v r
+  assert-end value v r n i q₁ q₂ = (
+    λ T γ e. keep-begins 17 id (assert γ) (assertNext T γ) stands-id three-id (λ g k h. by-goals id (assertGives T γ) k g h (assert-at w (s .start) T γ (s .count) n (i ∙ e))) v r q₁ q₂,
+    keep-grown 17 v r q₁ q₂,
+  )
+
+  -- a frame laid on the others: what lies before it stays
+  module _ (y : List ℕ) (len : length y ≡ length w) (f : Frame) where
+    abbrev v : List ℕ
+    v = putFrame y (s .top - 14) f
+
+    pub only-push : Only (s .top - 14) (s .top - 14 + 14) y v
+    only-push = only-frame y (s .top - 14) f (omega (arith, len, room .space, room .frames-high, room .frames-low))
+
+    pub goals-under : (start count : ℕ) (g : List Goal) → GoalsIs y (s .arena) start count g → GoalsIs v (s .arena) start count g
+    goals-under start count g h =
+        goals-kept y v (s .arena) (s .arena) (omega arith) start count g (λ i l r. only-push .kept .below i (omega (arith, room .goals-fit, room .frames-low))) h
+
+    pub push-here : (table job : List ℕ) (o′ : ℕ) (x : M.Frame) (k : List M.Frame) → f .mark ≡ s .out
+        → FramesAt table job y (s .arena) k (s .top) (s .out) → FrameIs table job v (s .arena) f o′ x → FramesAt table job v (s .arena) (x ∷ k) (s .top - 14) o′
+    push-here table job o′ x k e h i =
+        pushed table job y (s .arena) (s .top) (s .out) o′ f x k
+        (omega (arith, room .goals-fit, room .frames-low)) (omega (arith, room .output-fits, room .frames-low)) (omega (arith, len, room .space, room .frames-high)) e h i
+
+    pub enter-grown : ((i : ℕ) → framesEnd ≤ i → getD y i 0 ≡ getD w i 0) → (on count o : ℕ) → Grown w s v (entered s on count o)
+    enter-grown far on count o = record {
+      beyond = λ i b. only-push .kept .above i (omega (arith, room .frames-low, room .frames-high)) ∙ far i b;
+      same-length = only-push .same-length ∙ len;
+      one-step = refl;
+    }
+
+  -- the numbers once an inner term is entered
+  pub enter-sizes : (x : M.Frame) (k : List M.Frame) (on count o : ℕ) → Sizes s k 0 → o ≤ s .out + 5 → frameAside x ≤ 264 → Sizes (entered s on count o) (x ∷ k) 0
+  unfolding setAside
+  enter-sizes x k on count o h a b = record {
+    output-fits = omega (arith, h .output-fits, a);
+    goals-fit = omega (arith, h .goals-fit, b);
+    frames-fit = omega (arith, h .frames-fit, room .frames-low);
+  }
+
+  pub sequence-end : (right : ℕ) (v : List ℕ) → v ≡ putFrame (putHeader w (s .out) 19 0) (s .top - 14) (sequenceFrame s right)
+      → ((t u : Term) → right ≡ s .at + 3 + size t → Begins w s v (entered s 3 (s .count) (s .out + 3)) (sequence t u) (sequenceNext t u)) × Grown w s v (entered s 3 (s .count) (s .out + 3))
+  unfolding Holds FrameIs Stands
+  sequence-end right v q =
+      let y = putHeader w (s .out) 19 0 in
+      let f = sequenceFrame s right in
+      let z = putFrame y (s .top - 14) f in
+      let r = entered s 3 (s .count) (s .out + 3) in
+      let only = only-header w (s .out) 19 0 in
+      let push = only-push y (only .same-length) f in
+      let tag : getD z (s .out) 0 ≡ 19 = push .kept .below (s .out) (omega (arith, room .output-fits, room .frames-low)) ∙ header-tag w (s .out) 19 0 (omega (arith, room .output-fits, room .space)) in
+      subst (λ (x : List ℕ). ((t u : Term) → right ≡ s .at + 3 + size t → Begins w s x r (sequence t u) (sequenceNext t u)) × Grown w s x r) (sym q) (
+        λ t u e table job g k h. record {
+          mode-is = refl;
+          stands = h .stands .1;
+          goals = goals-under y (only .same-length) f (s .start) (s .count) g (goals-stay y 3 only (omega arith) g (h .goals));
+          frames = push-here y (only .same-length) f table job (s .out + 3) (sequenceLeft u) k refl (frames-stay y 3 only (omega arith) table job k (h .frames))
+              (refl, refl, tag, subst (λ (p : ℕ). Stands (source table job (s .file)) p u) (sym e) (h .stands .2));
+          sizes = enter-sizes (sequenceLeft u) k 3 (s .count) (s .out + 3) (h .sizes) (omega arith) (omega arith);
+        },
+        enter-grown y (only .same-length) f (beyond-output y 3 only (omega arith)) 3 (s .count) (s .out + 3),
+      )
+
+  pub alternation-end : (right : ℕ) (v : List ℕ) → v ≡ putFrame w (s .top - 14) (alternationFrame s right)
+      → ((t u : Term) → right ≡ s .at + 3 + size t → Begins w s v (entered s 3 (s .count) (s .out)) (alternation t u) (alternationNext t u)) × Grown w s v (entered s 3 (s .count) (s .out))
+  unfolding Holds FrameIs Stands
+  alternation-end right v q =
+      let f = alternationFrame s right in
+      let z = putFrame w (s .top - 14) f in
+      let r = entered s 3 (s .count) (s .out) in
+      subst (λ (x : List ℕ). ((t u : Term) → right ≡ s .at + 3 + size t → Begins w s x r (alternation t u) (alternationNext t u)) × Grown w s x r) (sym q) (
+        λ t u e table job g k h.
+            let same : GoalsIs z (s .arena) (s .start) (s .count) g = goals-under w refl f (s .start) (s .count) g (h .goals) in
+            record {
+              mode-is = refl;
+              stands = h .stands .1;
+              goals = same;
+              frames = push-here w refl f table job (s .out) (alternationLeft u g) k refl (h .frames)
+                  (refl, refl, subst (λ (p : ℕ). Stands (source table job (s .file)) p u) (sym e) (h .stands .2), same);
+              sizes = enter-sizes (alternationLeft u g) k 3 (s .count) (s .out) (h .sizes) (omega arith) (omega arith);
+            },
+        enter-grown w refl f (λ i b. refl) 3 (s .count) (s .out),
+      )
+
+  abbrev Labels : ℕ → List ℕ → State → Type 0
+  Labels value v r = ((l : Label) (t : Term) → value ≡ l .0 → Begins w s v r (label l t) (labelNext l t)) × Grown w s v r
+
+  pub label-fails : (value : ℕ) (r : State) → (s .count ≡ 1 → ⊥) → r ≡ failed s → Labels value w r
+  label-fails value r n q = (
+    λ l t e. fail-begins (label l t) (labelNext l t)
+        (λ g k h. by-none oneGoal (λ o. enter o k (λ x. next t x (labelled l ∷ k))) g h (not-one-at w (s .start) _ (s .count) n)) r q,
+    fail-grown r q,
+  )
+
+  pub label-end : (value : ℕ) (v : List ℕ) → s .count ≡ 1 → v ≡ putFrame (putWord (putHeader w (s .out) 18 0) (s .out + 3) value) (s .top - 14) (labelFrame s)
+      → Labels value v (entered s 5 (s .count) (s .out + 5))
+  unfolding Holds FrameIs Stands
+  label-end value v n q =
+      let y₁ = putHeader w (s .out) 18 0 in
+      let y = putWord y₁ (s .out + 3) value in
+      let f = labelFrame s in
+      let z = putFrame y (s .top - 14) f in
+      let r = entered s 5 (s .count) (s .out + 5) in
+      let only₁ = only-header w (s .out) 18 0 in
+      let only₂ = only-word y₁ (s .out + 3) value in
+      let only : Only (s .out) (s .out + 5) w y = only-then (s .out) (s .out + 5) w y₁ y
+      (only-wider (s .out) (s .out + 3) (s .out) (s .out + 5) w y₁ only₁ (omega arith) (omega arith))
+      (only-wider (s .out + 3) (s .out + 3 + 2) (s .out) (s .out + 5) y₁ y only₂ (omega arith) (omega arith)) in
+      let push = only-push y (only .same-length) f in
+      let l₁ = only₁ .same-length in
+      let tag : getD z (s .out) 0 ≡ 18 = push .kept .below (s .out) (omega (arith, room .output-fits, room .frames-low)) ∙ only₂ .kept .below (s .out) (omega arith)
+      ∙ header-tag w (s .out) 18 0 (omega (arith, room .output-fits, room .space)) in
+      let val : word z (s .out + 3) ≡ value = same-word y z 0 (s .out + 5) (s .out + 3) (λ i a b. push .kept .below i (omega (arith, room .output-fits, room .frames-low))) (omega arith) (omega arith)
+      ∙ word-same y₁ (s .out + 3) value (omega (arith, l₁, room .output-fits, room .space)) in
+      subst (λ (x : List ℕ). Labels value x r) (sym q) (
+        λ l t e table job g k h.
+            let one : labelNext l t g k ≡ next t g (labelled l ∷ k) =
+            ap (λ (o : Option (List Goal)). enter o k (λ x. next t x (labelled l ∷ k))) (subst (λ (x : List Goal). oneGoal x ≡ some x) (h .goals .are) (same-one w (s .start) (s .count) n)) in
+            subst (λ (x : Config). Holds table job z r x) (sym one)
+            (record {
+              mode-is = refl;
+              stands = h .stands .2;
+              goals = goals-under y (only .same-length) f (s .start) (s .count) g (goals-stay y 5 only (omega arith) g (h .goals));
+              frames = push-here y (only .same-length) f table job (s .out + 5) (labelled l) k refl (frames-stay y 5 only (omega arith) table job k (h .frames)) (refl, refl, tag, val ∙ e);
+              sizes = enter-sizes (labelled l) k 5 (s .count) (s .out + 5) (h .sizes) (omega arith) (omega arith);
+            }),
+        enter-grown y (only .same-length) f (beyond-output y 5 only (omega arith)) 5 (s .count) (s .out + 5),
+      )

@@ -1,0 +1,267 @@
+-- A step: the term that stands there is begun as its form asks, by its tag, and then the frames are unwound.
+-- Assumes nothing.
+use Prim.Native.Nat.{ℕ, _+_, _*_, _≤_, _<_}
+use mathlib.Core.Path.{_≡_, refl, sym, ap, subst, _∙_}
+use mathlib.Core.Bool.{Bool, cond}
+use mathlib.Core.List.{List, []}
+use mathlib.Core.Option.{Option, none, some}
+use native.Mathlib.Omega.{arith}
+use lib.ListN.{length, getD}
+use borrow.Author.Tests.{eq-eqb, ne-eqb}
+use Rattle.words.specs.Word.{word}
+use Rattle.format.specs.declared.values.RuleName.{RuleName}
+use Rattle.format.specs.declared.values.Goal.{Goal}
+use Rattle.format.specs.declared.values.Label.{Label}
+use Rattle.format.specs.declared.values.TacticNo.{TacticNo}
+use Rattle.format.specs.Limits.{mostSteps}
+use Rattle.format.specs.Terms.{Term, atomic, id, label, sequence, tensor, empty, alternation, assert, defined, size}
+use Rattle.format.specs.Standing.{Stands}
+use Rattle.format.proofs.StandsLaws.{tagOf, known}
+use Rattle.format.proofs.ByTag.{by-tag}
+use Rattle.tables.specs.Tables.{Table}
+use Rattle.tables.specs.Standing.{TableStands}
+use Rattle.hitac.specs.TacticArity.{arityIn, tacticArity}
+use Rattle.hitac.specs.Outcomes.{oneGoal, splitBy}
+use Rattle.tables.specs.Lookup.{findBody}
+use Rattle.hitac.specs.Machine as M
+use Rattle.hitac.specs.Machine.{enterOrFail, unwind}
+use Rattle.machine.specs.declared.state.State.{State}
+use Rattle.machine.specs.Layout.{outputEnd, goalsEnd, framesEnd, spaceEnd}
+use Rattle.machine.specs.Shows.{source, GoalsIs, Runs, Ends, Config, next, done, Holds, Shows, setAside}
+use Rattle.machine.specs.Popping.{settle, Fewer, Unwinding, Unwound}
+use Rattle.machine.specs.Arities.{arityCode, ArityTable, arities, Pair}
+use Rattle.machine.specs.Begun.{enter, begun, Room, Begins, BeginsIn, idNext, emptyNext, assertNext, sequenceNext, alternationNext, labelNext, tensorNext, ruleNext, definedNext}
+use Rattle.machine.specs.Step.{Grown, Given, BeginsAny, PairStands, BeginsPair, Stepped}
+use Rattle.machine.proofs.KeepLaws.{frames-top}
+use Rattle.machine.proofs.UnwindLaws.{after-done, after-next}
+use Rattle.machine.proofs.ArityLaws.{Inner, pair-of}
+
+-- a term begun, then unwound, is the machine's step
+settle-enter : {A : Type 0} (o : Option A) (k : List M.Frame) (f : A → Config) → settle (enter o k f) ≡ enterOrFail o k (λ a. settle (f a))
+unfolding settle
+settle-enter none k f = refl
+settle-enter (some a) k f = refl
+
+settle-begun : (T : Table) (t : Term) (g : List Goal) (k : List M.Frame) → settle (begun T t g k) ≡ M.begin T t g k
+unfolding settle begun M.begin
+settle-begun T (atomic a) g k = refl
+settle-begun T id g k = refl
+settle-begun T (label l t) g k = settle-enter (oneGoal g) k _
+settle-begun T (sequence t u) g k = refl
+settle-begun T (tensor t u) g k = settle-enter (splitBy (tacticArity T t) g) k _
+settle-begun T empty g k = refl
+settle-begun T (alternation t u) g k = refl
+settle-begun T (assert γ) g k = refl
+settle-begun T (defined d) g k = settle-enter (findBody T d) k _
+
+-- a term that is neither id nor empty has five bytes
+five : (t : Term) (src : List ℕ) (at : ℕ) → Stands src at t → (tagOf t ≡ 17 → ⊥) → (tagOf t ≡ 21 → ⊥) → 5 ≤ size t
+unfolding size tagOf Stands
+five (atomic a) src at st x y = omega arith
+five id src at st x y = absurd (x refl)
+five (label l t) src at st x y = omega arith
+five (sequence t u) src at st x y = omega (arith, known src (at + 3) t (st .1) .three)
+five (tensor t u) src at st x y = omega (arith, known src (at + 3) t (st .1) .three)
+five empty src at st x y = absurd (y refl)
+five (alternation t u) src at st x y = omega (arith, known src (at + 3) t (st .1) .three)
+five (assert γ) src at st x y = omega arith
+five (defined d) src at st x y = omega arith
+
+pub value-room : (src : List ℕ) (at : ℕ) (t : Term) → Stands src at t → (getD src at 0 ≡ 17 → ⊥) → (getD src at 0 ≡ 21 → ⊥) → at + 5 ≤ length src
+value-room src at t st a b =
+    let k = known src at t st in
+    omega (arith, k .inside, five t src at st (λ e. a (k .tag-is ∙ e)) (λ e. b (k .tag-is ∙ e)))
+
+-- the file that a term stands in
+in-file : (bytes job src : List ℕ) (file at : ℕ) (t : Term) → source bytes job file ≡ src → Stands (source bytes job file) at t → Stands src at t
+in-file bytes job src file at t so st = subst (λ (b : List ℕ). Stands b at t) so st
+
+pub from-table : (bytes job : List ℕ) (file : ℕ) → file ≡ 0 → source bytes job file ≡ bytes
+from-table bytes job file e = ap (λ (b : Bool). cond b bytes job) (eq-eqb file 0 e)
+
+pub from-job : (bytes job : List ℕ) (file : ℕ) → (file ≡ 0 → ⊥) → source bytes job file ≡ job
+from-job bytes job file e = ap (λ (b : Bool). cond b bytes job) (ne-eqb file 0 e)
+
+module _ (bytes : List ℕ) (first : ℕ) (src w : List ℕ) (s : State) where
+  -- what is given
+  module _ (q : Given bytes first src w s) where
+    pub given-stands : Stands src (s .at) (q .term)
+    given-stands = in-file bytes (q .job) src (s .file) (s .at) (q .term) (q .so) (q .runs .stands)
+
+    pub given-at : s .at + 3 ≤ length src
+    given-at = let k = known src (s .at) (q .term) given-stands in omega (arith, k .inside, k .three)
+
+    pub given-room : Room w s
+    given-room =
+        let z = q .runs .sizes in
+        record {
+          steps-left = q .steps-left;
+          output-fits = omega (arith, q .steps-left, z .output-fits);
+          goals-fit = omega (arith, q .steps-left, z .goals-fit);
+          frames-low = omega (arith, q .steps-left, z .frames-fit);
+          frames-high = frames-top bytes (q .job) w (s .arena) (q .frames) (s .top) (s .out) (q .runs .frames);
+          space = q .space;
+        }
+
+    pub given-goals : (g : List Goal) × GoalsIs w (s .arena) (s .start) (s .count) g
+    given-goals = (q .goals, q .runs .goals)
+
+    pub given-pair : (tag : ℕ) → getD src (s .at) 0 ≡ tag → (tag ≡ 17 → ⊥) → (tag ≡ 21 → ⊥) → (tag ≡ 16 → ⊥) → (tag ≡ 18 → ⊥) → (tag ≡ 23 → ⊥) → (tag ≡ 24 → ⊥) → PairStands src w s tag
+    given-pair tag e a b c d f g = record {
+      room = given-room;
+      src-small = q .src-small;
+      tag-is = e;
+      pair = (a, b, c, d, f, g);
+      bytes = bytes;
+      job = q .job;
+      so = q .so;
+      term = q .term;
+      goals = q .goals;
+      frames = q .frames;
+      runs = q .runs;
+    }
+
+  -- by the tag: what was said of the form is said of the term
+  module _ (v : List ℕ) (r : State) where
+    -- what is to be shown of the term
+    abbrev Goes : (T : Table) → (job : List ℕ) → List Goal → List M.Frame → Term → Type 0
+    Goes T job g k x = Stands src (s .at) x → Runs bytes job w s x g k → Holds bytes job v r (begun T x g k)
+
+    -- where it stands
+    there : (job : List ℕ) (t : Term) (g : List Goal) (k : List M.Frame) → source bytes job (s .file) ≡ src → Runs bytes job w s t g k → Stands src (s .at) t
+    there job t g k so h = in-file bytes job src (s .file) (s .at) t so (h .stands)
+
+    pub id-any : getD src (s .at) 0 ≡ 17 → Begins w s v r id idNext → BeginsAny bytes first src w s v r
+    unfolding begun
+    id-any e b T job t g k st so ar h = let y = there job t g k so h in by-tag src (s .at) (Goes T job g k) 17 (λ z i. b bytes job g k i) e t y y h
+
+    pub empty-any : getD src (s .at) 0 ≡ 21 → Begins w s v r empty emptyNext → BeginsAny bytes first src w s v r
+    unfolding begun
+    empty-any e b T job t g k st so ar h = let y = there job t g k so h in by-tag src (s .at) (Goes T job g k) 21 (λ z i. b bytes job g k i) e t y y h
+
+    pub atomic-any : getD src (s .at) 0 ≡ 16 → (value : ℕ) → value ≡ word src (s .at + 3)
+        → ((T : Table) (a : RuleName) → TableStands bytes first T → value ≡ a .0 → Begins w s v r (atomic a) (ruleNext T a)) → BeginsAny bytes first src w s v r
+    unfolding begun
+    atomic-any e value val b T job t g k st so ar h =
+        let y = there job t g k so h in by-tag src (s .at) (Goes T job g k) 16 (λ a x z i. b T a st (val ∙ x .value-is) bytes job g k i) e t y y h
+
+    pub label-any : getD src (s .at) 0 ≡ 18 → (value : ℕ) → value ≡ word src (s .at + 3)
+        → ((l : Label) (t : Term) → value ≡ l .0 → Begins w s v r (label l t) (labelNext l t)) → BeginsAny bytes first src w s v r
+    unfolding begun Stands
+    label-any e value val b T job t g k st so ar h =
+        let y = there job t g k so h in by-tag src (s .at) (Goes T job g k) 18 (λ l u o z i. b l u (val ∙ z .1) bytes job g k i) e t y y h
+
+    pub assert-any : getD src (s .at) 0 ≡ 23 → (value : ℕ) → value ≡ word src (s .at + 3)
+        → ((T : Table) (γ : Goal) → value ≡ γ .0 → Begins w s v r (assert γ) (assertNext T γ)) → BeginsAny bytes first src w s v r
+    unfolding begun
+    assert-any e value val b T job t g k st so ar h =
+        let y = there job t g k so h in by-tag src (s .at) (Goes T job g k) 23 (λ γ x z i. b T γ (val ∙ x .value-is) bytes job g k i) e t y y h
+
+    pub defined-any : getD src (s .at) 0 ≡ 24 → (value : ℕ) → value ≡ word src (s .at + 3)
+        → ((T : Table) (d : TacticNo) (job : List ℕ) → TableStands bytes first T → value ≡ d .0 → BeginsIn bytes job w s v r (defined d) (definedNext T d)) → BeginsAny bytes first src w s v r
+    unfolding begun
+    defined-any e value val b T job t g k st so ar h =
+        let y = there job t g k so h in by-tag src (s .at) (Goes T job g k) 24 (λ d x z i. b T d job st (val ∙ x .value-is) g k i) e t y y h
+
+    pub pair-any : BeginsPair src w s v r → BeginsAny bytes first src w s v r
+    pair-any b T job t g k st so ar h = b bytes job T t g k so ar h
+
+    -- the next term is there at once
+    pub steps-next : BeginsAny bytes first src w s v r → r .mode ≡ 0 → Stepped bytes first src w s v r
+    steps-next b m T job t g k st so ar h =
+        subst (λ (κ : M.Control). Shows bytes job v r κ) (settle-begun T t g k) (after-next v r bytes job (begun T t g k) (b T job t g k st so ar h) m)
+
+    -- or the frames are unwound
+    module _ (b : BeginsAny bytes first src w s v r) (m : r .mode ≡ 0 → ⊥) where
+      pub unwinding : Given bytes first src w s → Grown w s v r → Unwinding v r
+      unwinding q gr =
+          let c = after-done v r bytes (q .job) (begun (q .table) (q .term) (q .goals) (q .frames)) (b (q .table) (q .job) (q .term) (q .goals) (q .frames) (q .table-stands) (q .so) (q .known) (q .runs)) m in
+          record {
+            few-steps = omega (arith, gr .one-step, q .steps-left);
+            space = omega (arith, gr .same-length, q .space);
+            table = bytes;
+            job = q .job;
+            ending = c .ending;
+            frames = c .frames;
+            ends = c .ends;
+          }
+
+      pub steps-end : (y : List ℕ) (z : State) → Unwound v r y z → Stepped bytes first src w s y z
+      steps-end y z u T job t g k st so ar h =
+          let c = after-done v r bytes job (begun T t g k) (b T job t g k st so ar h) m in
+          subst (λ (κ : M.Control). Shows bytes job y z κ) (c .same ∙ settle-begun T t g k) (u bytes job (c .ending) (c .frames) (c .ends))
+
+pub grown-end : (w : List ℕ) (s : State) (v : List ℕ) (r : State) (y : List ℕ) (z : State) → Grown w s v r → Fewer v r y z → Grown w s y z
+grown-end w s v r y z a b = record {
+  beyond = λ i h. b .beyond i h ∙ a .beyond i h;
+  same-length = b .same-length ∙ a .same-length;
+  one-step = b .same-steps ∙ a .one-step;
+}
+
+-- the same in the file that the state names
+pub in-source : (bytes : List ℕ) (first : ℕ) (w : List ℕ) (s : State) (v : List ℕ) (r : State) (b src : List ℕ) → src ≡ b → Stepped bytes first b w s v r × Grown w s v r
+    → Stepped bytes first src w s v r × Grown w s v r
+in-source bytes first w s v r b src e h = (subst (λ (x : List ℕ). Stepped bytes first x w s v r) (sym e) (h .0), h .1)
+
+-- a sequence, a tensor or an alternation
+module _ (src w : List ℕ) (s : State) (tag : ℕ) (q : PairStands src w s tag) where
+  pair-stands : Stands src (s .at) (q .term)
+  pair-stands = in-file (q .bytes) (q .job) src (s .file) (s .at) (q .term) (q .so) (q .runs .stands)
+
+  pub pair-inner : Inner src (s .at)
+  unfolding Stands tagOf
+  pair-inner = go (q .term) pair-stands (sym (known src (s .at) (q .term) pair-stands .tag-is) ∙ q .tag-is)
+    where
+      go : (t : Term) → Stands src (s .at) t → tagOf t ≡ tag → Inner src (s .at)
+      go (atomic a) st e = absurd (q .pair .2 (sym e))
+      go id st e = absurd (q .pair .0 (sym e))
+      go (label l t) st e = absurd (q .pair .3 (sym e))
+      go (sequence t u) st e = (t, u, (st .1, st .2))
+      go (tensor t u) st e = (t, u, (st .1, st .2))
+      go empty st e = absurd (q .pair .1 (sym e))
+      go (alternation t u) st e = (t, u, (st .1, st .2))
+      go (assert γ) st e = absurd (q .pair .4 (sym e))
+      go (defined d) st e = absurd (q .pair .5 (sym e))
+
+  pub pair-at : s .at < 65536
+  pair-at = let k = known src (s .at) (q .term) pair-stands in omega (arith, k .inside, k .three, q .src-small)
+
+  pub pair-goals : (g : List Goal) × GoalsIs w (s .arena) (s .start) (s .count) g
+  pair-goals = (q .goals, q .runs .goals)
+
+  pub pair-left : (t : Term) × Stands src (s .at + 3) t
+  pair-left = let i = pair-inner in (i .0, i .2 .0)
+
+  module _ (v : List ℕ) (r : State) (right : ℕ) (rt : (t u : Term) → Pair src (s .at) t u → right ≡ s .at + 3 + size t) where
+    abbrev PairGoes : (bytes job : List ℕ) → Table → List Goal → List M.Frame → Term → Type 0
+    PairGoes bytes job T g k x = Runs bytes job w s x g k → Holds bytes job v r (begun T x g k)
+
+    pair-there : (bytes job : List ℕ) (t : Term) (g : List Goal) (k : List M.Frame) → source bytes job (s .file) ≡ src → Runs bytes job w s t g k → Stands src (s .at) t
+    pair-there bytes job t g k so h = in-file bytes job src (s .file) (s .at) t so (h .stands)
+
+    pub sequence-pair : tag ≡ 19 → ((t u : Term) → right ≡ s .at + 3 + size t → Begins w s v r (sequence t u) (sequenceNext t u)) → BeginsPair src w s v r
+    unfolding begun
+    sequence-pair e b bytes job T t g k so ar h =
+        by-tag src (s .at) (PairGoes bytes job T g k) 19 (λ a u z i. b a u (rt a u (pair-of src (s .at) a u z)) bytes job g k i) (q .tag-is ∙ e) t (pair-there bytes job t g k so h) h
+
+    pub tensor-pair : tag ≡ 20 → (n : ℕ) → ((known : TacticNo → Option ℕ) (t : Term) → ArityTable w known → Stands src (s .at + 3) t → n ≡ arityCode (arityIn known t))
+        → ((o : Option ℕ) (t u : Term) → right ≡ s .at + 3 + size t → n ≡ arityCode o → Begins w s v r (tensor t u) (tensorNext o t u)) → BeginsPair src w s v r
+    unfolding begun tacticArity
+    tensor-pair e n arity b bytes job T t g k so ar h =
+        by-tag src (s .at) (PairGoes bytes job T g k) 20
+        (λ a u z i. b (tacticArity T a) a u (rt a u (pair-of src (s .at) a u z)) (arity (arities T) a ar (z .first)) bytes job g k i) (q .tag-is ∙ e) t (pair-there bytes job t g k so h) h
+
+    pub alternation-pair : (tag ≡ 19 → ⊥) → (tag ≡ 20 → ⊥) → ((t u : Term) → right ≡ s .at + 3 + size t → Begins w s v r (alternation t u) (alternationNext t u)) → BeginsPair src w s v r
+    unfolding begun Stands tagOf
+    alternation-pair x y b bytes job T t g k so ar h = go bytes job T g k t (pair-there bytes job t g k so h) (sym (known src (s .at) t (pair-there bytes job t g k so h) .tag-is) ∙ q .tag-is) h
+      where
+        go : (bytes job : List ℕ) (T : Table) (g : List Goal) (k : List M.Frame) (t : Term) → Stands src (s .at) t → tagOf t ≡ tag → Runs bytes job w s t g k → Holds bytes job v r (begun T t g k)
+        go bytes job T g k (atomic a) st e h = absurd (q .pair .2 (sym e))
+        go bytes job T g k id st e h = absurd (q .pair .0 (sym e))
+        go bytes job T g k (label l t) st e h = absurd (q .pair .3 (sym e))
+        go bytes job T g k (sequence t u) st e h = absurd (x (sym e))
+        go bytes job T g k (tensor t u) st e h = absurd (y (sym e))
+        go bytes job T g k empty st e h = absurd (q .pair .1 (sym e))
+        go bytes job T g k (alternation t u) st e h = b t u (rt t u (st .1, st .2)) bytes job g k h
+        go bytes job T g k (assert γ) st e h = absurd (q .pair .4 (sym e))
+        go bytes job T g k (defined d) st e h = absurd (q .pair .5 (sym e))

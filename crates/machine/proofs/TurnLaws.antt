@@ -1,0 +1,117 @@
+-- A left term proved its goals and the right one is next: the frame stays and is stored anew with the goals given, all else lies below it or above it.
+-- Assumes nothing.
+use Prim.Native.Nat.{ℕ, _+_, _≤_}
+use mathlib.Core.Path.{_≡_, refl, sym, subst, _∙_}
+use mathlib.Core.List.{List, _∷_}
+use native.Mathlib.Omega.{arith}
+use lib.ListN.{length, getD}
+use Rattle.format.specs.declared.values.Goal.{Goal}
+use Rattle.format.specs.Terms.{Term, size}
+use Rattle.format.specs.Standing.{Stands}
+use Rattle.hitac.specs.Outcomes.{proved}
+use Rattle.hitac.specs.Machine as M
+use Rattle.hitac.specs.Machine.{sequenceRight, tensorRight}
+use Rattle.machine.specs.declared.frames.Frame.{Frame}
+use Rattle.machine.specs.declared.state.State.{State}
+use Rattle.machine.specs.Layout.{outputEnd, goalsEnd}
+use Rattle.machine.specs.Memory.{Only}
+use Rattle.machine.specs.Frames.{frameAt, putFrame}
+use Rattle.machine.specs.Shows.{GoalsIs, FrameIs, FramesAt, setAside, Proved, Ends, Holds}
+use Rattle.machine.specs.Popping.{pop, Fits, Smaller, Waiting, Popped, turn, turned, beside}
+use Rattle.machine.proofs.MemoryLaws.{same-term}
+use Rattle.machine.proofs.FrameLaws.{only-frame, frame-same}
+use Rattle.machine.proofs.KeepLaws.{kept-behind, goals-kept, frames-kept}
+use Rattle.machine.proofs.WaitingLaws.{by-kind, if-proved, waiting-fits, waiting-top, innermost}
+
+module _ (w : List ℕ) (s : State) (wait : Waiting w s) (m : s .mode ≡ 1) where
+  fits : Fits w s
+  fits = waiting-fits w s wait
+
+  -- the goals given are few, and their place is small
+  pub given-small : (s .count ≤ 256) × (s .start ≤ goalsEnd)
+  given-small =
+      if-proved (wait .table) (wait .job) w s (wait .frame ∷ wait .frames) (λ z. (s .count ≤ 256) × (s .start ≤ goalsEnd)) m
+      (λ p g a. (a .goals .few, omega (arith, a .goals .high, fits .goals-fit))) (wait .ending) (wait .ends)
+
+  module _ (f : Frame) (e : f ≡ frameAt w (s .top)) (kind : ℕ) where
+    abbrev v : List ℕ
+    v = putFrame w (s .top) (turned kind s f)
+
+    only : Only (s .top) (s .top + 14) w v
+    only = only-frame w (s .top) (turned kind s f) (omega (arith, waiting-top w s wait, fits .space))
+
+    back : frameAt v (s .top) ≡ turned kind s f
+    back = frame-same w (s .top) (turned kind s f) (omega (arith, waiting-top w s wait, fits .space))
+
+    goals-stay : (start count : ℕ) (g : List Goal) → GoalsIs w (s .arena) start count g → GoalsIs v (s .arena) start count g
+    goals-stay start count g h = goals-kept w v (s .arena) (s .arena) (omega arith) start count g (λ i l r. only .kept .below i (omega (arith, fits .goals-fit, fits .frames-low))) h
+
+    term-stays : (t : Term) (at : ℕ) → at + size t ≤ s .out → Stands w at t → Stands v at t
+    term-stays t at b st =
+        same-term w v (only .same-length) t 0 (s .out) at (λ i l r. only .kept .below i (omega (arith, fits .output-fits, fits .frames-low))) (omega arith) b st
+
+    tag-stays : (tag : ℕ) → f .mark ≤ s .out → getD w (f .mark) 0 ≡ tag → getD v (f .mark) 0 ≡ tag
+    tag-stays tag b t = only .kept .below (f .mark) (omega (arith, b, fits .output-fits, fits .frames-low)) ∙ t
+
+    frames-stay : (table job : List ℕ) (x : M.Frame) (k : List M.Frame) → f .mark ≤ s .out → FramesAt table job w (s .arena) k (s .top + 14) (f .mark)
+        → FrameIs table job v (s .arena) (turned kind s f) (s .out) x → FramesAt table job v (s .arena) (x ∷ k) (s .top) (s .out)
+    unfolding FramesAt
+    frames-stay table job x k b h one =
+        let rest : FramesAt table job v (s .arena) k (s .top + 14) (f .mark) =
+        frames-kept w v (s .arena) (s .arena) (omega arith) table job k (s .top + 14) (f .mark)
+        (kept-behind (s .top) (s .top + 14) (f .mark) (s .arena) (s .top + 14) w v only
+        (omega (arith, fits .frames-low, fits .output-fits, b)) (omega (arith, fits .goals-fit, fits .frames-low)) (omega arith)) h in (
+          subst (λ (y : Frame). FrameIs table job v (s .arena) y (s .out) x) (sym back) one,
+          subst (λ (y : Frame). FramesAt table job v (s .arena) k (s .top + 14) (y .mark)) (sym back) rest,
+        )
+
+    smaller : (r : State) → r .steps ≡ s .steps → r .mode ≡ 0 → Smaller w s v r
+    smaller r q z = record { beyond = λ i b. only .kept .above i (omega (arith, waiting-top w s wait)); same-length = only .same-length; same-steps = q; further = λ n. absurd (n z) }
+
+    -- the right term of a sequence, on the goals that its left gave
+    turns : f .kind ≡ 2 → kind ≡ 3 → Popped w s v (turn s f)
+    unfolding Ends Holds pop FrameIs setAside
+    turns n y table job z x k h =
+        if-proved table job w s (x ∷ k) (λ j. Holds table job v (turn s f) (pop j x k)) m
+        (λ p g a. let i = innermost table job w s f (a .from) x k e (a .frames) in
+        by-kind (λ j. Proved table job w s p g (j ∷ k) → FrameIs table job w (s .arena) f (a .from) j → Holds table job v (turn s f) (pop (proved p g) j k)) 2
+        (λ u b t. record {
+          mode-is = refl;
+          stands = t .3;
+          goals = goals-stay (s .start) (s .count) g (b .goals);
+          frames = frames-stay table job (sequenceRight p) k (omega (arith, t .1, a .out-is)) (i .rest) (
+            y,
+            omega (arith, t .1, a .out-is),
+            tag-stays 19 (omega (arith, t .1, a .out-is)) (t .2),
+            term-stays p (f .mark + 3) (omega (arith, t .1, a .out-is)) (subst (λ (o : ℕ). Stands w o p) (t .1) (a .stands)),
+          );
+          sizes = record { output-fits = b .sizes .output-fits; goals-fit = omega (arith, b .sizes .goals-fit); frames-fit = b .sizes .frames-fit };
+        }) x (sym n ∙ i .kind) a (i .frame)) z h
+
+    -- the right term of a tensor, on its own goals
+    besides : f .kind ≡ 4 → kind ≡ 5 → Popped w s v (beside s f)
+    unfolding Ends Holds pop FrameIs setAside
+    besides n y table job z x k h =
+        if-proved table job w s (x ∷ k) (λ j. Holds table job v (beside s f) (pop j x k)) m
+        (λ p g a. let i = innermost table job w s f (a .from) x k e (a .frames) in
+        by-kind (λ j. Proved table job w s p g (j ∷ k) → FrameIs table job w (s .arena) f (a .from) j → Holds table job v (beside s f) (pop (proved p g) j k)) 4
+        (λ u j b t. record {
+          mode-is = refl;
+          stands = t .3;
+          goals = goals-stay (f .start) (f .count) j (t .4);
+          frames = frames-stay table job (tensorRight p g) k (omega (arith, t .1, a .out-is)) (i .rest) (
+            y,
+            omega (arith, t .1, a .out-is),
+            tag-stays 20 (omega (arith, t .1, a .out-is)) (t .2),
+            term-stays p (f .mark + 3) (omega (arith, t .1, a .out-is)) (subst (λ (o : ℕ). Stands w o p) (t .1) (a .stands)),
+            goals-stay (s .start) (s .count) g (b .goals),
+          );
+          sizes = record { output-fits = b .sizes .output-fits; goals-fit = omega (arith, b .sizes .goals-fit); frames-fit = b .sizes .frames-fit };
+        }) x (sym n ∙ i .kind) a (i .frame)) z h
+
+  module _ (f : Frame) (e : f ≡ frameAt w (s .top)) (y : List ℕ) where
+    pub turn-end : f .kind ≡ 2 → y ≡ putFrame w (s .top) (turned 3 s f) → Popped w s y (turn s f) × Smaller w s y (turn s f)
+    turn-end n q = subst (λ (z : List ℕ). Popped w s z (turn s f) × Smaller w s z (turn s f)) (sym q) (turns f e 3 n refl, smaller f e 3 (turn s f) refl refl)
+
+    pub beside-end : f .kind ≡ 4 → y ≡ putFrame w (s .top) (turned 5 s f) → Popped w s y (beside s f) × Smaller w s y (beside s f)
+    beside-end n q = subst (λ (z : List ℕ). Popped w s z (beside s f) × Smaller w s z (beside s f)) (sym q) (besides f e 5 n refl, smaller f e 5 (beside s f) refl refl)

@@ -1,0 +1,47 @@
+-- `frames::load32` meets its contract: two values of 16 bits are one of 32.
+-- Assumes nothing.
+use Rattle.machine.specs.Frames.{long}
+use borrow.Author.Needs.{needs}
+use Rattle.machine.proofs.frames.load32.Statement.{statement}
+use Rattle.machine.proofs.frames.load32.Tie as tie
+use Rattle.machine.proofs.frames.load32.Reads as reads
+use Rattle.machine.proofs.frames.load32.Lts as lts
+use Rattle.words.proofs.load16.Reads as load16-reads
+
+load16-requires : tie.Need-load16-requires
+load16-requires c κs = search needs
+
+cast-result : tie.Need-cast-result
+cast-result c = search needs
+
+mul-result : tie.Need-mul-result
+mul-result c = search needs
+
+add-load16 : tie.Need-add-load16
+add-load16 c = search needs
+
+load16-requires-2 : tie.Need-load16-requires-2
+load16-requires-2 c κs = search needs
+
+cast-result-2 : tie.Need-cast-result-2
+cast-result-2 c = search needs
+
+add-result : tie.Need-add-result
+add-result c = search needs
+
+returns : tie.Need-returns
+unfolding long
+returns c = cc
+
+pub load32-spec : {M : Type 1} → statement M
+load32-spec =
+    tie.close
+    (tie.spec
+    load16-requires
+    cast-result
+    mul-result
+    add-load16
+    load16-requires-2
+    cast-result-2
+    add-result
+    returns)

@@ -1,0 +1,64 @@
+-- `frames::load_frame` meets its contract: each value is loaded from its place.
+-- Assumes nothing.
+use Rattle.machine.specs.Frames.{frameAt}
+use borrow.Author.Needs.{needs}
+use Rattle.machine.proofs.frames.load_frame.Statement.{statement}
+use Rattle.machine.proofs.frames.load_frame.Tie as tie
+use Rattle.machine.proofs.frames.load_frame.Reads as reads
+use Rattle.machine.proofs.frames.load_frame.Lts as lts
+use Rattle.machine.proofs.frames.load32.Reads as load32-reads
+use Rattle.words.proofs.load16.Reads as load16-reads
+
+load16-requires : tie.Need-load16-requires
+load16-requires c κs = search needs
+
+add-load16 : tie.Need-add-load16
+add-load16 c = search needs
+
+load16-requires-2 : tie.Need-load16-requires-2
+load16-requires-2 c κs = search needs
+
+add-load16-2 : tie.Need-add-load16-2
+add-load16-2 c = search needs
+
+load16-requires-3 : tie.Need-load16-requires-3
+load16-requires-3 c κs = search needs
+
+add-load16-3 : tie.Need-add-load16-3
+add-load16-3 c = search needs
+
+load16-requires-4 : tie.Need-load16-requires-4
+load16-requires-4 c κs = search needs
+
+add-load32 : tie.Need-add-load32
+add-load32 c = search needs
+
+load32-requires : tie.Need-load32-requires
+load32-requires c κs = search needs
+
+add-load16-4 : tie.Need-add-load16-4
+add-load16-4 c = search needs
+
+load16-requires-5 : tie.Need-load16-requires-5
+load16-requires-5 c κs = search needs
+
+returns : tie.Need-returns
+unfolding frameAt
+returns c = cc
+
+pub load-frame-spec : {M : Type 1} → statement M
+load-frame-spec =
+    tie.close
+    (tie.spec
+    load16-requires
+    add-load16
+    load16-requires-2
+    add-load16-2
+    load16-requires-3
+    add-load16-3
+    load16-requires-4
+    add-load32
+    load32-requires
+    add-load16-4
+    load16-requires-5
+    returns)

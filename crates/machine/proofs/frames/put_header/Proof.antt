@@ -1,0 +1,29 @@
+-- `frames::put_header` meets its contract: length, then tag.
+-- Assumes nothing.
+use Rattle.machine.specs.Frames.{putHeader}
+use borrow.Author.Needs.{needs}
+use Rattle.machine.proofs.frames.put_header.Statement.{statement}
+use Rattle.machine.proofs.frames.put_header.Tie as tie
+use Rattle.machine.proofs.frames.put_header.Reads as reads
+use Rattle.machine.proofs.frames.put_header.Lts as lts
+use Rattle.words.proofs.store16.Reads as store16-reads
+
+add-store16 : tie.Need-add-store16
+add-store16 c = search needs
+
+store16-requires : tie.Need-store16-requires
+store16-requires c κs = search needs
+
+slice-write-work : tie.Need-slice-write-work
+slice-write-work c = search needs
+
+same-length : tie.Need-same-length
+same-length c = search needs
+
+returns : tie.Need-returns
+unfolding putHeader
+returns c = cc
+
+pub put-header-spec : {M : Type 1} → statement M
+put-header-spec =
+    tie.close (tie.spec add-store16 store16-requires slice-write-work same-length returns)

@@ -1,0 +1,68 @@
+-- `frames::store_frame` meets its contract: each value is stored at its place.
+-- Assumes nothing.
+use Rattle.machine.specs.Frames.{putFrame}
+use borrow.Author.Needs.{needs}
+use Rattle.machine.proofs.frames.store_frame.Statement.{statement}
+use Rattle.machine.proofs.frames.store_frame.Tie as tie
+use Rattle.machine.proofs.frames.store_frame.Reads as reads
+use Rattle.machine.proofs.frames.store_frame.Lts as lts
+use Rattle.machine.proofs.frames.store32.Reads as store32-reads
+use Rattle.words.proofs.store16.Reads as store16-reads
+
+store16-requires : tie.Need-store16-requires
+store16-requires c κs = search needs
+
+add-store16 : tie.Need-add-store16
+add-store16 c = search needs
+
+store16-requires-2 : tie.Need-store16-requires-2
+store16-requires-2 c κs = search needs
+
+add-store16-2 : tie.Need-add-store16-2
+add-store16-2 c = search needs
+
+store16-requires-3 : tie.Need-store16-requires-3
+store16-requires-3 c κs = search needs
+
+add-store16-3 : tie.Need-add-store16-3
+add-store16-3 c = search needs
+
+store16-requires-4 : tie.Need-store16-requires-4
+store16-requires-4 c κs = search needs
+
+add-store32 : tie.Need-add-store32
+add-store32 c = search needs
+
+store32-requires : tie.Need-store32-requires
+store32-requires c κs = search needs
+
+add-store16-4 : tie.Need-add-store16-4
+add-store16-4 c = search needs
+
+store16-requires-5 : tie.Need-store16-requires-5
+store16-requires-5 c κs = search needs
+
+same-length : tie.Need-same-length
+same-length c = search needs
+
+returns : tie.Need-returns
+unfolding putFrame
+returns c = cc
+
+pub store-frame-spec : {M : Type 1} → statement M
+store-frame-spec =
+    tie.close
+    (tie.spec
+    store16-requires
+    add-store16
+    store16-requires-2
+    add-store16-2
+    store16-requires-3
+    add-store16-3
+    store16-requires-4
+    add-store32
+    store32-requires
+    add-store16-4
+    store16-requires-5
+    same-length
+    returns)

@@ -1,0 +1,41 @@
+-- `begin_alternation` meets its contract: a frame.
+-- Assumes nothing.
+use Rattle.machine.proofs.BeginLaws.{alternation-end}
+use borrow.Author.Needs.{needs}
+use Rattle.machine.proofs.state.State.begin_alternation.Statement.{statement}
+use Rattle.machine.proofs.state.State.begin_alternation.Tie as tie
+use Rattle.machine.proofs.state.State.begin_alternation.Reads as reads
+use Rattle.machine.proofs.state.State.begin_alternation.Lts as lts
+use Rattle.machine.proofs.frames.store_frame.Reads as store-frame-reads
+
+sub-top : tie.Need-sub-top
+sub-top c = search needs
+
+cast-t10 : tie.Need-cast-t10
+cast-t10 c = search needs
+
+cast-t11 : tie.Need-cast-t11
+cast-t11 c = search needs
+
+store-frame-requires : tie.Need-store-frame-requires
+store-frame-requires c κs = search needs
+
+add-t15 : tie.Need-add-t15
+add-t15 c = search needs
+
+add-t16 : tie.Need-add-t16
+add-t16 c = search needs
+
+same-length : tie.Need-same-length
+same-length c = search needs
+
+returns : tie.Need-returns
+returns c =
+    let a = c .before .before .before .before .before .before .before .before .args in
+    let p = c .before .before .before .before .before .before .before .before .pre in
+    alternation-end (a .work .now) (a .self) (p .0) (a .right) _ (c .before .before .before .before .store-frame .ensures)
+
+pub begin-alternation-spec : {M : Type 1} → statement M
+begin-alternation-spec =
+    tie.close
+    (tie.spec sub-top cast-t10 cast-t11 store-frame-requires add-t15 add-t16 same-length returns)

@@ -1,0 +1,83 @@
+-- `begin_label` meets its contract: by the number of goals; a header and the label, then a frame.
+-- Assumes nothing.
+use mathlib.Core.Path.{ap, _∙_}
+use mathlib.Core.List.{List}
+use Prim.Native.Nat.{ℕ, _+_, _-_}
+use Rattle.words.specs.Word.{putWord}
+use Rattle.machine.specs.Frames.{putFrame}
+use Rattle.machine.specs.Begun.{labelFrame}
+use Rattle.machine.proofs.BeginLaws.{label-fails, label-end}
+use borrow.Author.Needs.{needs}
+use Rattle.machine.proofs.state.State.begin_label.Statement.{statement}
+use Rattle.machine.proofs.state.State.begin_label.Tie as tie
+use Rattle.machine.proofs.state.State.begin_label.Reads as reads
+use Rattle.machine.proofs.state.State.begin_label.Lts as lts
+use Rattle.machine.proofs.frames.put_header.Reads as put-header-reads
+use Rattle.machine.proofs.frames.store_frame.Reads as store-frame-reads
+use Rattle.machine.proofs.state.State.fail.Reads as fail-reads
+use Rattle.words.proofs.store16.Reads as store16-reads
+
+fail-requires : tie.Need-fail-requires
+fail-requires c κs = search needs
+
+returns : tie.Need-returns
+returns c =
+    let a = c .before .before .before .before .args in
+    let p = c .before .before .before .before .pre in
+    label-fails (a .work .now) (a .self) (p .0) (a .name .0) _ (c .before .if1 .taken) (c .fail .ensures)
+
+sub-top : tie.Need-sub-top
+sub-top c = search needs
+
+put-header-requires : tie.Need-put-header-requires
+put-header-requires c κs = search needs
+
+add-store16 : tie.Need-add-store16
+add-store16 c = search needs
+
+store16-requires : tie.Need-store16-requires
+store16-requires c κs = search needs
+
+cast-t15 : tie.Need-cast-t15
+cast-t15 c = search needs
+
+store-frame-requires : tie.Need-store-frame-requires
+store-frame-requires c κs = search needs
+
+add-t14 : tie.Need-add-t14
+add-t14 c = search needs
+
+add-t18 : tie.Need-add-t18
+add-t18 c = search needs
+
+add-t19 : tie.Need-add-t19
+add-t19 c = search needs
+
+same-length : tie.Need-same-length
+same-length c = search needs
+
+returns-2 : tie.Need-returns-2
+returns-2 c =
+    let a = c .before .before .before .before .before .before .before .before .before .before .before .before .before .before .before .before .before .before .args in
+    let p = c .before .before .before .before .before .before .before .before .before .before .before .before .before .before .before .before .before .before .pre in
+    label-end (a .work .now) (a .self) (p .0) (a .name .0) _ (c .before .before .before .before .before .before .before .before .before .before .before .before .before .before .before .if1 .left)
+    (c .before .before .before .before .store-frame .ensures ∙ ap (λ (x : List ℕ). putFrame x (a .self .top - 14) (labelFrame (a .self)))
+    (c .before .before .before .before .before .before .before .before .store16 .ensures ∙ ap (λ (x : List ℕ). putWord x (a .self .out + 3) (a .name .0)) (c .before .before .before .before .before .before .before .before .before .before .before .before .put-header .ensures)))
+
+pub begin-label-spec : {M : Type 1} → statement M
+begin-label-spec =
+    tie.close
+    (tie.spec
+    fail-requires
+    returns
+    sub-top
+    put-header-requires
+    add-store16
+    store16-requires
+    cast-t15
+    store-frame-requires
+    add-t14
+    add-t18
+    add-t19
+    same-length
+    returns-2)

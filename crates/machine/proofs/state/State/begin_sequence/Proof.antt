@@ -1,0 +1,60 @@
+-- `begin_sequence` meets its contract: a header, then a frame.
+-- Assumes nothing.
+use mathlib.Core.Path.{ap, _∙_}
+use mathlib.Core.List.{List}
+use Prim.Native.Nat.{ℕ, _-_}
+use Rattle.machine.specs.Frames.{putFrame}
+use Rattle.machine.specs.Begun.{sequenceFrame}
+use Rattle.machine.proofs.BeginLaws.{sequence-end}
+use borrow.Author.Needs.{needs}
+use Rattle.machine.proofs.state.State.begin_sequence.Statement.{statement}
+use Rattle.machine.proofs.state.State.begin_sequence.Tie as tie
+use Rattle.machine.proofs.state.State.begin_sequence.Reads as reads
+use Rattle.machine.proofs.state.State.begin_sequence.Lts as lts
+use Rattle.machine.proofs.frames.put_header.Reads as put-header-reads
+use Rattle.machine.proofs.frames.store_frame.Reads as store-frame-reads
+
+sub-top : tie.Need-sub-top
+sub-top c = search needs
+
+put-header-requires : tie.Need-put-header-requires
+put-header-requires c κs = search needs
+
+cast-t11 : tie.Need-cast-t11
+cast-t11 c = search needs
+
+store-frame-requires : tie.Need-store-frame-requires
+store-frame-requires c κs = search needs
+
+add-t14 : tie.Need-add-t14
+add-t14 c = search needs
+
+add-t15 : tie.Need-add-t15
+add-t15 c = search needs
+
+add-t16 : tie.Need-add-t16
+add-t16 c = search needs
+
+same-length : tie.Need-same-length
+same-length c = search needs
+
+returns : tie.Need-returns
+returns c =
+    let a = c .before .before .before .before .before .before .before .before .before .before .before .before .args in
+    let p = c .before .before .before .before .before .before .before .before .before .before .before .before .pre in
+    sequence-end (a .work .now) (a .self) (p .0) (a .right) _
+    (c .before .before .before .before .store-frame .ensures ∙ ap (λ (x : List ℕ). putFrame x (a .self .top - 14) (sequenceFrame (a .self) (a .right))) (c .before .before .before .before .before .before .before .before .put-header .ensures))
+
+pub begin-sequence-spec : {M : Type 1} → statement M
+begin-sequence-spec =
+    tie.close
+    (tie.spec
+    sub-top
+    put-header-requires
+    cast-t11
+    store-frame-requires
+    add-t14
+    add-t15
+    add-t16
+    same-length
+    returns)

@@ -1,0 +1,64 @@
+-- `pop_failed` meets its contract: by the kind of the frame.
+-- Assumes nothing.
+use native.Mathlib.Omega.{arith}
+use Rattle.machine.proofs.WaitingLaws.{waiting-top, waiting-fits}
+use Rattle.machine.proofs.PopLaws.{failed-end, resume-end}
+use borrow.Author.Needs.{needs}
+use Rattle.machine.proofs.state.State.pop_failed.Statement.{statement}
+use Rattle.machine.proofs.state.State.pop_failed.Tie as tie
+use Rattle.machine.proofs.state.State.pop_failed.Reads as reads
+use Rattle.machine.proofs.state.State.pop_failed.Lts as lts
+use Rattle.machine.proofs.frames.load_frame.Reads as load-frame-reads
+use Rattle.machine.proofs.state.State.leave.Reads as leave-reads
+
+load-frame-requires : tie.Need-load-frame-requires
+load-frame-requires c κs =
+    let a = c .before .args in
+    let p = c .before .pre in
+    omega (arith, waiting-top (a .work .now) (a .self) (p .1), p .1 .space)
+
+cast-mark : tie.Need-cast-mark
+cast-mark c = search needs
+
+leave-requires : tie.Need-leave-requires
+leave-requires c κs =
+    let a = c .before .before .before .before .before .args in
+    let p = c .before .before .before .before .before .pre in
+    waiting-fits (a .work .now) (a .self) (p .1) .frames-high
+
+returns : tie.Need-returns
+returns c =
+    let a = c .before .before .before .before .before .before .args in
+    let p = c .before .before .before .before .before .before .pre in
+    failed-end (a .work .now) (a .self) (c .before .before .before .before .load-frame .result) (c .before .before .before .before .load-frame .ensures) _ (p .0) (c .before .if1 .taken) (c .leave .ensures)
+
+cast-t7 : tie.Need-cast-t7
+cast-t7 c = search needs
+
+cast-t8 : tie.Need-cast-t8
+cast-t8 c = search needs
+
+add-t9 : tie.Need-add-t9
+add-t9 c =
+    let a = c .before .before .before .before .before .before .before .args in
+    let p = c .before .before .before .before .before .before .before .pre in
+    omega (arith, waiting-top (a .work .now) (a .self) (p .1))
+
+returns-2 : tie.Need-returns-2
+returns-2 c =
+    let a = c .before .before .before .before .before .before .before .args in
+    let p = c .before .before .before .before .before .before .before .pre in
+    resume-end (a .work .now) (a .self) (c .before .before .before .before .before .load-frame .result) (c .before .before .before .before .before .load-frame .ensures) (p .0) (c .before .before .if1 .left)
+
+pub pop-failed-spec : {M : Type 1} → statement M
+pop-failed-spec =
+    tie.close
+    (tie.spec
+    load-frame-requires
+    cast-mark
+    leave-requires
+    returns
+    cast-t7
+    cast-t8
+    add-t9
+    returns-2)

@@ -1,0 +1,76 @@
+-- `split` meets its contract: a header, then a frame with the goals for the right term.
+-- Assumes nothing.
+use mathlib.Core.Path.{ap, _∙_}
+use mathlib.Core.List.{List}
+use Prim.Native.Nat.{ℕ, _-_}
+use Rattle.machine.specs.Frames.{putFrame}
+use Rattle.machine.specs.Begun.{tensorFrame}
+use Rattle.machine.proofs.FormLaws.{split-end}
+use borrow.Author.Needs.{needs}
+use Rattle.machine.proofs.state.State.split.Statement.{statement}
+use Rattle.machine.proofs.state.State.split.Tie as tie
+use Rattle.machine.proofs.state.State.split.Reads as reads
+use Rattle.machine.proofs.state.State.split.Lts as lts
+use Rattle.machine.proofs.frames.put_header.Reads as put-header-reads
+use Rattle.machine.proofs.frames.store_frame.Reads as store-frame-reads
+
+sub-top : tie.Need-sub-top
+sub-top c = search needs
+
+put-header-requires : tie.Need-put-header-requires
+put-header-requires c κs = search needs
+
+sub-t13 : tie.Need-sub-t13
+sub-t13 c = search needs
+
+cast-t14 : tie.Need-cast-t14
+cast-t14 c = search needs
+
+mul-t15 : tie.Need-mul-t15
+mul-t15 c = search needs
+
+add-t16 : tie.Need-add-t16
+add-t16 c = search needs
+
+cast-t17 : tie.Need-cast-t17
+cast-t17 c = search needs
+
+store-frame-requires : tie.Need-store-frame-requires
+store-frame-requires c κs = search needs
+
+add-t13 : tie.Need-add-t13
+add-t13 c = search needs
+
+add-t15 : tie.Need-add-t15
+add-t15 c = search needs
+
+add-t16-2 : tie.Need-add-t16-2
+add-t16-2 c = search needs
+
+same-length : tie.Need-same-length
+same-length c = search needs
+
+returns : tie.Need-returns
+returns c =
+    let a = c .before .before .before .before .before .before .before .before .before .before .before .before .before .args in
+    let p = c .before .before .before .before .before .before .before .before .before .before .before .before .before .pre in
+    split-end (a .work .now) (a .self) (p .0) (a .right) (a .left) _ (p .2)
+    (c .before .before .before .before .store-frame .ensures ∙ ap (λ (x : List ℕ). putFrame x (a .self .top - 14) (tensorFrame (a .self) (a .right) (a .left))) (c .before .before .before .before .before .before .before .before .before .put-header .ensures))
+
+pub split-spec : {M : Type 1} → statement M
+split-spec =
+    tie.close
+    (tie.spec
+    sub-top
+    put-header-requires
+    sub-t13
+    cast-t14
+    mul-t15
+    add-t16
+    cast-t17
+    store-frame-requires
+    add-t13
+    add-t15
+    add-t16-2
+    same-length
+    returns)

@@ -1,0 +1,42 @@
+-- `turn_beside` meets its contract: the frame is stored anew for the right term of a tensor.
+-- Assumes nothing.
+use native.Mathlib.Omega.{arith}
+use Rattle.machine.proofs.WaitingLaws.{waiting-top}
+use Rattle.machine.proofs.TurnLaws.{given-small, beside-end}
+use borrow.Author.Needs.{needs}
+use Rattle.machine.proofs.state.State.turn_beside.Statement.{statement}
+use Rattle.machine.proofs.state.State.turn_beside.Tie as tie
+use Rattle.machine.proofs.state.State.turn_beside.Reads as reads
+use Rattle.machine.proofs.state.State.turn_beside.Lts as lts
+use Rattle.machine.proofs.frames.store_frame.Reads as store-frame-reads
+
+cast-t10 : tie.Need-cast-t10
+cast-t10 c =
+    let a = c .before .before .args in
+    let p = c .before .before .pre in
+    omega (arith, given-small (a .work .now) (a .self) (p .3) (p .0))
+
+store-frame-requires : tie.Need-store-frame-requires
+store-frame-requires c κs =
+    let a = c .before .before .before .args in
+    let p = c .before .before .before .pre in
+    (omega (arith, waiting-top (a .work .now) (a .self) (p .3), p .3 .space), omega (arith, given-small (a .work .now) (a .self) (p .3) (p .0)))
+
+cast-t14 : tie.Need-cast-t14
+cast-t14 c = search needs
+
+cast-t15 : tie.Need-cast-t15
+cast-t15 c = search needs
+
+same-length : tie.Need-same-length
+same-length c = search needs
+
+returns : tie.Need-returns
+returns c =
+    let a = c .before .before .before .before .before .before .args in
+    let p = c .before .before .before .before .before .before .pre in
+    beside-end (a .work .now) (a .self) (p .3) (p .0) (a .f) (p .2) _ (p .1) (c .before .before .store-frame .ensures)
+
+pub turn-beside-spec : {M : Type 1} → statement M
+turn-beside-spec =
+    tie.close (tie.spec cast-t10 store-frame-requires cast-t14 cast-t15 same-length returns)

@@ -1,0 +1,116 @@
+-- One frame taken off, and frames taken off until a term is to begin or none waits: what hitac's machine does, and what the code does.
+use Prim.Native.Nat.{ℕ, _+_, _*_, _≤_, _<_}
+use mathlib.Core.Path.{_≡_}
+use mathlib.Core.List.{List, [], _∷_, _++_}
+use lib.ListN.{length, getD}
+use Rattle.format.specs.Limits.{mostSteps}
+use Rattle.format.specs.Goals.{goalsAt}
+use Rattle.hitac.specs.Outcomes.{Ending, proved, failed, ended, inLabel, afterLeft, besideLeft}
+use Rattle.hitac.specs.Machine as M
+use Rattle.hitac.specs.Machine.{labelled, sequenceLeft, sequenceRight, tensorLeft, tensorRight, alternationLeft, running, unwind}
+use Rattle.machine.specs.declared.state.State.{State}
+use Rattle.machine.specs.declared.frames.Frame.{Frame}
+use Rattle.machine.specs.Layout.{outputEnd, goalsEnd, framesEnd, spaceEnd}
+use Rattle.machine.specs.Memory.{Only}
+use Rattle.machine.specs.Shows.{Config, next, done, Ends, Holds, Shows}
+
+-- one frame taken off
+unfoldable pub pop : Ending → M.Frame → List M.Frame → Config
+pop e (labelled l) k = done (inLabel l e) k
+pop (proved s g) (sequenceLeft u) k = next u g (sequenceRight s ∷ k)
+pop failed (sequenceLeft u) k = done failed k
+pop (ended c) (sequenceLeft u) k = done (ended c) k
+pop e (sequenceRight s) k = done (afterLeft s e) k
+pop (proved s g) (tensorLeft u h) k = next u h (tensorRight s g ∷ k)
+pop failed (tensorLeft u h) k = done failed k
+pop (ended c) (tensorLeft u h) k = done (ended c) k
+pop e (tensorRight s g) k = done (besideLeft s g e) k
+pop (proved s g) (alternationLeft u h) k = done (proved s g) k
+pop failed (alternationLeft u h) k = next u h k
+pop (ended c) (alternationLeft u h) k = done (ended c) k
+
+-- where the machine stands after that
+unfoldable pub settle : Config → M.Control
+settle (next t g k) = running t g k
+settle (done e k) = unwind e k
+
+-- the numbers of a state by the regions of the work space
+pub record Fits (w : List ℕ) (s : State) : Type 0 where
+  pub output-fits : s .out ≤ outputEnd
+  pub goals-fit : s .arena ≤ goalsEnd
+  pub frames-low : goalsEnd ≤ s .top
+  pub frames-high : s .top ≤ framesEnd
+  pub space : spaceEnd ≤ length w
+
+-- after a frame was taken off: the arities and the steps are the same, and a state that does not begin a term has fewer frames
+pub record Smaller (w : List ℕ) (s : State) (v : List ℕ) (r : State) : Type 0 where
+  pub beyond : (i : ℕ) → framesEnd ≤ i → getD v i 0 ≡ getD w i 0
+  pub same-length : length v ≡ length w
+  pub same-steps : r .steps ≡ s .steps
+  pub further : (r .mode ≡ 0 → ⊥) → s .top < r .top
+
+-- after any frames were taken off
+pub record Fewer (w : List ℕ) (s : State) (v : List ℕ) (r : State) : Type 0 where
+  pub beyond : (i : ℕ) → framesEnd ≤ i → getD v i 0 ≡ getD w i 0
+  pub same-length : length v ≡ length w
+  pub same-steps : r .steps ≡ s .steps
+
+-- what a function that takes one frame off is given and what it does
+pub record Waiting (w : List ℕ) (s : State) : Type 0 where
+  pub few-steps : s .steps ≤ mostSteps
+  pub space : spaceEnd ≤ length w
+  pub table : List ℕ
+  pub job : List ℕ
+  pub ending : Ending
+  pub frame : M.Frame
+  pub frames : List M.Frame
+  pub ends : Ends table job w s ending (frame ∷ frames)
+
+abbrev pub Popped : List ℕ → State → List ℕ → State → Type 0
+Popped w s v r = (table job : List ℕ) (e : Ending) (x : M.Frame) (k : List M.Frame) → Ends table job w s e (x ∷ k) → Holds table job v r (pop e x k)
+
+-- what the unwinding function is given and what it does
+pub record Unwinding (w : List ℕ) (s : State) : Type 0 where
+  pub few-steps : s .steps ≤ mostSteps
+  pub space : spaceEnd ≤ length w
+  pub table : List ℕ
+  pub job : List ℕ
+  pub ending : Ending
+  pub frames : List M.Frame
+  pub ends : Ends table job w s ending frames
+
+abbrev pub Unwound : List ℕ → State → List ℕ → State → Type 0
+Unwound w s v r = (table job : List ℕ) (e : Ending) (k : List M.Frame) → Ends table job w s e k → Shows table job v r (unwind e k)
+
+-- the same state without its first frame
+abbrev pub leave : State → State
+leave s = record { mode = s .mode; file = s .file; at = s .at; start = s .start; count = s .count; top = s .top + 14; arena = s .arena; out = s .out; steps = s .steps }
+
+-- go on with the term of a frame, on the goals of the frame, its output from the frame's mark on
+abbrev pub resume : State → Frame → State
+resume s f = record { mode = 0; file = f .file; at = f .at; start = f .start; count = f .count; top = s .top + 14; arena = s .arena; out = f .mark; steps = s .steps }
+
+-- go on with the right term of a frame that stays, on the goals that its left term gave
+abbrev pub turn : State → Frame → State
+turn s f = record { mode = 0; file = f .file; at = f .at; start = s .start; count = s .count; top = s .top; arena = s .arena; out = s .out; steps = s .steps }
+
+-- the same, on the goals of the frame
+abbrev pub beside : State → Frame → State
+beside s f = record { mode = 0; file = f .file; at = f .at; start = f .start; count = f .count; top = s .top; arena = s .arena; out = s .out; steps = s .steps }
+
+-- the frame that stays, with the goals that the left term gave
+abbrev pub turned : (kind : ℕ) → State → Frame → Frame
+turned kind s f = record { kind = kind; file = f .file; at = f .at; count = s .count; start = s .start; mark = f .mark }
+
+-- the two lists joined at the top of the goals
+abbrev pub joined : State → Frame → State
+joined s f = record { mode = 1; file = s .file; at = s .at; start = s .arena; count = f .count + s .count; top = s .top + 14; arena = s .arena + (f .count + s .count) * 2; out = s .out; steps = s .steps }
+
+-- too many goals
+abbrev pub overflowed : State → State
+overflowed s = record { mode = 3; file = s .file; at = s .at; start = s .start; count = s .count; top = s .top + 14; arena = s .arena; out = s .out; steps = s .steps }
+
+-- the goals of two lists lie behind one another, and nothing else was written
+pub record Gathered (w v : List ℕ) (to from₁ n₁ from₂ n₂ : ℕ) : Type 0 where
+  pub only : Only to (to + (n₁ + n₂) * 2) w v
+  pub goals : goalsAt v to (n₁ + n₂) ≡ goalsAt w from₁ n₁ ++ goalsAt w from₂ n₂

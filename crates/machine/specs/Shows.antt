@@ -1,0 +1,120 @@
+-- What the code's state and its work space stand for: a state of hitac's machine.
+use Prim.Native.Nat.{ℕ, _+_, _*_, _≤_}
+use mathlib.Core.Path.{_≡_}
+use mathlib.Core.Bool.{cond}
+use mathlib.Core.List.{List, [], _∷_}
+use lib.Dec.{eqb}
+use lib.ListN.{getD}
+use Rattle.words.specs.Word.{word}
+use Rattle.format.specs.declared.values.Goal.{Goal}
+use Rattle.format.specs.Refusals.{Cause, joinedTooLong}
+use Rattle.format.specs.Goals.{goalsAt}
+use Rattle.format.specs.Terms.{Term, size}
+use Rattle.format.specs.Standing.{Stands}
+use Rattle.hitac.specs.Outcomes.{Ending, proved, failed, ended}
+use Rattle.hitac.specs.Machine as M
+use Rattle.hitac.specs.Machine.{labelled, sequenceLeft, sequenceRight, tensorLeft, tensorRight, alternationLeft, running, stopped}
+use Rattle.machine.specs.declared.state.State.{State}
+use Rattle.machine.specs.declared.frames.Frame.{Frame}
+use Rattle.machine.specs.Layout.{outputEnd, framesEnd}
+use Rattle.machine.specs.Frames.{frameAt}
+
+-- the file that a term stands in
+abbrev pub source : (table job : List ℕ) → (file : ℕ) → List ℕ
+source table job file = cond (eqb file 0) table job
+
+-- a list of goals lies in the part of the goals that is in use
+pub record GoalsIs (w : List ℕ) (arena start count : ℕ) (g : List Goal) : Type 0 where
+  pub low : outputEnd ≤ start
+  pub high : start + count * 2 ≤ arena
+  pub few : count ≤ 256
+  pub are : goalsAt w start count ≡ g
+
+-- a frame of the code is a waiting term; o is where the output of the inner term begins
+unfoldable pub FrameIs : (table job w : List ℕ) → (arena : ℕ) → Frame → (o : ℕ) → M.Frame → Type 0
+FrameIs table job w arena f o (labelled l) = (f .kind ≡ 1) × (o ≡ f .mark + 5) × (getD w (f .mark) 0 ≡ 18) × (word w (f .mark + 3) ≡ l .0)
+FrameIs table job w arena f o (sequenceLeft u) = (f .kind ≡ 2) × (o ≡ f .mark + 3) × (getD w (f .mark) 0 ≡ 19) × Stands (source table job (f .file)) (f .at) u
+FrameIs table job w arena f o (sequenceRight s) = (f .kind ≡ 3) × (o ≡ f .mark + 3 + size s) × (getD w (f .mark) 0 ≡ 19) × Stands w (f .mark + 3) s
+FrameIs table job w arena f o (tensorLeft u h) = (f .kind ≡ 4) × (o ≡ f .mark + 3) × (getD w (f .mark) 0 ≡ 20) × Stands (source table job (f .file)) (f .at) u × GoalsIs w arena (f .start) (f .count) h
+FrameIs table job w arena f o (tensorRight s g) = (f .kind ≡ 5) × (o ≡ f .mark + 3 + size s) × (getD w (f .mark) 0 ≡ 20) × Stands w (f .mark + 3) s × GoalsIs w arena (f .start) (f .count) g
+FrameIs table job w arena f o (alternationLeft u h) = (f .kind ≡ 6) × (o ≡ f .mark) × Stands (source table job (f .file)) (f .at) u × GoalsIs w arena (f .start) (f .count) h
+
+-- the waiting terms, innermost first, from the top of the frames on
+unfoldable pub FramesAt : (table job w : List ℕ) → (arena : ℕ) → List M.Frame → (top o : ℕ) → Type 0
+FramesAt table job w arena [] top o = (top ≡ framesEnd) × (o ≡ 0)
+FramesAt table job w arena (x ∷ k) top o = FrameIs table job w arena (frameAt w top) o x × FramesAt table job w arena k (top + 14) (frameAt w top .mark)
+
+-- The bytes of goals set aside for lists that are still to be joined. A term begun brings 264 bytes: a rule takes at most 16 of them for its premises,
+-- so that a term which ended has 248 left. A tensor keeps its own 264 and its left term's 248: the 512 that its joined list may take.
+abbrev pub frameAside : M.Frame → ℕ
+frameAside (labelled l) = 0
+frameAside (sequenceLeft u) = 0
+frameAside (sequenceRight s) = 0
+frameAside (tensorLeft u g) = 264
+frameAside (tensorRight s g) = 512
+frameAside (alternationLeft u g) = 0
+
+unfoldable pub setAside : List M.Frame → ℕ
+setAside [] = 0
+setAside (x ∷ k) = frameAside x + setAside k
+
+-- the numbers of a state, by the steps taken; `left` is what the last term left of its bytes of goals
+pub record Sizes (s : State) (k : List M.Frame) (left : ℕ) : Type 0 where
+  pub output-fits : s .out ≤ 5 * s .steps
+  pub goals-fit : s .arena + setAside k + left ≤ outputEnd + 512 + 264 * s .steps
+  pub frames-fit : framesEnd ≤ s .top + 14 * s .steps
+
+-- a term that is to begin
+pub record Runs (table job w : List ℕ) (s : State) (t : Term) (g : List Goal) (k : List M.Frame) : Type 0 where
+  pub mode-is : s .mode ≡ 0
+  pub stands : Stands (source table job (s .file)) (s .at) t
+  pub goals : GoalsIs w (s .arena) (s .start) (s .count) g
+  pub frames : FramesAt table job w (s .arena) k (s .top) (s .out)
+  pub sizes : Sizes s k 0
+
+-- a term that ended with a proof, whose field is the last of the output
+pub record Proved (table job w : List ℕ) (s : State) (p : Term) (g : List Goal) (k : List M.Frame) : Type 0 where
+  pub mode-is : s .mode ≡ 1
+  pub from : ℕ
+  pub stands : Stands w from p
+  pub out-is : s .out ≡ from + size p
+  pub goals : GoalsIs w (s .arena) (s .start) (s .count) g
+  pub frames : FramesAt table job w (s .arena) k (s .top) from
+  pub sizes : Sizes s k 248
+
+-- a term that ended without one
+pub record Lost (mode : ℕ) (table job w : List ℕ) (s : State) (k : List M.Frame) : Type 0 where
+  pub mode-is : s .mode ≡ mode
+  pub from : ℕ
+  pub below : from ≤ s .out
+  pub frames : FramesAt table job w (s .arena) k (s .top) from
+  pub sizes : Sizes s k 248
+
+-- by a limit: there is one, that of a joined list
+pub record Overflowed (table job w : List ℕ) (s : State) (c : Cause) (k : List M.Frame) : Type 0 where
+  pub cause-is : c ≡ joinedTooLong
+  pub lost : Lost 3 table job w s k
+
+unfoldable pub Ends : (table job w : List ℕ) → State → Ending → List M.Frame → Type 0
+Ends table job w s (proved p g) k = Proved table job w s p g k
+Ends table job w s failed k = Lost 2 table job w s k
+Ends table job w s (ended c) k = Overflowed table job w s c k
+
+-- between two frames: a term to begin, or a term that ended
+pub data Config : Type 0 where
+  next : Term → List Goal → List M.Frame → Config
+  done : Ending → List M.Frame → Config
+
+unfoldable pub Holds : (table job w : List ℕ) → State → Config → Type 0
+Holds table job w s (next t g k) = Runs table job w s t g k
+Holds table job w s (done e k) = Ends table job w s e k
+
+-- where the machine stands
+unfoldable pub Shows : (table job w : List ℕ) → State → M.Control → Type 0
+Shows table job w s (running t g k) = Runs table job w s t g k
+Shows table job w s (stopped e) = Ends table job w s e []
+
+-- a state of the machine: its steps, and where it stands
+pub record ShowsState (table job w : List ℕ) (s : State) (σ : M.State) : Type 0 where
+  pub steps-are : s .steps ≡ σ .steps
+  pub shows : Shows table job w s (σ .control)

@@ -1,0 +1,80 @@
+// The terms that wait, as frames of 14 bytes in work space, and headers of fields there.
+ghost use mathlib.Core.Path.{_≡_};
+ghost use Prim.Native.Nat.{_+_, _<_};
+ghost use lib.ListN.{length};
+ghost use Rattle.machine.specs.Frames.{long, putLong, frameAt, putFrame, putHeader};
+use words::load16;
+use words::store16;
+
+// The kinds of a frame: which term waits, and for which of its inner terms.
+pub const LABELLED: u16 = 1;
+
+pub const SEQUENCE_LEFT: u16 = 2;
+
+pub const SEQUENCE_RIGHT: u16 = 3;
+
+pub const TENSOR_LEFT: u16 = 4;
+
+pub const TENSOR_RIGHT: u16 = 5;
+
+pub const ALTERNATION_LEFT: u16 = 6;
+
+// A term that waits: its kind, the file and the place of its right term, the goals that it keeps, and where its field begins in the hiproof so far.
+pub struct Frame {
+    pub kind: u16,
+    pub file: u16,
+    pub at: u16,
+    pub count: u16,
+    pub start: usize,
+    pub mark: u16,
+}
+
+fn load32(s: &[u8], at: usize) -> usize
+    requires { ⌜ at + 3 < length (now s) ⌝ }
+    ensures { λ r. ⌜ r ≡ long (now (s .entry)) at ⌝ }
+{
+    (load16(s, at) as usize) * 65536 + (load16(s, at + 2) as usize)
+}
+
+fn store32(s: &mut [u8], at: usize, v: usize)
+    requires { ⌜ (at + 3 < length (now s)) × (v < 4294967296) ⌝ }
+    ensures { λ _. ⌜ now (s .exit) ≡ putLong (now (s .entry)) at v ⌝ }
+{
+    store16(s, at, (v / 65536) as u16);
+    store16(s, at + 2, (v % 65536) as u16);
+}
+
+pub fn load_frame(work: &[u8], at: usize) -> Frame
+    requires { ⌜ at + 13 < length (now work) ⌝ }
+    ensures { λ r. ⌜ r ≡ frameAt (now (work .entry)) at ⌝ }
+{
+    Frame {
+        kind: load16(work, at),
+        file: load16(work, at + 2),
+        at: load16(work, at + 4),
+        count: load16(work, at + 6),
+        start: load32(work, at + 8),
+        mark: load16(work, at + 12),
+    }
+}
+
+pub fn store_frame(work: &mut [u8], at: usize, f: Frame)
+    requires { ⌜ (at + 13 < length (now work)) × (f .start < 4294967296) ⌝ }
+    ensures { λ _. ⌜ now (work .exit) ≡ putFrame (now (work .entry)) at f ⌝ }
+{
+    store16(work, at, f.kind);
+    store16(work, at + 2, f.file);
+    store16(work, at + 4, f.at);
+    store16(work, at + 6, f.count);
+    store32(work, at + 8, f.start);
+    store16(work, at + 12, f.mark);
+}
+
+// The header of a field.
+pub fn put_header(work: &mut [u8], at: usize, tag: u8, len: u16)
+    requires { ⌜ at + 2 < length (now work) ⌝ }
+    ensures { λ _. ⌜ now (work .exit) ≡ putHeader (now (work .entry)) at tag len ⌝ }
+{
+    store16(work, at + 1, len);
+    work[at] = tag;
+}

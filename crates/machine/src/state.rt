@@ -1,0 +1,79 @@
+// The machine's control state, and its steps.
+ghost use mathlib.Core.Path.{_≡_};
+ghost use Prim.Native.Nat.{_+_};
+ghost use Rattle.machine.specs.Shows.{source};
+ghost use Rattle.machine.specs.Step.{Given, Stepped, Grown, Started, Ran};
+
+// How a state stands: a term is to begin; or the last one ended with a proof, failed, or ended the run (22).
+pub const RUNNING: u8 = 0;
+
+pub const PROVED: u8 = 1;
+
+pub const FAILED: u8 = 2;
+
+pub const ENDED: u8 = 3;
+
+// The next term to begin, by its file (0 the table, 1 the job) and place, with its goals; or how the last one ended, with the goals that it gave.
+// The frame of the innermost term that waits is at `top`; goals lie below `arena`, the hiproof so far below `out`. Terms begun are counted.
+pub struct State {
+    pub mode: u8,
+    pub file: u16,
+    pub at: usize,
+    pub start: usize,
+    pub count: usize,
+    pub top: usize,
+    pub arena: usize,
+    pub out: usize,
+    pub steps: usize,
+}
+
+impl State {
+    // One term of a file begun, then the next term to begin or the end of the run.
+    fn step_in(self, table: &[u8], first: usize, src: &[u8], work: &mut [u8]) -> State
+        requires { ⌜ Given (now table) first (now src) (now work) self ⌝ }
+        ensures steps { λ r. ⌜ Stepped (now (table .entry)) first (now (src .entry)) (now (work .entry)) self (now (work .exit)) r ⌝ }
+        ensures grown { λ r. ⌜ Grown (now (work .entry)) self (now (work .exit)) r ⌝ }
+    {
+        let s = self.begin(table, first, src, work);
+        if s.mode == RUNNING {
+            return s;
+        }
+        s.unwind(work)
+    }
+
+    // A step begins one term and leaves the next state.
+    pub fn step(self, table: &[u8], first: usize, job: &[u8], work: &mut [u8]) -> State
+        requires { ⌜ Given (now table) first (source (now table) (now job) (self .file)) (now work) self ⌝ }
+        ensures steps { λ r. ⌜ Stepped (now (table .entry)) first (source (now (table .entry)) (now (job .entry)) (self .file)) (now (work .entry)) self (now (work .exit)) r ⌝ }
+        ensures grown { λ r. ⌜ Grown (now (work .entry)) self (now (work .exit)) r ⌝ }
+    {
+        if self.file == 0 {
+            return self.step_in(table, first, table, work);
+        }
+        self.step_in(table, first, job, work)
+    }
+
+    // At most so many steps; a term that is still to begin afterwards says that the budget is spent.
+    pub fn run(
+        self,
+        budget: usize,
+        table: &[u8],
+        first: usize,
+        job: &[u8],
+        work: &mut [u8],
+    ) -> State
+        requires { ⌜ Started (now table) first (now job) (now work) self budget ⌝ }
+        ensures { λ r. ⌜ Ran (now (table .entry)) first (now (job .entry)) (now (work .entry)) self budget (now (work .exit)) r ⌝ }
+    {
+        let mut s = self;
+        let mut left = budget;
+        while 0 < left {
+            if s.mode != RUNNING {
+                return s;
+            }
+            s = s.step(table, first, job, work);
+            left -= 1;
+        }
+        s
+    }
+}

@@ -1,0 +1,246 @@
+// From the end of a term to the next term to begin, or to the end of the run: one function for each kind of term that waits.
+ghost use mathlib.Core.Path.{_≡_};
+ghost use Prim.Native.Nat.{_+_, _*_, _≤_};
+ghost use lib.ListN.{length};
+ghost use Rattle.machine.specs.Layout.{goalsEnd, framesEnd};
+ghost use Rattle.machine.specs.Frames.{frameAt};
+ghost use Rattle.machine.specs.Popping.{Gathered, Waiting, Popped, Smaller, Unwinding, Unwound, Fewer, leave, overflowed};
+use crate::frames::ALTERNATION_LEFT;
+use crate::frames::Frame;
+use crate::frames::SEQUENCE_LEFT;
+use crate::frames::SEQUENCE_RIGHT;
+use crate::frames::TENSOR_LEFT;
+use crate::frames::TENSOR_RIGHT;
+use crate::frames::load_frame;
+use crate::frames::store_frame;
+use crate::state::ENDED;
+use crate::state::FAILED;
+use crate::state::PROVED;
+use crate::state::RUNNING;
+use crate::state::State;
+use words::move_up;
+use words::store16;
+
+// Two lists of goals copied behind one another.
+fn gather(work: &mut [u8], to: usize, first: usize, n: usize, second: usize, m: usize)
+    requires { ⌜ (first + n * 2 ≤ to) × (second + m * 2 ≤ to) × (n + m ≤ 256) × (to + (n + m) * 2 ≤ length (now work)) × (to ≤ goalsEnd) ⌝ }
+    ensures { λ _. ⌜ Gathered (now (work .entry)) (now (work .exit)) to first n second m ⌝ }
+{
+    move_up(work, first, to, n * 2);
+    move_up(work, second, to + n * 2, m * 2);
+}
+
+impl State {
+    // The same without its first frame.
+    fn leave(self) -> State
+        requires { ⌜ self .top ≤ framesEnd ⌝ }
+        ensures { λ r. ⌜ r ≡ leave self ⌝ }
+    {
+        State {
+            mode: self.mode,
+            file: self.file,
+            at: self.at,
+            start: self.start,
+            count: self.count,
+            top: self.top + 14,
+            arena: self.arena,
+            out: self.out,
+            steps: self.steps,
+        }
+    }
+
+    // A term failed: an alternation begins its right term on the same goals, every other term that waits fails too.
+    fn pop_failed(self, work: &[u8]) -> State
+        requires { ⌜ (self .mode ≡ 2) × Waiting (now work) self ⌝ }
+        ensures popped { λ r. ⌜ Popped (now (work .entry)) self (now (work .entry)) r ⌝ }
+        ensures smaller { λ r. ⌜ Smaller (now (work .entry)) self (now (work .entry)) r ⌝ }
+    {
+        let top = self.top;
+        let f = load_frame(work, top);
+        let mark = f.mark as usize;
+        if f.kind != ALTERNATION_LEFT {
+            return self.leave();
+        }
+        State {
+            mode: RUNNING,
+            file: f.file,
+            at: f.at as usize,
+            start: f.start,
+            count: f.count as usize,
+            top: top + 14,
+            arena: self.arena,
+            out: mark,
+            steps: self.steps,
+        }
+    }
+
+    // A term proved its goals: a sequence or a tensor begins its right term or ends, an alternation's choice stands, and the field of a label is closed.
+    fn pop_proved(self, work: &mut [u8]) -> State
+        requires { ⌜ (self .mode ≡ 1) × Waiting (now work) self ⌝ }
+        ensures popped { λ r. ⌜ Popped (now (work .entry)) self (now (work .exit)) r ⌝ }
+        ensures smaller { λ r. ⌜ Smaller (now (work .entry)) self (now (work .exit)) r ⌝ }
+    {
+        let top = self.top;
+        let f = load_frame(work, top);
+        let kind = f.kind;
+        if kind == SEQUENCE_LEFT {
+            return self.turn(work, f);
+        }
+        if kind == TENSOR_LEFT {
+            return self.turn_beside(work, f);
+        }
+        if kind == TENSOR_RIGHT {
+            return self.join(work, f);
+        }
+        if kind == ALTERNATION_LEFT {
+            return self.leave();
+        }
+        let mark = f.mark as usize;
+        store16(work, mark + 1, (self.out - mark - 3) as u16);
+        self.leave()
+    }
+
+    // A sequence's left term proved its goals: its right term is next, on what the left gave.
+    fn turn(self, work: &mut [u8], f: Frame) -> State
+        requires { ⌜ (self .mode ≡ 1) × (f .kind ≡ 2) × (f ≡ frameAt (now work) (self .top)) × Waiting (now work) self ⌝ }
+        ensures popped { λ r. ⌜ Popped (now (work .entry)) self (now (work .exit)) r ⌝ }
+        ensures smaller { λ r. ⌜ Smaller (now (work .entry)) self (now (work .exit)) r ⌝ }
+    {
+        let top = self.top;
+        let file = f.file;
+        let at = f.at;
+        let start = self.start;
+        let count = self.count;
+        let g = Frame {
+            kind: SEQUENCE_RIGHT,
+            file,
+            at,
+            count: count as u16,
+            start,
+            mark: f.mark,
+        };
+        store_frame(work, top, g);
+        State {
+            mode: RUNNING,
+            file,
+            at: at as usize,
+            start,
+            count,
+            top,
+            arena: self.arena,
+            out: self.out,
+            steps: self.steps,
+        }
+    }
+
+    // A tensor's left term proved its goals: its right term is next, on the goals that the frame kept for it.
+    fn turn_beside(self, work: &mut [u8], f: Frame) -> State
+        requires { ⌜ (self .mode ≡ 1) × (f .kind ≡ 4) × (f ≡ frameAt (now work) (self .top)) × Waiting (now work) self ⌝ }
+        ensures popped { λ r. ⌜ Popped (now (work .entry)) self (now (work .exit)) r ⌝ }
+        ensures smaller { λ r. ⌜ Smaller (now (work .entry)) self (now (work .exit)) r ⌝ }
+    {
+        let top = self.top;
+        let file = f.file;
+        let at = f.at;
+        let start = f.start;
+        let count = f.count;
+        let g = Frame {
+            kind: TENSOR_RIGHT,
+            file,
+            at,
+            count: self.count as u16,
+            start: self.start,
+            mark: f.mark,
+        };
+        store_frame(work, top, g);
+        State {
+            mode: RUNNING,
+            file,
+            at: at as usize,
+            start,
+            count: count as usize,
+            top,
+            arena: self.arena,
+            out: self.out,
+            steps: self.steps,
+        }
+    }
+
+    // A tensor's right term proved its goals: the two lists are joined and its field is closed; 22 if they are too many.
+    fn join(self, work: &mut [u8], f: Frame) -> State
+        requires { ⌜ (self .mode ≡ 1) × (f .kind ≡ 5) × (f ≡ frameAt (now work) (self .top)) × Waiting (now work) self ⌝ }
+        ensures popped { λ r. ⌜ Popped (now (work .entry)) self (now (work .exit)) r ⌝ }
+        ensures smaller { λ r. ⌜ Smaller (now (work .entry)) self (now (work .exit)) r ⌝ }
+    {
+        let left = f.count as usize;
+        let right = self.count;
+        let mark = f.mark as usize;
+        let arena = self.arena;
+        let out = self.out;
+        if 256 < left + right {
+            return self.overflow();
+        }
+        gather(work, arena, f.start, left, self.start, right);
+        store16(work, mark + 1, (out - mark - 3) as u16);
+        State {
+            mode: PROVED,
+            file: self.file,
+            at: self.at,
+            start: arena,
+            count: left + right,
+            top: self.top + 14,
+            arena: arena + (left + right) * 2,
+            out,
+            steps: self.steps,
+        }
+    }
+
+    // The run ends: a joined list is too long.
+    fn overflow(self) -> State
+        requires { ⌜ self .top ≤ framesEnd ⌝ }
+        ensures { λ r. ⌜ r ≡ overflowed self ⌝ }
+    {
+        State {
+            mode: ENDED,
+            file: self.file,
+            at: self.at,
+            start: self.start,
+            count: self.count,
+            top: self.top + 14,
+            arena: self.arena,
+            out: self.out,
+            steps: self.steps,
+        }
+    }
+
+    // One frame taken off.
+    fn pop(self, work: &mut [u8]) -> State
+        requires { ⌜ Waiting (now work) self ⌝ }
+        ensures popped { λ r. ⌜ Popped (now (work .entry)) self (now (work .exit)) r ⌝ }
+        ensures smaller { λ r. ⌜ Smaller (now (work .entry)) self (now (work .exit)) r ⌝ }
+    {
+        if self.mode == PROVED {
+            return self.pop_proved(work);
+        }
+        if self.mode == FAILED {
+            return self.pop_failed(work);
+        }
+        self.leave()
+    }
+
+    // To the next term to begin, or to the end of the run.
+    pub fn unwind(self, work: &mut [u8]) -> State
+        requires { ⌜ Unwinding (now work) self ⌝ }
+        ensures unwound { λ r. ⌜ Unwound (now (work .entry)) self (now (work .exit)) r ⌝ }
+        ensures fewer { λ r. ⌜ Fewer (now (work .entry)) self (now (work .exit)) r ⌝ }
+    {
+        let mut s = self;
+        while s.top < 1159680 {
+            s = s.pop(work);
+            if s.mode == RUNNING {
+                return s;
+            }
+        }
+        s
+    }
+}
