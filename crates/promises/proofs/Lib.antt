@@ -6,3 +6,4 @@ pub mod WrittenWithin
 pub mod WriteProofPromises
 pub mod FlattenedWithin
 pub mod FlattenPromises
+pub mod RunPromises

@@ -5,3 +5,4 @@ pub mod CheckPromises
 pub mod CheckFlatPromises
 pub mod WriteProofPromises
 pub mod FlattenPromises
+pub mod RunPromises

@@ -1,0 +1,164 @@
+-- The promises of run: by the theorem of hitac that the machine decides the deterministic rules within its budget.
+-- Assumes nothing.
+use Prim.Native.Nat.{ℕ, _≤_, _<_}
+use native.Mathlib.Omega.{arith}
+use native.Mathlib.Decide.{decLt}
+use mathlib.Core.Path.{_≡_, refl, sym, subst, ap, _∙_}
+use mathlib.Core.Logic.{inl, inr}
+use mathlib.Core.List.{List}
+use lib.ListN.{length}
+use borrow.Author.Tests.{lt-ltb, le-ltb}
+use Rattle.format.specs.declared.values.Goal.{Goal}
+use Rattle.format.specs.Limits.{mostSteps}
+use Rattle.format.specs.Refusals.{Cause, number, joinedTooLong, tacticFailed, budgetSpent, budgetTooLarge}
+use Rattle.format.specs.Results.{Result, gives, refused}
+use Rattle.format.specs.Terms.{Term}
+use Rattle.tables.specs.Tables.{Table, UniqueRules, UniqueDefinitions}
+use Rattle.tables.specs.ReadTables.{readTable}
+use Rattle.tables.proofs.ReadsTable.{reads-unique-rules, reads-unique-definitions}
+use Rattle.tables.proofs.RefusedTable.{table-place}
+use Rattle.files.specs.Jobs.{Job, readJob}
+use Rattle.files.proofs.RefusedFiles.{Job-refused}
+use Rattle.hitac.specs.Ends.{End, proof, failure, overflow, Ends}
+use Rattle.hitac.specs.EndingOf.{endingOf}
+use Rattle.hitac.specs.Machine.{Control, running, stopped, State, after, Running, run, start}
+use Rattle.hitac.specs.Outcomes.{Ending, proved, failed, ended}
+use Rattle.hitac.proofs.MachineMeaning.{run↔ends, run-ending, running↔no-end}
+use Rattle.hitac.proofs.RunLaws.{spent-steps, run-steps}
+use Rattle.answers.specs.Answers as answer
+use Rattle.entries.specs.Outcomes.{Outcome, success, refusal}
+use Rattle.entries.specs.LentSpace.{Written, writeOut, writeIn}
+use Rattle.entries.specs.Run.{runEnd, runResult, runOutcome, runWork, runTactic}
+use Rattle.promises.specs.Ended as ended-specs
+use Rattle.promises.specs.RunPromises.{resultOf, wroteAfter, RunAnswers, Run-answers, RunRefuses, Run-ends}
+use Rattle.promises.proofs.LentLaws.{Answers, ends-written}
+
+module _ (t f : List ℕ) (b : ℕ) (T : Table) (j : Job) (l : b ≤ mostSteps) (e : readTable t ≡ gives T) (g : readJob f ≡ gives j) where
+  abbrev σ : State
+  σ = run T b (start (j .term) (j .goals))
+
+  rules : UniqueRules T
+  rules = reads-unique-rules t T e
+
+  definitions : UniqueDefinitions T
+  definitions = reads-unique-definitions t T e
+
+  outcome : runOutcome t f b ≡ runResult j σ
+  unfolding runOutcome
+  outcome = rw (le-ltb mostSteps b l, e, g)
+
+  -- the outcome of a run that has ended
+  ended-so : (n : ℕ) (x : End) → Ends T (j .goals) (j .term) n x → n ≤ b → runOutcome t f b ≡ runEnd j n (stopped (endingOf x))
+  unfolding runResult
+  ended-so n x d h = outcome ∙ ap (runResult j) (run↔ends T rules definitions (j .term) (j .goals) b n x .1 (d, h))
+
+  -- and of one that has not
+  still-running : (κ : Control) → Running κ → (n : ℕ) → runEnd j n κ ≡ refusal budgetSpent 0 0 n
+  unfolding runEnd
+  still-running (running u h w) r n = refl
+
+  spent-so : ((n : ℕ) (x : End) → Ends T (j .goals) (j .term) n x → n ≤ b → ⊥) → runOutcome t f b ≡ refusal budgetSpent 0 0 b
+  unfolding runResult
+  spent-so none =
+      let r = running↔no-end T rules definitions (j .term) (j .goals) b .1 none in
+      outcome ∙ still-running (σ .control) r (σ .steps) ∙ ap (λ (n : ℕ). refusal budgetSpent 0 0 n) (spent-steps T b (j .term) (j .goals) r)
+
+  answer-of : (w o : List ℕ) → runWork ≤ length w → (c : Cause) (n : ℕ) → runOutcome t f b ≡ refusal c 0 0 n → runTactic t f b w o .answer ≡ answer.refusal (number c) 0 0 n
+  unfolding runTactic writeIn writeOut
+  answer-of w o h c n q = rw (le-ltb (length w) runWork h, q)
+
+  writes : (n : ℕ) (s : Term) (h : List Goal) → Ends T (j .goals) (j .term) n (proof s h) → n ≤ b
+      → (w o : List ℕ) → runWork ≤ length w → length (resultOf j s h) ≤ length o → runTactic t f b w o ≡ wroteAfter n (resultOf j s h) w o
+  unfolding runTactic writeIn writeOut runEnd
+  writes n s h d k w o x y = rw (ended-so n (proof s h) d k, le-ltb (length w) runWork x, le-ltb (length o) (length (resultOf j s h)) y)
+
+  fails : (n : ℕ) → Ends T (j .goals) (j .term) n failure → n ≤ b → (w o : List ℕ) → runWork ≤ length w → runTactic t f b w o .answer ≡ answer.refusal 23 0 0 n
+  unfolding runEnd number
+  fails n d k w o x = answer-of w o x tacticFailed n (ended-so n failure d k)
+
+  overflows : (n : ℕ) → Ends T (j .goals) (j .term) n overflow → n ≤ b → (w o : List ℕ) → runWork ≤ length w → runTactic t f b w o .answer ≡ answer.refusal 22 0 0 n
+  unfolding runEnd number
+  overflows n d k w o x = answer-of w o x joinedTooLong n (ended-so n overflow d k)
+
+  spends : ((n : ℕ) (x : End) → Ends T (j .goals) (j .term) n x → n ≤ b → ⊥) → (w o : List ℕ) → runWork ≤ length w → runTactic t f b w o .answer ≡ answer.refusal 24 0 0 b
+  unfolding number
+  spends none w o x = answer-of w o x budgetSpent b (spent-so none)
+
+  -- demand 1, for a run that was begun
+  steps-few : σ .steps ≤ b
+  steps-few = run-steps T b (j .term) (j .goals)
+
+  abbrev May : Outcome (List ℕ) → Type 0
+  May = Answers t f (RunRefuses b)
+
+  own : (c : Cause) (n : ℕ) → 22 ≤ number c → number c ≤ 24 → n ≤ b → May (refusal c 0 0 n)
+  unfolding Answers
+  own c n x y z = ended-specs.EndedWriting.ended-own (number c) 0 0 n (refl, refl, inl (x, y, z))
+
+  only-22 : (c : Cause) (x : End) → endingOf x ≡ ended c → (22 ≤ number c) × (number c ≤ 24)
+  unfolding number
+  only-22 c (proof s h) q = absurd (let z : _≡_ {A = ℕ} 0 1 = cc in omega arith)
+  only-22 c failure q = absurd (let z : _≡_ {A = ℕ} 0 1 = cc in omega arith)
+  only-22 c overflow q = let z : joinedTooLong ≡ c = cc in subst (λ (d : Cause). (22 ≤ number d) × (number d ≤ 24)) z (omega arith, omega arith)
+
+  by-control : (κ : Control) → σ .control ≡ κ → May (runEnd j (σ .steps) κ)
+  unfolding runEnd Answers number
+  by-control (running u h w) q = own budgetSpent (σ .steps) (omega arith) (omega arith) steps-few
+  by-control (stopped (proved s h)) q = tt
+  by-control (stopped failed) q = own tacticFailed (σ .steps) (omega arith) (omega arith) steps-few
+  by-control (stopped (ended c)) q =
+      let r = run-ending T rules definitions (j .term) (j .goals) b (σ .steps) (ended c) (ap (λ (κ : Control). after (σ .steps) κ) q) in
+      let k = only-22 c (r .0) (r .1) in
+      own c (σ .steps) (k .0) (k .1) steps-few
+
+  begun : May (runOutcome t f b)
+  unfolding runResult
+  begun = subst May (sym outcome) (by-control (σ .control) refl)
+
+pub run-answers : Run-answers
+run-answers t f b T j l e g = record { proves = writes t f b T j l e g; fails = fails t f b T j l e g; overflows = overflows t f b T j l e g; spends = spends t f b T j l e g }
+
+-- demand 1
+module _ (t f : List ℕ) (b : ℕ) where
+  abbrev Ok : Outcome (List ℕ) → Type 0
+  Ok = Answers t f (RunRefuses b)
+
+  over-budget : mostSteps < b → runOutcome t f b ≡ refusal budgetTooLarge 0 0 0
+  unfolding runOutcome
+  over-budget h = rw (lt-ltb mostSteps b h)
+
+  table-refused : b ≤ mostSteps → (c : Cause) (q : ℕ) → readTable t ≡ refused c q → runOutcome t f b ≡ refusal c 1 q 0
+  unfolding runOutcome
+  table-refused h c q e = rw (le-ltb mostSteps b h, e)
+
+  job-refused : b ≤ mostSteps → (T : Table) (c : Cause) (q : ℕ) → readTable t ≡ gives T → readJob f ≡ refused c q → runOutcome t f b ≡ refusal c 2 q 0
+  unfolding runOutcome
+  job-refused h T c q e g = rw (le-ltb mostSteps b h, e, g)
+
+  too-large : Ok (refusal budgetTooLarge 0 0 0)
+  unfolding Answers number
+  too-large = ended-specs.EndedWriting.ended-own 25 0 0 0 (refl, refl, inr (refl, refl))
+
+  in-table : (c : Cause) (q : ℕ) → readTable t ≡ refused c q → Ok (refusal c 1 q 0)
+  unfolding Answers
+  in-table c q e = let r = table-place t c q e in ended-specs.EndedWriting.ended-table (number c) q (r .least) (r .most) (r .within)
+
+  in-job : (c : Cause) (q : ℕ) → readJob f ≡ refused c q → Ok (refusal c 2 q 0)
+  unfolding Answers
+  in-job c q e = let r = Job-refused f c q e in ended-specs.EndedWriting.ended-other (number c) q (r .least) (r .most) (r .within)
+
+  by-job : b ≤ mostSteps → (T : Table) → readTable t ≡ gives T → (r : Result Job) → readJob f ≡ r → Ok (runOutcome t f b)
+  by-job h T e (gives j) g = begun t f b T j h e g
+  by-job h T e (refused c q) g = subst Ok (sym (job-refused h T c q e g)) (in-job c q g)
+
+  by-table : b ≤ mostSteps → (r : Result Table) → readTable t ≡ r → Ok (runOutcome t f b)
+  by-table h (gives T) e = by-job h T e (readJob f) refl
+  by-table h (refused c q) e = subst Ok (sym (table-refused h c q e)) (in-table c q e)
+
+  by-budget : Dec (mostSteps < b) → Ok (runOutcome t f b)
+  by-budget (yes h) = subst Ok (sym (over-budget h)) too-large
+  by-budget (no h) = by-table (omega arith) (readTable t) refl
+
+pub run-ends : Run-ends
+unfolding runTactic
+run-ends t f b w o = ends-written t f w o (RunRefuses b) runWork (runOutcome t f b) (by-budget t f b (decLt mostSteps b))
