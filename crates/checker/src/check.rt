@@ -33,7 +33,7 @@ const WORK: usize = 65536;
 const STACKS: usize = 16384;
 
 // Whether the goals from a place of the work space on are those from a place of the proof on.
-fn same_goals(
+pub fn same_goals(
     work: &[u8],
     at: usize,
     given: usize,

@@ -6,7 +6,6 @@ pub mod PairLaws
 pub mod PrintLaws
 pub mod PassLaws
 pub mod GrowthLaws
-pub mod SameGoals
 pub mod DecideLaws
 pub mod PlantLaws
 pub mod FlattenLaws
