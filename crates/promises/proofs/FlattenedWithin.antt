@@ -7,23 +7,24 @@ use mathlib.Core.List.{List, [], _∷_, _++_, List·Memᴰ, List·Memᴰ·not-ni
 use Rattle.format.specs.declared.values.Goal.{Goal}
 use Rattle.format.specs.Encoding.{GoalValues, TermValues}
 use Rattle.format.specs.Terms.{Term, atomic, id, label, sequence, tensor, empty, alternation, assert, defined}
-use Rattle.tables.specs.Tables.{Rule, Table, HasRule}
+use Rattle.tables.specs.Tables.{Table, HasRule}
 use Rattle.tables.specs.Within.{RuleWithin, Every}
 use Rattle.files.specs.Derivations.{Entry}
 use Rattle.files.specs.Within.{EntryValues}
 use Rattle.hitac.specs.Derives.{Derives, D-End, D-Open, D-Use}
 use Rattle.hitac.specs.Hiproofs.{dropLabels}
 
-member-within : (rs : List Rule) → Every RuleWithin rs → (r : Rule) → List·Memᴰ r rs → RuleWithin r
+-- what holds of every value of a list holds of a member
+pub every-member : {A : Type 0} (P : A → Type 0) (xs : List A) → Every P xs → (y : A) → List·Memᴰ y xs → P y
 unfolding Every
-member-within [] e r m = absurd (List·Memᴰ·not-nil m)
-member-within (x ∷ rs) e r m = go (member-within rs (e .1) r) (List·Memᴰ·cases-cons m)
+every-member P [] e y m = absurd (List·Memᴰ·not-nil m)
+every-member P (x ∷ xs) e y m = go (every-member P xs (e .1) y) (List·Memᴰ·cases-cons m)
   where
-    go : (List·Memᴰ r rs → RuleWithin r) → (r ≡ x) ⊎ List·Memᴰ r rs → RuleWithin r
-    go f (inl q) = subst RuleWithin (sym q) (e .0)
+    go : (List·Memᴰ y xs → P y) → (y ≡ x) ⊎ List·Memᴰ y xs → P y
+    go f (inl q) = subst P (sym q) (e .0)
     go f (inr n) = f n
 
-joined-values : (g h : List Goal) → GoalValues g → GoalValues h → GoalValues (g ++ h)
+pub joined-values : (g h : List Goal) → GoalValues g → GoalValues h → GoalValues (g ++ h)
 unfolding GoalValues
 joined-values [] h v w = w
 joined-values (γ ∷ g) h v w = (v .0, joined-values g h (v .1) w)
@@ -33,7 +34,7 @@ unfolding GoalValues EntryValues
 derived-values T e D-End v = tt
 derived-values T e (D-Open d) v = (v .0, derived-values T e d (v .1))
 derived-values T e (D-Use {g = g} {h = h} m d) v =
-    let r = member-within (T .rules) e _ m in
+    let r = every-member RuleWithin (T .rules) e _ m in
     (r .name-value, r .goal-value, derived-values T e d (joined-values h g (r .premise-values) (v .1)))
 
 pub plain-values : (s : Term) → TermValues s → TermValues (dropLabels s)

@@ -6,4 +6,5 @@ pub mod WrittenWithin
 pub mod WriteProofPromises
 pub mod FlattenedWithin
 pub mod FlattenPromises
+pub mod RunWithin
 pub mod RunPromises

@@ -9,18 +9,27 @@ use mathlib.Core.List.{List}
 use lib.ListN.{length}
 use borrow.Author.Tests.{lt-ltb, le-ltb}
 use Rattle.format.specs.declared.values.Goal.{Goal}
+use Rattle.format.specs.Encoding.{Bytes, GoalValues, TermValues}
 use Rattle.format.specs.Limits.{mostSteps}
 use Rattle.format.specs.Refusals.{Cause, number, joinedTooLong, tacticFailed, budgetSpent, budgetTooLarge}
 use Rattle.format.specs.Results.{Result, gives, refused}
 use Rattle.format.specs.Terms.{Term}
-use Rattle.tables.specs.Tables.{Table, UniqueRules, UniqueDefinitions}
+use Rattle.tables.specs.Tables.{Table, HasRule, UniqueRules, UniqueDefinitions}
 use Rattle.tables.specs.ReadTables.{readTable}
-use Rattle.tables.proofs.ReadsTable.{reads-unique-rules, reads-unique-definitions}
+use Rattle.tables.proofs.ReadsTable.{reads-unique-rules, reads-unique-definitions, reads-few-premises, reads-table}
 use Rattle.tables.proofs.RefusedTable.{table-place}
 use Rattle.files.specs.Jobs.{Job, readJob}
+use Rattle.files.specs.Within.{ProofWithin, JobWithin}
+use Rattle.files.proofs.ReadsJob.{reads-job}
+use Rattle.files.proofs.ReadsProof.{proof-back}
 use Rattle.files.proofs.RefusedFiles.{Job-refused}
 use Rattle.hitac.specs.Ends.{End, proof, failure, overflow, Ends}
 use Rattle.hitac.specs.EndingOf.{endingOf}
+use Rattle.hitac.specs.Evaluates.{Evaluates}
+use Rattle.hitac.specs.Validates.{AtMost256, Validates}
+use Rattle.hitac.proofs.BigStep.{ends-evaluates, evaluates-validates}
+use Rattle.hitac.proofs.RunBounds.{proof-fields, proof-goals}
+use Rattle.hitac.proofs.ValidatesLaws.{validates-hiproof}
 use Rattle.hitac.specs.Machine.{Control, running, stopped, State, after, Running, run, start}
 use Rattle.hitac.specs.Outcomes.{Ending, proved, failed, ended}
 use Rattle.hitac.proofs.MachineMeaning.{run↔ends, run-ending, running↔no-end}
@@ -29,9 +38,11 @@ use Rattle.answers.specs.Answers as answer
 use Rattle.entries.specs.Outcomes.{Outcome, success, refusal}
 use Rattle.entries.specs.LentSpace.{Written, writeOut, writeIn}
 use Rattle.entries.specs.Run.{runEnd, runResult, runOutcome, runWork, runTactic}
+use Rattle.promises.specs.Accepted.{Accepted}
 use Rattle.promises.specs.Ended as ended-specs
-use Rattle.promises.specs.RunPromises.{resultOf, wroteAfter, RunAnswers, Run-answers, RunRefuses, Run-ends}
+use Rattle.promises.specs.RunPromises.{resultOf, wroteAfter, RunAnswers, Run-answers, Run-accepted, RunRefuses, Run-ends}
 use Rattle.promises.proofs.LentLaws.{Answers, ends-written}
+use Rattle.promises.proofs.RunWithin.{evaluated-values}
 
 module _ (t f : List ℕ) (b : ℕ) (T : Table) (j : Job) (l : b ≤ mostSteps) (e : readTable t ≡ gives T) (g : readJob f ≡ gives j) where
   abbrev σ : State
@@ -117,6 +128,41 @@ module _ (t f : List ℕ) (b : ℕ) (T : Table) (j : Job) (l : b ≤ mostSteps) 
 
 pub run-answers : Run-answers
 run-answers t f b T j l e g = record { proves = writes t f b T j l e g; fails = fails t f b T j l e g; overflows = overflows t f b T j l e g; spends = spends t f b T j l e g }
+
+-- accepted
+module _ (t f : List ℕ) (table-bytes : Bytes t) (job-bytes : Bytes f) (T : Table) (j : Job) (e : readTable t ≡ gives T) (g : readJob f ≡ gives j) where
+  module _ (n : ℕ) (s : Term) (h : List Goal) (d : Ends T (j .goals) (j .term) n (proof s h)) (l : n ≤ 4096) where
+    job-within : JobWithin j
+    job-within = reads-job f j job-bytes .0 g .1
+
+    evaluates : Evaluates T AtMost256 n (j .goals) (j .term) s h
+    evaluates = ends-evaluates d
+
+    ran : run T n (start (j .term) (j .goals)) ≡ after n (stopped (proved s h))
+    ran = run↔ends T (reads-unique-rules t T e) (reads-unique-definitions t T e) (j .term) (j .goals) n n (proof s h) .1 (d, omega arith)
+
+    values : TermValues s × GoalValues h
+    values = evaluated-values T (reads-table t T table-bytes .0 e .1) evaluates (job-within .term-values) (job-within .goal-values)
+
+    validates : Validates (HasRule T) AtMost256 s (j .goals) h
+    validates = evaluates-validates evaluates
+
+    within : ProofWithin (record { goals = j .goals; term = s; remaining = h })
+    within = record {
+      few-goals = job-within .few-goals;
+      goal-values = job-within .goal-values;
+      hiproof = validates-hiproof validates;
+      few-fields = omega (arith, proof-fields T n (j .term) (j .goals) ran, l);
+      term-values = values .0;
+      few-remaining = proof-goals T n (j .term) (j .goals) (λ a γ k m. reads-few-premises t T e _ m) (job-within .few-goals) ran;
+      remaining-values = values .1;
+    }
+
+    accepted : Accepted t (resultOf j s h)
+    accepted = record { the-table = T; the-proof = record { goals = j .goals; term = s; remaining = h }; table-reads = e; proof-reads = proof-back _ within; validates = validates }
+
+pub run-accepted : Run-accepted
+run-accepted t f table-bytes job-bytes T j e g n s h d l = accepted t f table-bytes job-bytes T j e g n s h d l
 
 -- demand 1
 module _ (t f : List ℕ) (b : ℕ) where

@@ -5,6 +5,7 @@ use mathlib.Core.Logic.{_⊎_}
 use mathlib.Core.List.{List, _++_}
 use lib.ListN.{length, drop, replicate}
 use Rattle.format.specs.declared.values.Goal.{Goal}
+use Rattle.format.specs.Encoding.{Bytes}
 use Rattle.format.specs.Results.{gives}
 use Rattle.format.specs.Terms.{Term}
 use Rattle.tables.specs.Tables.{Table}
@@ -15,6 +16,7 @@ use Rattle.hitac.specs.Ends.{End, proof, failure, overflow, Ends}
 use Rattle.answers.specs.Answers as answer
 use Rattle.entries.specs.LentSpace.{Written}
 use Rattle.entries.specs.Run.{runWork, runTactic}
+use Rattle.promises.specs.Accepted.{Accepted}
 use Rattle.promises.specs.Ended.{EndsWritten}
 
 -- "A run that succeeds writes a proof file": of the job's goals, the hiproof and the goals that it gives
@@ -36,6 +38,11 @@ pub record RunAnswers (t f : List ℕ) (b : ℕ) (T : Table) (j : Job) : Type 0 
 
 abbrev pub Run-answers : Type 0
 Run-answers = (t f : List ℕ) (b : ℕ) (T : Table) (j : Job) → b ≤ 4096 → readTable t ≡ gives T → readJob f ≡ gives j → RunAnswers t f b T j
+
+-- what a run writes is accepted in the same table
+abbrev pub Run-accepted : Type 0
+Run-accepted = (t f : List ℕ) → Bytes t → Bytes f → (T : Table) (j : Job) → readTable t ≡ gives T → readJob f ≡ gives j
+    → (n : ℕ) (s : Term) (h : List Goal) → Ends T (j .goals) (j .term) n (proof s h) → n ≤ 4096 → Accepted t (resultOf j s h)
 
 -- Demand 1: 22, 23 and 24 with the steps, at most the budget, or 25; "file and place 0"
 abbrev pub RunRefuses : (budget : ℕ) → (number file place steps : ℕ) → Type 0
