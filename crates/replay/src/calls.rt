@@ -8,14 +8,22 @@ ghost use Rattle.entries.specs.CheckFlat as flat_entry;
 use crate::records::CHECK;
 use crate::records::CHECK_FLAT;
 use crate::records::Case;
+use crate::records::WRITE_PROOF;
 use crate::tally::Verdict;
 use crate::tally::compared;
 use answers::Answer;
 use checker::check::check;
 use derivation::check::check_flat;
+use writer::entry::write_proof;
 
 // The byte that fills a work space before a call.
 const FILLED: u8 = 165;
+
+// The byte that fills an output space before a call.
+const BLANK: u8 = 90;
+
+// Longer than any output space that a vector file of the fixed set lends to write_proof.
+const ROOM: usize = 73728;
 
 // Sets every byte.
 fn fill(s: &mut [u8], b: u8)
@@ -127,6 +135,74 @@ fn replay_check_flat(case: Case, table: &[u8], flat: &[u8], work: &mut [u8]) -> 
     compared(check_flat_agrees(table, flat, &mut work[..lent], told))
 }
 
+// The digest with one byte more.
+fn digest_with(d: u64, b: u8) -> u64
+    requires { ⌜ d < 4294967291 ⌝ }
+    ensures { λ r. ⌜ r < 4294967291 ⌝ }
+{
+    let byte = b as u64;
+    (d * 16777619 + byte + 1) % 4294967291
+}
+
+// Whether the digest of a whole output space is the one that is told.
+fn is_digest(out: &[u8], told: u32) -> bool {
+    let mut d: u64 = 1;
+    let mut i: usize = 0;
+    while i < out.len() {
+        d = digest_with(d, out[i]);
+        i += 1;
+    }
+    d == told as u64
+}
+
+// A call of write_proof in work and output spaces of which every byte is lent: where it agrees, what is told is the answer by definition.
+fn write_agrees(
+    table: &[u8],
+    flat: &[u8],
+    work: &mut [u8],
+    out: &mut [u8],
+    told: Answer,
+    digest: u32,
+) -> bool
+    ensures { λ r. ⌜ (r ≡ true → told ≡ flat_entry.writeProof (now (table .entry)) (now (flat .entry)) (replicate (length (now (work .entry))) 165) (replicate (length (now (out .entry))) 90) .answer) ⌝ }
+{
+    fill(work, FILLED);
+    fill(out, BLANK);
+    let answer = write_proof(table, flat, work, out);
+    let left = is_left(work, told.number);
+    if !left {
+        return false;
+    }
+    let same = is_digest(out, digest);
+    if !same {
+        return false;
+    }
+    same_answer(answer, told)
+}
+
+// The entry write_proof.
+fn replay_write(case: Case, table: &[u8], flat: &[u8], work: &mut [u8]) -> Verdict {
+    let lent = case.lent;
+    let room = case.room;
+    let told = case.told;
+    let digest = case.digest;
+    if work.len() < lent {
+        return Verdict::Skipped;
+    }
+    if ROOM < room {
+        return Verdict::Skipped;
+    }
+    let mut out = [0u8; ROOM];
+    compared(write_agrees(
+        table,
+        flat,
+        &mut work[..lent],
+        &mut out[..room],
+        told,
+        digest,
+    ))
+}
+
 // The call of a case. Entries without a branch are not replayed as calls yet.
 pub fn replay_call(case: Case, table: &[u8], other: &[u8], work: &mut [u8]) -> Verdict {
     let entry = case.entry;
@@ -135,6 +211,9 @@ pub fn replay_call(case: Case, table: &[u8], other: &[u8], work: &mut [u8]) -> V
     }
     if entry == CHECK_FLAT {
         return replay_check_flat(case, table, other, work);
+    }
+    if entry == WRITE_PROOF {
+        return replay_write(case, table, other, work);
     }
     Verdict::Untold
 }
