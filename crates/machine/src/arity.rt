@@ -11,6 +11,7 @@ ghost use Rattle.format.specs.Standing.{Stands};
 ghost use Rattle.hitac.specs.TacticArity.{sumArity, commonArity, arityIn};
 ghost use Rattle.machine.specs.Layout.{spaceEnd};
 ghost use Rattle.machine.specs.Arities.{arityCode, ArityTable, Pair};
+use crate::layout::FRAMES_END;
 use format::values::TacticNo;
 use format::values::tactic_no_at;
 use words::load16;
@@ -45,7 +46,7 @@ fn known_arity(tactic: TacticNo, work: &[u8]) -> u16
     requires { ⌜ spaceEnd ≤ length (now work) ⌝ }
     ensures { λ n. ⌜ ((known : TacticNo → Option ℕ) → ArityTable (now (work .entry)) known → n ≡ arityCode (known (tacticNo (tactic .0)))) ⌝ }
 {
-    load16(work, 1159680 + (tactic.0 as usize) * 2)
+    load16(work, FRAMES_END + (tactic.0 as usize) * 2)
 }
 
 // Where the second of two inner terms stands.

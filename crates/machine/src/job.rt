@@ -5,6 +5,8 @@ ghost use Prim.Native.Nat.{ℕ, _+_, _*_, _≤_};
 ghost use lib.ListN.{length};
 ghost use Rattle.machine.specs.Jobs.{StartGiven, Starts, FileGiven, FileWritten, FinishGiven, Finishes, JobGiven, JobRan};
 use crate::frames::put_header;
+use crate::layout::FRAMES_END;
+use crate::layout::OUTPUT_END;
 use crate::rounds::fill_arities;
 use crate::state::FAILED;
 use crate::state::PROVED;
@@ -21,15 +23,15 @@ fn start(job: &[u8], parts: JobParts, work: &mut [u8]) -> State
     requires { ⌜ StartGiven (now job) parts (now work) ⌝ }
     ensures { λ r. ⌜ Starts (now (job .entry)) parts (now (work .entry)) (now (work .exit)) r ⌝ }
 {
-    copy_in(work, 20480, job, 3, parts.goals * 2);
+    copy_in(work, OUTPUT_END, job, 3, parts.goals * 2);
     State {
         mode: RUNNING,
         file: 1,
         at: parts.term,
-        start: 20480,
+        start: OUTPUT_END,
         count: parts.goals,
-        top: 1159680,
-        arena: 20480 + parts.goals * 2,
+        top: FRAMES_END,
+        arena: OUTPUT_END + parts.goals * 2,
         out: 0,
         steps: 0,
     }

@@ -4,6 +4,7 @@ pub mod begin;
 pub mod entry;
 pub mod frames;
 pub mod job;
+pub mod layout;
 pub mod rounds;
 pub mod state;
 pub mod unwind;

@@ -5,6 +5,8 @@ ghost use lib.ListN.{length};
 ghost use Rattle.machine.specs.Layout.{spaceEnd};
 ghost use Rattle.machine.specs.Rounds.{Updated, RoundGiven, Rounded, FillGiven, Settled, Cleared, Filled};
 use crate::arity::arity_of;
+use crate::layout::FRAMES_END;
+use crate::layout::SPACE_END;
 use format::values::TacticNo;
 use format::values::tactic_no_at;
 use words::clear;
@@ -16,7 +18,7 @@ fn update(tactic: TacticNo, arity: u16, work: &mut [u8]) -> usize
     requires { ⌜ spaceEnd ≤ length (now work) ⌝ }
     ensures { λ r. ⌜ Updated (now (work .entry)) (tactic .0) arity (now (work .exit)) r ⌝ }
 {
-    let place = 1159680 + (tactic.0 as usize) * 2;
+    let place = FRAMES_END + (tactic.0 as usize) * 2;
     if load16(work, place) == arity {
         return 0;
     }
@@ -47,7 +49,7 @@ fn clear_arities(work: &mut [u8])
     requires { ⌜ spaceEnd ≤ length (now work) ⌝ }
     ensures { λ _. ⌜ Cleared (now (work .entry)) (now (work .exit)) ⌝ }
 {
-    clear(&mut work[1159680..1290752]);
+    clear(&mut work[FRAMES_END..SPACE_END]);
 }
 
 // Rounds until one changes nothing, at most as many as there are definitions.

@@ -13,6 +13,7 @@ use crate::frames::TENSOR_LEFT;
 use crate::frames::TENSOR_RIGHT;
 use crate::frames::load_frame;
 use crate::frames::store_frame;
+use crate::layout::FRAMES_END;
 use crate::state::ENDED;
 use crate::state::FAILED;
 use crate::state::PROVED;
@@ -235,7 +236,7 @@ impl State {
         ensures fewer { λ r. ⌜ Fewer (now (work .entry)) self (now (work .exit)) r ⌝ }
     {
         let mut s = self;
-        while s.top < 1159680 {
+        while s.top < FRAMES_END {
             s = s.pop(work);
             if s.mode == RUNNING {
                 return s;
