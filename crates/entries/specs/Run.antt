@@ -33,9 +33,9 @@ runOutcome table job budget =
     inFile otherFile (readJob job) (λ j.
     runResult j (run T budget (start (j .term) (j .goals))))))
 
--- the size of the work space that docs/ENTRIES.md names
+-- the size of the work space that docs/ENTRIES.md names: all that a run of the most steps can use
 abbrev pub runWork : ℕ
-runWork = 8388608
+runWork = 1290752
 
 unfoldable pub runTactic : (table job : List ℕ) → (budget : ℕ) → (work out : List ℕ) → Written
 runTactic table job budget work out = writeIn runWork work out (runOutcome table job budget)

@@ -230,10 +230,10 @@ alike w out (success bytes k) = by (ltb (length out) (length bytes))
     by false = record { answer-same = refl; out-same = refl; work-is = refl }
 
 module _ (t s w out : List ℕ) where
-  pub too-short : length w < 524288 → flatten t s w out ≡ record { answer = answer.refusal 29 0 0 0; work = w; out = out }
+  pub too-short : length w < 65536 → flatten t s w out ≡ record { answer = answer.refusal 29 0 0 0; work = w; out = out }
   unfolding flatten writeIn number
-  too-short h = rw (lt-ltb (length w) 524288 h)
+  too-short h = rw (lt-ltb (length w) 65536 h)
 
-  pub long-enough : 524288 ≤ length w → Alike w (flatten t s w out) (writeOut [] out (onProof forestFile t s))
+  pub long-enough : 65536 ≤ length w → Alike w (flatten t s w out) (writeOut [] out (onProof forestFile t s))
   unfolding flatten writeIn
-  long-enough h = rw (le-ltb (length w) 524288 h) (alike w out (onProof forestFile t s))
+  long-enough h = rw (le-ltb (length w) 65536 h) (alike w out (onProof forestFile t s))

@@ -30,8 +30,8 @@ use tables::fields::TableRead;
 use tables::table::read_table;
 use words::clear;
 
-// The size of the work space. The flattener uses its first 65,536 bytes.
-const WORK: usize = 524288;
+// The size of the work space that is named for this entry; all of it is used.
+const WORK: usize = 65536;
 
 // The flat file of an accepted proof. Its size is known from the counts, so 26 is decided before a byte is written.
 fn write_flat(

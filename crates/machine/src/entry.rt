@@ -16,7 +16,7 @@ use tables::table::read_table;
 use words::clear;
 
 // The size of the work space that is named for this entry; SPACE_END of it are used.
-const WORK: usize = 8388608;
+const WORK: usize = 1290752;
 
 // Both files, within the budget's limit, in a work space that is long enough.
 fn run_files(table: &[u8], job: &[u8], budget: usize, work: &mut [u8], out: &mut [u8]) -> Answer
