@@ -1,19 +1,15 @@
--- `calls::check_agrees` meets its contract: the answer is the definition's for the filled work space, and what is told is the same.
+-- `calls::check_agrees` meets its contract: the answer is the definition's for the filled spaces, and what is told is the same.
 -- Assumes nothing.
-use Prim.Native.Nat.{ℕ}
-use mathlib.Core.Path.{sym, ap, _∙_}
-use mathlib.Core.List.{List}
+use mathlib.Core.Path.{sym, _∙_}
 use Rattle.entries.specs.Check as entry
-use Rattle.replay.proofs.Agreeing.{never}
 use borrow.Author.Needs.{needs}
 use Rattle.replay.proofs.calls.check_agrees.Statement.{statement}
 use Rattle.replay.proofs.calls.check_agrees.Tie as tie
 use Rattle.replay.proofs.calls.check_agrees.Reads as reads
 use Rattle.replay.proofs.calls.check_agrees.Lts as lts
 use Rattle.checker.proofs.check.check.Reads as check-reads
-use Rattle.replay.proofs.calls.fill.Reads as fill-reads
-use Rattle.replay.proofs.calls.is_left.Reads as is-left-reads
-use Rattle.replay.proofs.calls.same_answer.Reads as same-answer-reads
+use Rattle.replay.proofs.calls.agrees.Reads as agrees-reads
+use Rattle.replay.proofs.lent.fill.Reads as fill-reads
 
 fill-requires : tie.Need-fill-requires
 fill-requires c κs = search needs
@@ -21,37 +17,19 @@ fill-requires c κs = search needs
 check-requires : tie.Need-check-requires
 check-requires c κs = search needs
 
-is-left-requires : tie.Need-is-left-requires
-is-left-requires c κs = search needs
+agrees-requires : tie.Need-agrees-requires
+agrees-requires c κs = search needs
 
 same-length : tie.Need-same-length
 same-length c = search needs
 
 returns : tie.Need-returns
-returns c e = never e
-
-same-answer-requires : tie.Need-same-answer-requires
-same-answer-requires c κs = search needs
-
-same-length-2 : tie.Need-same-length-2
-same-length-2 c = search needs
-
-returns-2 : tie.Need-returns-2
-returns-2 c e =
-    let a = c .before .before .before .before .before .before .before .before .before .before .before .before .before .before .before .args in
-    sym (c .same-answer .ensures e)
-    ∙ c .before .before .before .before .before .before .check .ensures .0
-    ∙ ap (λ (w : List ℕ). entry.check (a .table .now) (a .proof .now) w .answer) (c .before .before .before .before .before .before .before .before .before .before .fill .ensures)
+returns c e =
+    let a = c .before .before .before .before .before .before .before .before .before .before .before .before .before .args in
+    let w = c .before .before .before .before .before .before .before .before .fill .ensures in
+    sym (c .before .before .before .before .check .ensures .0 ∙ (λ i. entry.check (a .table .now) (a .proof .now) (w i) .answer))
+    ∙ c .agrees .ensures e
 
 pub check-agrees-spec : {M : Type 1} → statement M
 check-agrees-spec =
-    tie.close
-    (tie.spec
-    fill-requires
-    check-requires
-    is-left-requires
-    same-length
-    returns
-    same-answer-requires
-    same-length-2
-    returns-2)
+    tie.close (tie.spec fill-requires check-requires agrees-requires same-length returns)

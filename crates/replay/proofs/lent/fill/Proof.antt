@@ -1,4 +1,4 @@
--- `calls::fill` meets its contract: each turn of the loop sets one byte more.
+-- `lent::fill` meets its contract: each turn of the loop sets one byte more.
 -- Assumes nothing.
 use Prim.Native.Nat.{ℕ, _+_, _≤_, _-_, _<_}
 use mathlib.Core.Path.{_≡_, refl, sym, ap, _∙_}
@@ -7,10 +7,10 @@ use lib.ListN.{length, replicate, drop, set, length-set, drop-of-length-le}
 use native.Mathlib.Omega.{arith}
 use borrow.Author.Needs.{needs}
 use borrow.Author.Fill.{fill-none, fill-more}
-use Rattle.replay.proofs.calls.fill.Statement.{statement}
-use Rattle.replay.proofs.calls.fill.Tie as tie
-use Rattle.replay.proofs.calls.fill.Reads as reads
-use Rattle.replay.proofs.calls.fill.Lts as lts
+use Rattle.replay.proofs.lent.fill.Statement.{statement}
+use Rattle.replay.proofs.lent.fill.Tie as tie
+use Rattle.replay.proofs.lent.fill.Reads as reads
+use Rattle.replay.proofs.lent.fill.Lts as lts
 
 filled : (d : List ℕ) (b i : ℕ) → i ≡ length d → replicate i b ++ drop i d ≡ replicate (length d) b
 filled d b i e =

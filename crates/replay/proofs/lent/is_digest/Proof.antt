@@ -1,14 +1,14 @@
--- `calls::is_digest` is safe: the digest so far is below the modulus.
+-- `lent::is_digest` is safe: the digest so far is below the modulus.
 -- Assumes nothing.
 use Prim.Native.Nat.{ℕ, _≤_, _<_, _-_}
 use native.Mathlib.Omega.{arith}
 use lib.ListN.{length}
 use borrow.Author.Needs.{needs}
-use Rattle.replay.proofs.calls.is_digest.Statement.{statement}
-use Rattle.replay.proofs.calls.is_digest.Tie as tie
-use Rattle.replay.proofs.calls.is_digest.Reads as reads
-use Rattle.replay.proofs.calls.is_digest.Lts as lts
-use Rattle.replay.proofs.calls.digest_with.Reads as digest-with-reads
+use Rattle.replay.proofs.lent.is_digest.Statement.{statement}
+use Rattle.replay.proofs.lent.is_digest.Tie as tie
+use Rattle.replay.proofs.lent.is_digest.Reads as reads
+use Rattle.replay.proofs.lent.is_digest.Lts as lts
+use Rattle.replay.proofs.lent.digest_with.Reads as digest-with-reads
 
 abbrev Inv-loop : tie.InvT-loop
 Inv-loop out told d₀ i₀ d i = (i ≤ length out) × (d < 4294967291)

@@ -1,4 +1,4 @@
--- `calls::is_filled` meets its contract. The invariant: every byte passed is b.
+-- `lent::is_filled` meets its contract. The invariant: every byte passed is b.
 -- Assumes nothing.
 use Prim.Native.Nat.{ℕ, _≤_, _<_, _-_}
 use mathlib.Core.Path.{_≡_}
@@ -7,10 +7,10 @@ use lib.ListN.{length, getD}
 use borrow.Author.Needs.{needs}
 use borrow.Author.Count.{below-none, below-more}
 use Rattle.replay.proofs.Agreeing.{never}
-use Rattle.replay.proofs.calls.is_filled.Statement.{statement}
-use Rattle.replay.proofs.calls.is_filled.Tie as tie
-use Rattle.replay.proofs.calls.is_filled.Reads as reads
-use Rattle.replay.proofs.calls.is_filled.Lts as lts
+use Rattle.replay.proofs.lent.is_filled.Statement.{statement}
+use Rattle.replay.proofs.lent.is_filled.Tie as tie
+use Rattle.replay.proofs.lent.is_filled.Reads as reads
+use Rattle.replay.proofs.lent.is_filled.Lts as lts
 
 abbrev Inv-loop : tie.InvT-loop
 Inv-loop s b i₀ i = (i ≤ length s) × ((k : ℕ) → k < i → getD s k 0 ≡ b)
