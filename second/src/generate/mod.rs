@@ -9,6 +9,7 @@ pub mod case;
 pub mod damage;
 pub mod examples;
 pub mod limit_files;
+pub mod positions;
 pub mod random;
 pub mod random_file;
 pub mod random_table;

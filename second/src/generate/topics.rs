@@ -4,7 +4,7 @@ use super::build::*;
 use super::case::{Case, Entry};
 use super::random::Random;
 use super::random_table::{RandomTable, Size};
-use super::{damage, examples, limit_files, other_file, random_case_of, reading};
+use super::{damage, examples, limit_files, other_file, positions, random_case_of, reading};
 use crate::limits::MOST_BUDGET;
 
 /// File names in the folder crates/replay_vectors/data, with their cases.
@@ -218,6 +218,7 @@ fn run() -> Vec<Case> {
     cases.extend(refused_budgets(&first_job));
     cases.extend(examples::run_cases().iter().flat_map(with_output_lengths));
     cases.extend(examples::arity_cases());
+    cases.extend(positions::run_cases());
     cases.extend(runs_at_limits().iter().flat_map(with_output_lengths));
     cases.extend(random_cases(Entry::Run, 9, 450));
     cases
