@@ -1,0 +1,75 @@
+// The five entries as C functions: nothing but calls. include/hitac.h declares them for C.
+ghost use mathlib.Core.Path.{_≡_};
+ghost use Rattle.entries.specs.Check as proofs;
+ghost use Rattle.entries.specs.CheckFlat.{checkFlat, writeProof};
+ghost use Rattle.entries.specs.Run.{runTactic};
+use answers::Answer;
+use checker::check::check;
+use derivation::check::check_flat;
+use flattener::flatten::flatten;
+use machine::entry::run;
+use writer::entry::write_proof;
+
+// Whether the proof is accepted in the table.
+#[no_mangle]
+pub extern "C" fn hitac_check(table: &[u8], proof: &[u8], work: &mut [u8]) -> Answer
+    ensures answer { λ r. ⌜ r ≡ proofs.check (now (table .entry)) (now (proof .entry)) (now (work .entry)) .answer ⌝ }
+    ensures work { λ _. ⌜ now (work .exit) ≡ proofs.check (now (table .entry)) (now (proof .entry)) (now (work .entry)) .work ⌝ }
+{
+    check(table, proof, work)
+}
+
+// Runs the job's tactic in the table, within the budget: a proof file in the output space.
+#[no_mangle]
+pub extern "C" fn hitac_run(
+    table: &[u8],
+    job: &[u8],
+    budget: u32,
+    work: &mut [u8],
+    out: &mut [u8],
+) -> Answer
+    ensures answer { λ r. ⌜ r ≡ runTactic (now (table .entry)) (now (job .entry)) budget (now (work .entry)) (now (out .entry)) .answer ⌝ }
+    ensures work { λ _. ⌜ now (work .exit) ≡ runTactic (now (table .entry)) (now (job .entry)) budget (now (work .entry)) (now (out .entry)) .work ⌝ }
+    ensures out { λ _. ⌜ now (out .exit) ≡ runTactic (now (table .entry)) (now (job .entry)) budget (now (work .entry)) (now (out .entry)) .out ⌝ }
+{
+    run(table, job, budget, work, out)
+}
+
+// Flattens an accepted proof: a flat file in the output space.
+#[no_mangle]
+pub extern "C" fn hitac_flatten(
+    table: &[u8],
+    proof: &[u8],
+    work: &mut [u8],
+    out: &mut [u8],
+) -> Answer
+    ensures answer { λ r. ⌜ r ≡ proofs.flatten (now (table .entry)) (now (proof .entry)) (now (work .entry)) (now (out .entry)) .answer ⌝ }
+    ensures work { λ _. ⌜ now (work .exit) ≡ proofs.flatten (now (table .entry)) (now (proof .entry)) (now (work .entry)) (now (out .entry)) .work ⌝ }
+    ensures out { λ _. ⌜ now (out .exit) ≡ proofs.flatten (now (table .entry)) (now (proof .entry)) (now (work .entry)) (now (out .entry)) .out ⌝ }
+{
+    flatten(table, proof, work, out)
+}
+
+// Whether the flat derivation is right in the table.
+#[no_mangle]
+pub extern "C" fn hitac_check_flat(table: &[u8], flat: &[u8], work: &mut [u8]) -> Answer
+    ensures answer { λ r. ⌜ r ≡ checkFlat (now (table .entry)) (now (flat .entry)) (now (work .entry)) .answer ⌝ }
+    ensures work { λ _. ⌜ now (work .exit) ≡ checkFlat (now (table .entry)) (now (flat .entry)) (now (work .entry)) .work ⌝ }
+{
+    check_flat(table, flat, work)
+}
+
+// Writes a right derivation as a proof: a proof file in the output space.
+#[no_mangle]
+pub extern "C" fn hitac_write_proof(
+    table: &[u8],
+    flat: &[u8],
+    work: &mut [u8],
+    out: &mut [u8],
+) -> Answer
+    ensures answer { λ r. ⌜ r ≡ writeProof (now (table .entry)) (now (flat .entry)) (now (work .entry)) (now (out .entry)) .answer ⌝ }
+    ensures work { λ _. ⌜ now (work .exit) ≡ writeProof (now (table .entry)) (now (flat .entry)) (now (work .entry)) (now (out .entry)) .work ⌝ }
+    ensures out { λ _. ⌜ now (out .exit) ≡ writeProof (now (table .entry)) (now (flat .entry)) (now (work .entry)) (now (out .entry)) .out ⌝ }
+{
+    write_proof(table, flat, work, out)
+}

@@ -1,0 +1,119 @@
+/* The Hitac proof engine, for C99 and C++. docs/ENTRIES.md says what each call does, docs/FORMAT.md what the files hold. */
+#ifndef HITAC_H
+#define HITAC_H
+
+#include <stddef.h>
+#include <stdint.h>
+
+#ifdef __cplusplus
+extern "C" {
+#endif
+
+/* The answer of every call. A field that does not apply is 0. */
+struct hitac_answer {
+    uint32_t number;    /* 0 for success, else the number of the refusal */
+    uint32_t file;      /* where the refusal is: HITAC_TABLE, HITAC_OTHER_FILE or HITAC_NO_FILE */
+    uint32_t place;     /* byte offset in that file */
+    uint32_t steps;     /* terms begun by hitac_run */
+    uint32_t length;    /* bytes written at the start of the output space */
+    uint32_t fields;    /* term fields of a proof that hitac_check accepts */
+    uint32_t uses;      /* uses of rules, of hitac_check and hitac_check_flat */
+    uint32_t remaining; /* goals left open, of hitac_check and hitac_check_flat */
+};
+
+/*
+ * Every file and space is a pointer and its length in bytes. A pointer is never NULL, also where the length is 0.
+ * Files and spaces of one call do not overlap. Any bytes, lengths and budget get an answer. Nothing is allocated and
+ * nothing is kept between calls, so calls with spaces of their own may run at the same time.
+ * Work space that is long enough is all zero afterwards. A refusal leaves the output space untouched; a success
+ * leaves the bytes behind its result untouched.
+ */
+
+/* Whether the proof is accepted in the table; answers number, fields, uses and remaining. */
+struct hitac_answer hitac_check(const uint8_t *table, size_t table_length,
+                                const uint8_t *proof, size_t proof_length,
+                                uint8_t *work, size_t work_length);
+
+/* Runs the tactic of the job in at most budget steps; writes a proof file. */
+struct hitac_answer hitac_run(const uint8_t *table, size_t table_length,
+                              const uint8_t *job, size_t job_length,
+                              uint32_t budget,
+                              uint8_t *work, size_t work_length,
+                              uint8_t *out, size_t out_length);
+
+/* Flattens an accepted proof; writes a flat file. */
+struct hitac_answer hitac_flatten(const uint8_t *table, size_t table_length,
+                                  const uint8_t *proof, size_t proof_length,
+                                  uint8_t *work, size_t work_length,
+                                  uint8_t *out, size_t out_length);
+
+/* Whether the flat derivation is right in the table; answers number, uses and remaining. */
+struct hitac_answer hitac_check_flat(const uint8_t *table, size_t table_length,
+                                     const uint8_t *flat, size_t flat_length,
+                                     uint8_t *work, size_t work_length);
+
+/* Writes a right flat derivation back as a proof file. */
+struct hitac_answer hitac_write_proof(const uint8_t *table, size_t table_length,
+                                      const uint8_t *flat, size_t flat_length,
+                                      uint8_t *work, size_t work_length,
+                                      uint8_t *out, size_t out_length);
+
+/* Work space that each call needs, in bytes. */
+#define HITAC_CHECK_WORK 65536       /* hitac_check */
+#define HITAC_RUN_WORK 1290752       /* hitac_run */
+#define HITAC_FLATTEN_WORK 65536     /* hitac_flatten */
+#define HITAC_CHECK_FLAT_WORK 65536  /* hitac_check_flat */
+#define HITAC_WRITE_PROOF_WORK 65536 /* hitac_write_proof */
+
+/* Output space that is always long enough, in bytes. */
+#define HITAC_LONGEST_PROOF 21510 /* hitac_run and hitac_write_proof */
+#define HITAC_LONGEST_FLAT 16131  /* hitac_flatten */
+
+/* Limits. */
+#define HITAC_LONGEST_FILE 65535   /* bytes in a file */
+#define HITAC_MOST_STEPS 4096      /* largest budget of hitac_run */
+#define HITAC_MOST_RULES 4096      /* rules in a table */
+#define HITAC_MOST_PREMISES 8      /* premises of a rule */
+#define HITAC_MOST_DEFINITIONS 256 /* definitions in a table */
+#define HITAC_MOST_TERM_FIELDS 4096 /* term fields in a file */
+#define HITAC_MOST_GOALS 256       /* goals in a goal list, and in a list that a tensor joins */
+#define HITAC_MOST_USES 4096       /* uses in a flat file */
+#define HITAC_MOST_OPENS 256       /* opens in a flat file */
+#define HITAC_MOST_ENTRIES 2048    /* uses and opens of a flat file that hitac_write_proof takes */
+
+/* The field file of an answer. */
+#define HITAC_NO_FILE 0    /* the refusal is in neither file */
+#define HITAC_TABLE 1      /* in the table */
+#define HITAC_OTHER_FILE 2 /* in the proof, job or flat file */
+
+/* The field number of an answer. */
+#define HITAC_SUCCESS 0 /* the result is there */
+
+/* Refusals while a file is read. */
+#define HITAC_INPUT_TOO_LONG 1    /* the file has more than 65,535 bytes */
+#define HITAC_FIELD_TORN 2        /* a field is cut off, or its contents reach past what encloses it */
+#define HITAC_TAG_NOT_ALLOWED 3   /* the tag may not stand there */
+#define HITAC_LENGTH_WRONG 4      /* the length is wrong for the tag, or bytes are left over */
+#define HITAC_LIMIT_PASSED 5      /* one field more than a limit allows, or over 256 goals in a list */
+#define HITAC_RULE_REPEATED 6     /* a rule has the name and goal of an earlier rule */
+#define HITAC_PREMISE_COUNT_DIFFERS 7 /* a rule has the name of an earlier rule and another number of premises */
+#define HITAC_TACTIC_REDEFINED 8  /* a tactic number is defined a second time */
+#define HITAC_LABEL_REPEATED 9    /* a label stands a second time in the definitions of the table */
+
+/* Refusals of what the files say, and of what was lent. */
+#define HITAC_NOT_VALID 20           /* a term of the hiproof cannot take its goals */
+#define HITAC_REMAINING_DIFFER 21    /* the hiproof gives other goals than those stated as remaining */
+#define HITAC_JOINED_TOO_LONG 22     /* a tensor joins more than 256 goals */
+#define HITAC_TACTIC_FAILED 23       /* the tactic failed */
+#define HITAC_BUDGET_SPENT 24        /* a term was to begin when the budget was used up */
+#define HITAC_BUDGET_TOO_LARGE 25    /* the budget is over 4,096 */
+#define HITAC_OUTPUT_TOO_SHORT 26    /* the output space is shorter than the result */
+#define HITAC_FLAT_WRONG 27          /* an entry of the flat file does not apply, or goals are pending at its end */
+#define HITAC_ENTRIES_TOO_MANY 28    /* the flat file has more than 2,048 entries and cannot be written as a proof */
+#define HITAC_WORK_TOO_SHORT 29      /* the work space is shorter than the size named for the call */
+
+#ifdef __cplusplus
+}
+#endif
+
+#endif
