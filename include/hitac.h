@@ -59,27 +59,27 @@ struct hitac_answer hitac_write_proof(const uint8_t *table, size_t table_length,
                                       uint8_t *out, size_t out_length);
 
 /* Work space that each call needs, in bytes. */
-#define HITAC_CHECK_WORK 65536       /* hitac_check */
-#define HITAC_RUN_WORK 1290752       /* hitac_run */
-#define HITAC_FLATTEN_WORK 65536     /* hitac_flatten */
-#define HITAC_CHECK_FLAT_WORK 65536  /* hitac_check_flat */
-#define HITAC_WRITE_PROOF_WORK 65536 /* hitac_write_proof */
+#define HITAC_CHECK_WORK 65536       /* for hitac_check */
+#define HITAC_RUN_WORK 1290752       /* for hitac_run */
+#define HITAC_FLATTEN_WORK 65536     /* for hitac_flatten */
+#define HITAC_CHECK_FLAT_WORK 65536  /* for hitac_check_flat */
+#define HITAC_WRITE_PROOF_WORK 65536 /* for hitac_write_proof */
 
 /* Output space that is always long enough, in bytes. */
-#define HITAC_LONGEST_PROOF 21510 /* hitac_run and hitac_write_proof */
-#define HITAC_LONGEST_FLAT 16131  /* hitac_flatten */
+#define HITAC_LONGEST_PROOF 21510 /* for hitac_run and hitac_write_proof: no proof file is longer */
+#define HITAC_LONGEST_FLAT 16131  /* for hitac_flatten: no flat form of an accepted proof is longer */
 
 /* Limits. */
-#define HITAC_LONGEST_FILE 65535   /* bytes in a file */
-#define HITAC_MOST_STEPS 4096      /* largest budget of hitac_run */
-#define HITAC_MOST_RULES 4096      /* rules in a table */
-#define HITAC_MOST_PREMISES 8      /* premises of a rule */
-#define HITAC_MOST_DEFINITIONS 256 /* definitions in a table */
+#define HITAC_LONGEST_FILE 65535    /* bytes in a file */
+#define HITAC_MOST_STEPS 4096       /* largest budget of hitac_run */
+#define HITAC_MOST_RULES 4096       /* rules in a table */
+#define HITAC_MOST_PREMISES 8       /* premises of a rule */
+#define HITAC_MOST_DEFINITIONS 256  /* definitions in a table */
 #define HITAC_MOST_TERM_FIELDS 4096 /* term fields in a file */
-#define HITAC_MOST_GOALS 256       /* goals in a goal list, and in a list that a tensor joins */
-#define HITAC_MOST_USES 4096       /* uses in a flat file */
-#define HITAC_MOST_OPENS 256       /* opens in a flat file */
-#define HITAC_MOST_ENTRIES 2048    /* uses and opens of a flat file that hitac_write_proof takes */
+#define HITAC_MOST_GOALS 256        /* goals in a goal list, and in a list that a tensor joins */
+#define HITAC_MOST_USES 4096        /* uses in a flat file */
+#define HITAC_MOST_OPENS 256        /* opens in a flat file */
+#define HITAC_MOST_ENTRIES 2048     /* uses and opens of a flat file that hitac_write_proof takes */
 
 /* The field file of an answer. */
 #define HITAC_NO_FILE 0    /* the refusal is in neither file */
@@ -90,27 +90,27 @@ struct hitac_answer hitac_write_proof(const uint8_t *table, size_t table_length,
 #define HITAC_SUCCESS 0 /* the result is there */
 
 /* Refusals while a file is read. */
-#define HITAC_INPUT_TOO_LONG 1    /* the file has more than 65,535 bytes */
-#define HITAC_FIELD_TORN 2        /* a field is cut off, or its contents reach past what encloses it */
-#define HITAC_TAG_NOT_ALLOWED 3   /* the tag may not stand there */
-#define HITAC_LENGTH_WRONG 4      /* the length is wrong for the tag, or bytes are left over */
-#define HITAC_LIMIT_PASSED 5      /* one field more than a limit allows, or over 256 goals in a list */
-#define HITAC_RULE_REPEATED 6     /* a rule has the name and goal of an earlier rule */
+#define HITAC_INPUT_TOO_LONG 1        /* the file has more than 65,535 bytes */
+#define HITAC_FIELD_TORN 2            /* a field is cut off, or its contents reach past what encloses it */
+#define HITAC_TAG_NOT_ALLOWED 3       /* the tag may not stand there */
+#define HITAC_LENGTH_WRONG 4          /* the length is wrong for the tag, or bytes are left over */
+#define HITAC_LIMIT_PASSED 5          /* one field more than a limit allows, or over 256 goals in a list */
+#define HITAC_RULE_REPEATED 6         /* a rule has the name and goal of an earlier rule */
 #define HITAC_PREMISE_COUNT_DIFFERS 7 /* a rule has the name of an earlier rule and another number of premises */
-#define HITAC_TACTIC_REDEFINED 8  /* a tactic number is defined a second time */
-#define HITAC_LABEL_REPEATED 9    /* a label stands a second time in the definitions of the table */
+#define HITAC_TACTIC_REDEFINED 8      /* a tactic number is defined a second time */
+#define HITAC_LABEL_REPEATED 9        /* a label stands a second time in the definitions of the table */
 
 /* Refusals of what the files say, and of what was lent. */
-#define HITAC_NOT_VALID 20           /* a term of the hiproof cannot take its goals */
-#define HITAC_REMAINING_DIFFER 21    /* the hiproof gives other goals than those stated as remaining */
-#define HITAC_JOINED_TOO_LONG 22     /* a tensor joins more than 256 goals */
-#define HITAC_TACTIC_FAILED 23       /* the tactic failed */
-#define HITAC_BUDGET_SPENT 24        /* a term was to begin when the budget was used up */
-#define HITAC_BUDGET_TOO_LARGE 25    /* the budget is over 4,096 */
-#define HITAC_OUTPUT_TOO_SHORT 26    /* the output space is shorter than the result */
-#define HITAC_FLAT_WRONG 27          /* an entry of the flat file does not apply, or goals are pending at its end */
-#define HITAC_ENTRIES_TOO_MANY 28    /* the flat file has more than 2,048 entries and cannot be written as a proof */
-#define HITAC_WORK_TOO_SHORT 29      /* the work space is shorter than the size named for the call */
+#define HITAC_NOT_VALID 20        /* a term of the hiproof cannot take its goals */
+#define HITAC_REMAINING_DIFFER 21 /* the hiproof gives other goals than those stated as remaining */
+#define HITAC_JOINED_TOO_LONG 22  /* a tensor joins more than 256 goals */
+#define HITAC_TACTIC_FAILED 23    /* the tactic failed */
+#define HITAC_BUDGET_SPENT 24     /* a term was to begin when the budget was used up */
+#define HITAC_BUDGET_TOO_LARGE 25 /* the budget is over 4,096 */
+#define HITAC_OUTPUT_TOO_SHORT 26 /* the output space is shorter than the result */
+#define HITAC_FLAT_WRONG 27       /* an entry of the flat file does not apply, or goals are pending at its end */
+#define HITAC_ENTRIES_TOO_MANY 28 /* the flat file has more than 2,048 entries and cannot be written as a proof */
+#define HITAC_WORK_TOO_SHORT 29   /* the work space is shorter than the size named for the call */
 
 #ifdef __cplusplus
 }

@@ -1,0 +1,39 @@
+"""Checks a proof, runs a tactic, flattens a proof, checks the derivation and writes it back, on the files of a folder."""
+import pathlib
+import sys
+
+import hitac
+
+
+def listed(data):
+    """The length of a file, and its bytes on the next line."""
+    return f"bytes {len(data)}\n{data.hex(' ')}"
+
+
+def run(engine, table, job, budget):
+    """One run as text, refused or not."""
+    try:
+        ran = engine.run(table, job, budget)
+    except hitac.Refusal as refusal:
+        return str(refusal)
+    return f"steps {ran.steps} {listed(ran.proof)}"
+
+
+def main():
+    folder = pathlib.Path(sys.argv[1] if len(sys.argv) > 1 else "examples/files")
+    table, proof, job = ((folder / name).read_bytes() for name in ("table.kit", "proof.hip", "job.tac"))
+    engine = hitac.Engine()
+
+    accepted = engine.check(table, proof)
+    print(f"check: accepted fields {accepted.fields} uses {accepted.uses} open {accepted.open}")
+    print(f"run: {run(engine, table, job, 4096)}")
+    print(f"run: {run(engine, table, job, 18)}")
+    flat = engine.flatten(table, proof)
+    print(f"flatten: {listed(flat)}")
+    right = engine.check_flat(table, flat)
+    print(f"check_flat: right uses {right.uses} open {right.open}")
+    print(f"write_proof: {listed(engine.write_proof(table, flat))}")
+
+
+if __name__ == "__main__":
+    main()

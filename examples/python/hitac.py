@@ -1,0 +1,157 @@
+"""The Hitac proof engine for Python, through ctypes. Works on bytes; a refused call raises Refusal.
+
+The shared library is the file that the environment variable HITAC_LIBRARY names, or target/library/libhitac.so of
+this repository.
+"""
+import ctypes
+import enum
+import os
+import pathlib
+from typing import NamedTuple
+
+CHECK_WORK = 65536
+RUN_WORK = 1290752
+FLATTEN_WORK = 65536
+CHECK_FLAT_WORK = 65536
+WRITE_PROOF_WORK = 65536
+
+LONGEST_PROOF = 21510
+LONGEST_FLAT = 16131
+
+
+class Cause(enum.IntEnum):
+    """Why a call was refused, with the numbers of docs/FORMAT.md."""
+
+    INPUT_TOO_LONG = 1
+    FIELD_TORN = 2
+    TAG_NOT_ALLOWED = 3
+    LENGTH_WRONG = 4
+    LIMIT_PASSED = 5
+    RULE_REPEATED = 6
+    PREMISE_COUNT_DIFFERS = 7
+    TACTIC_REDEFINED = 8
+    LABEL_REPEATED = 9
+    NOT_VALID = 20
+    REMAINING_DIFFER = 21
+    JOINED_TOO_LONG = 22
+    TACTIC_FAILED = 23
+    BUDGET_SPENT = 24
+    BUDGET_TOO_LARGE = 25
+    OUTPUT_TOO_SHORT = 26
+    FLAT_WRONG = 27
+    ENTRIES_TOO_MANY = 28
+    WORK_TOO_SHORT = 29
+
+
+class Refusal(Exception):
+    """A refused call: its cause, the file (1 the table, 2 the other, 0 neither), the byte offset in it, the steps."""
+
+    def __init__(self, answer):
+        self.cause = Cause(answer.number)
+        self.file = answer.file
+        self.place = answer.place
+        self.steps = answer.steps
+        super().__init__(f"refused {int(self.cause)} file {self.file} place {self.place} steps {self.steps}")
+
+
+class Accepted(NamedTuple):
+    """What is counted in an accepted proof."""
+
+    fields: int
+    uses: int
+    open: int
+
+
+class Right(NamedTuple):
+    """What is counted in a right derivation."""
+
+    uses: int
+    open: int
+
+
+class Ran(NamedTuple):
+    """The proof file that a run gives, and the terms that it began."""
+
+    proof: bytes
+    steps: int
+
+
+class _Answer(ctypes.Structure):
+    _fields_ = [
+        (name, ctypes.c_uint32)
+        for name in ("number", "file", "place", "steps", "length", "fields", "uses", "remaining")
+    ]
+
+
+_FILE = [ctypes.c_char_p, ctypes.c_size_t]
+_SPACE = [ctypes.POINTER(ctypes.c_char), ctypes.c_size_t]
+_CALLS = {
+    "hitac_check": _FILE + _FILE + _SPACE,
+    "hitac_run": _FILE + _FILE + [ctypes.c_uint32] + _SPACE + _SPACE,
+    "hitac_flatten": _FILE + _FILE + _SPACE + _SPACE,
+    "hitac_check_flat": _FILE + _FILE + _SPACE,
+    "hitac_write_proof": _FILE + _FILE + _SPACE + _SPACE,
+}
+
+
+def _load():
+    built = pathlib.Path(__file__).resolve().parents[2] / "target" / "library" / "libhitac.so"
+    library = ctypes.CDLL(os.environ.get("HITAC_LIBRARY", str(built)))
+    for name, arguments in _CALLS.items():
+        call = getattr(library, name)
+        call.argtypes = arguments
+        call.restype = _Answer
+    return library
+
+
+class Engine:
+    """The library, with the space that is lent to its calls. Not for two threads at the same time."""
+
+    def __init__(self):
+        self._library = _load()
+        self._work = ctypes.create_string_buffer(RUN_WORK)
+        self._out = ctypes.create_string_buffer(max(LONGEST_PROOF, LONGEST_FLAT))
+
+    def check(self, table, proof):
+        """Whether the proof is accepted in the table."""
+        answer = self._checks("hitac_check", CHECK_WORK, table, proof)
+        return Accepted(answer.fields, answer.uses, answer.remaining)
+
+    def run(self, table, job, budget):
+        """Runs the tactic of the job in at most so many steps, of which 4,096 are the most."""
+        if not 0 <= budget <= 0xFFFFFFFF:
+            raise ValueError("a budget is a number of 32 bits")
+        answer = self._writes("hitac_run", RUN_WORK, table, job, budget)
+        return Ran(self._result(answer), answer.steps)
+
+    def flatten(self, table, proof):
+        """The flat file of an accepted proof."""
+        return self._result(self._writes("hitac_flatten", FLATTEN_WORK, table, proof))
+
+    def check_flat(self, table, flat):
+        """Whether the flat derivation is right in the table."""
+        answer = self._checks("hitac_check_flat", CHECK_FLAT_WORK, table, flat)
+        return Right(answer.uses, answer.remaining)
+
+    def write_proof(self, table, flat):
+        """The proof file of a right derivation."""
+        return self._result(self._writes("hitac_write_proof", WRITE_PROOF_WORK, table, flat))
+
+    # A call is lent no more work space than it needs, because it clears all that it was lent.
+    def _checks(self, name, size, table, other):
+        call = getattr(self._library, name)
+        return _succeeded(call(table, len(table), other, len(other), self._work, size))
+
+    def _writes(self, name, size, table, other, *budget):
+        call = getattr(self._library, name)
+        spaces = (self._work, size, self._out, len(self._out))
+        return _succeeded(call(table, len(table), other, len(other), *budget, *spaces))
+
+    def _result(self, answer):
+        return self._out[: answer.length]
+
+
+def _succeeded(answer):
+    if answer.number != 0:
+        raise Refusal(answer)
+    return answer

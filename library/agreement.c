@@ -1,0 +1,445 @@
+/* Checks that include/hitac.h and the library agree: the answer's layout, the sizes, every refusal number and every limit. C99 and C++. */
+#include <stdio.h>
+#include <string.h>
+
+#include "hitac.h"
+
+#define ROOM 70000
+#define POISON 0xa5
+
+/* A file that is being put together. */
+struct bytes {
+    uint8_t at[ROOM];
+    size_t length;
+};
+
+static struct bytes table, other;
+static uint8_t work[HITAC_RUN_WORK], out[HITAC_LONGEST_FILE];
+static unsigned tests, failures;
+
+static void expect(const char *what, int holds)
+{
+    tests++;
+    if (!holds) {
+        failures++;
+        printf("agreement: WRONG: %s\n", what);
+    }
+}
+
+/* The five calls in one form, so that a case is one line. */
+enum call { CHECK, RUN, FLATTEN, CHECK_FLAT, WRITE_PROOF };
+
+static struct hitac_answer answer_in(enum call call, size_t work_length, size_t out_length, uint32_t budget)
+{
+    switch (call) {
+    case CHECK:
+        return hitac_check(table.at, table.length, other.at, other.length, work, work_length);
+    case RUN:
+        return hitac_run(table.at, table.length, other.at, other.length, budget, work, work_length, out, out_length);
+    case FLATTEN:
+        return hitac_flatten(table.at, table.length, other.at, other.length, work, work_length, out, out_length);
+    case CHECK_FLAT:
+        return hitac_check_flat(table.at, table.length, other.at, other.length, work, work_length);
+    default:
+        return hitac_write_proof(table.at, table.length, other.at, other.length, work, work_length, out, out_length);
+    }
+}
+
+static size_t work_of(enum call call)
+{
+    switch (call) {
+    case CHECK:
+        return HITAC_CHECK_WORK;
+    case RUN:
+        return HITAC_RUN_WORK;
+    case FLATTEN:
+        return HITAC_FLATTEN_WORK;
+    case CHECK_FLAT:
+        return HITAC_CHECK_FLAT_WORK;
+    default:
+        return HITAC_WRITE_PROOF_WORK;
+    }
+}
+
+static struct hitac_answer answer(enum call call)
+{
+    return answer_in(call, work_of(call), sizeof out, HITAC_MOST_STEPS);
+}
+
+static int all(const uint8_t *bytes, size_t length, uint8_t value)
+{
+    for (size_t i = 0; i < length; i++)
+        if (bytes[i] != value)
+            return 0;
+    return 1;
+}
+
+static void is(const char *what, struct hitac_answer got, uint32_t number, uint32_t file, uint32_t place)
+{
+    expect(what, got.number == number && got.file == file && got.place == place);
+}
+
+/* Putting files together. */
+
+static void put(struct bytes *file, uint8_t byte)
+{
+    file->at[file->length++] = byte;
+}
+
+static void put16(struct bytes *file, size_t value)
+{
+    put(file, (uint8_t)(value / 256));
+    put(file, (uint8_t)(value % 256));
+}
+
+static void header(struct bytes *file, uint8_t tag, size_t length)
+{
+    put(file, tag);
+    put16(file, length);
+}
+
+/* A field whose contents are so many values, all alike: atomic, id, assert, a goal list, .. */
+static void field(struct bytes *file, uint8_t tag, size_t values, size_t value)
+{
+    header(file, tag, 2 * values);
+    while (values-- > 0)
+        put16(file, value);
+}
+
+static void rule(struct bytes *file, size_t name, size_t goal, size_t premises, size_t premise)
+{
+    header(file, 1, 4 + 2 * premises);
+    put16(file, name);
+    put16(file, goal);
+    while (premises-- > 0)
+        put16(file, premise);
+}
+
+/* A definition whose body is id. */
+static void definition(struct bytes *file, size_t tactic)
+{
+    header(file, 2, 5);
+    put16(file, tactic);
+    field(file, 17, 0, 0);
+}
+
+static void entry(struct bytes *file, size_t name, size_t goal)
+{
+    header(file, 32, 4);
+    put16(file, name);
+    put16(file, goal);
+}
+
+/* A term of so many fields, label in label, around id. */
+static void labels(struct bytes *file, size_t fields)
+{
+    for (size_t i = 1; i < fields; i++) {
+        header(file, 18, 2 + 5 * (fields - i - 1) + 3);
+        put16(file, i);
+    }
+    field(file, 17, 0, 0);
+}
+
+/* A term of so many atomics side by side. */
+static void side_by_side(struct bytes *file, size_t atomics, size_t name)
+{
+    for (size_t i = 1; i < atomics; i++) {
+        header(file, 20, 5 + 8 * (atomics - i - 1) + 5);
+        field(file, 16, 1, name);
+    }
+    field(file, 16, 1, name);
+}
+
+/* A term of rows, one on what the other gave, each of so many atomics side by side. */
+static void rows_of(struct bytes *file, size_t rows, size_t atomics, size_t name)
+{
+    size_t row = 8 * atomics - 3;
+    for (size_t i = 1; i < rows; i++) {
+        header(file, 19, row + (3 + row) * (rows - i - 1) + row);
+        side_by_side(file, atomics, name);
+    }
+    side_by_side(file, atomics, name);
+}
+
+/* Rule 1 on 10 gives 20, 20; rule 2 on 20 gives none. */
+static void small_table(void)
+{
+    table.length = 0;
+    rule(&table, 1, 10, 2, 20);
+    rule(&table, 2, 20, 0, 0);
+}
+
+/* A proof file: so many goals, an atomic, and so many goals remaining. */
+static void small_proof(size_t goals, size_t goal, size_t name, size_t remaining)
+{
+    other.length = 0;
+    field(&other, 3, goals, goal);
+    field(&other, 16, 1, name);
+    field(&other, 3, remaining, 20);
+}
+
+/* The file that a call takes beside the table, for a success. */
+static void good_files(enum call call)
+{
+    small_table();
+    small_proof(1, 10, 1, 2);
+    if (call == RUN)
+        other.length = 10;
+    if (call == CHECK_FLAT || call == WRITE_PROOF) {
+        other.length = 5;
+        entry(&other, 1, 10);
+        entry(&other, 2, 20);
+        entry(&other, 2, 20);
+    }
+}
+
+static int writes(enum call call)
+{
+    return call == RUN || call == FLATTEN || call == WRITE_PROOF;
+}
+
+/* One byte too few of work space, and just enough; the same of output space. */
+static void spaces(enum call call)
+{
+    size_t size = work_of(call);
+    good_files(call);
+    memset(work, POISON, size);
+    memset(out, POISON, sizeof out);
+    is("29 of a byte too few", answer_in(call, size - 1, sizeof out, 9), HITAC_WORK_TOO_SHORT, HITAC_NO_FILE, 0);
+    expect("29 leaves the work space", all(work, size, POISON));
+    struct hitac_answer got = answer_in(call, size, sizeof out, 9);
+    is("success with the named size", got, HITAC_SUCCESS, HITAC_NO_FILE, 0);
+    expect("the work space is cleared", all(work, size, 0));
+    expect("bytes behind the result", all(out + got.length, sizeof out - got.length, POISON));
+    if (!writes(call))
+        return;
+    memset(out, POISON, sizeof out);
+    is("room to the byte", answer_in(call, size, got.length, 9), HITAC_SUCCESS, HITAC_NO_FILE, 0);
+    memset(out, POISON, sizeof out);
+    is("26", answer_in(call, size, got.length - 1, 9), HITAC_OUTPUT_TOO_SHORT, HITAC_NO_FILE, 0);
+    expect("26 leaves the output space", all(out, sizeof out, POISON));
+}
+
+static void layout(void)
+{
+    struct hitac_answer fields;
+    expect("the answer has 32 bytes", sizeof fields == 32);
+    expect("file", offsetof(struct hitac_answer, file) == 4);
+    expect("place", offsetof(struct hitac_answer, place) == 8);
+    expect("steps", offsetof(struct hitac_answer, steps) == 12);
+    expect("length", offsetof(struct hitac_answer, length) == 16);
+    expect("fields", offsetof(struct hitac_answer, fields) == 20);
+    expect("uses", offsetof(struct hitac_answer, uses) == 24);
+    expect("remaining", offsetof(struct hitac_answer, remaining) == 28);
+}
+
+/* The counts of an answer stand where the header says. */
+static void counts(void)
+{
+    small_table();
+    other.length = 0;
+    field(&other, 3, 2, 10);
+    side_by_side(&other, 2, 1);
+    field(&other, 3, 4, 20);
+    struct hitac_answer got = answer(CHECK);
+    expect("counts of check", got.fields == 3 && got.uses == 2 && got.remaining == 4);
+    good_files(CHECK_FLAT);
+    got = answer(CHECK_FLAT);
+    expect("counts of check_flat", got.fields == 0 && got.uses == 3 && got.remaining == 0);
+    good_files(RUN);
+    got = answer(RUN);
+    expect("steps and length of run", got.steps == 1 && got.length == 17 && got.uses == 0);
+}
+
+/* The refusals of a file that does not read, 1 to 5, in the other file. */
+static void refusals_of_reading(void)
+{
+    small_table();
+    other.length = HITAC_LONGEST_FILE + 1;
+    memset(other.at, 0, other.length);
+    is("1", answer(CHECK), HITAC_INPUT_TOO_LONG, HITAC_OTHER_FILE, 0);
+    other.length = HITAC_LONGEST_FILE;
+    is("3 at the longest file", answer(CHECK), HITAC_TAG_NOT_ALLOWED, HITAC_OTHER_FILE, 0);
+    other.length = 2;
+    is("2", answer(CHECK), HITAC_FIELD_TORN, HITAC_OTHER_FILE, 0);
+    small_proof(1, 10, 1, 2);
+    other.length--;
+    is("2 in the last field", answer(CHECK), HITAC_FIELD_TORN, HITAC_OTHER_FILE, 10);
+    small_proof(1, 10, 1, 2);
+    put(&other, 0);
+    is("4", answer(CHECK), HITAC_LENGTH_WRONG, HITAC_OTHER_FILE, 17);
+    table.length = 0;
+    small_proof(HITAC_MOST_GOALS + 1, 10, 1, 0);
+    is("5", answer(CHECK), HITAC_LIMIT_PASSED, HITAC_OTHER_FILE, 0);
+}
+
+/* 6 to 9, in the table. */
+static void refusals_of_tables(void)
+{
+    small_table();
+    rule(&table, 2, 20, 1, 20);
+    is("6", answer(CHECK), HITAC_RULE_REPEATED, HITAC_TABLE, 18);
+    small_table();
+    rule(&table, 2, 21, 1, 20);
+    is("7", answer(CHECK), HITAC_PREMISE_COUNT_DIFFERS, HITAC_TABLE, 18);
+    small_table();
+    definition(&table, 7);
+    definition(&table, 7);
+    is("8", answer(CHECK), HITAC_TACTIC_REDEFINED, HITAC_TABLE, 26);
+    table.length = 0;
+    for (size_t tactic = 1; tactic <= 2; tactic++) {
+        header(&table, 2, 10);
+        put16(&table, tactic);
+        labels(&table, 2);
+    }
+    is("9", answer(CHECK), HITAC_LABEL_REPEATED, HITAC_TABLE, 18);
+}
+
+/* 20 to 28, but for 26. */
+static void refusals_of_meaning(void)
+{
+    small_table();
+    small_proof(1, 10, 2, 0);
+    is("20", answer(CHECK), HITAC_NOT_VALID, HITAC_OTHER_FILE, 5);
+    is("20 when flattening", answer(FLATTEN), HITAC_NOT_VALID, HITAC_OTHER_FILE, 5);
+    small_proof(1, 10, 1, 1);
+    is("21", answer(CHECK), HITAC_REMAINING_DIFFER, HITAC_OTHER_FILE, 10);
+    good_files(RUN);
+    is("24", answer_in(RUN, HITAC_RUN_WORK, sizeof out, 0), HITAC_BUDGET_SPENT, HITAC_NO_FILE, 0);
+    is("25", answer_in(RUN, HITAC_RUN_WORK, sizeof out, HITAC_MOST_STEPS + 1), HITAC_BUDGET_TOO_LARGE, HITAC_NO_FILE, 0);
+    other.at[9] = 2;
+    is("23", answer(RUN), HITAC_TACTIC_FAILED, HITAC_NO_FILE, 0);
+    good_files(CHECK_FLAT);
+    other.length -= 7;
+    is("27 with a goal pending", answer(CHECK_FLAT), HITAC_FLAT_WRONG, HITAC_OTHER_FILE, 19);
+    entry(&other, 1, 20);
+    is("27", answer(CHECK_FLAT), HITAC_FLAT_WRONG, HITAC_OTHER_FILE, 19);
+}
+
+/* Rule 4 on 40 gives eight times 40: 32 of it side by side give 256 goals, 33 give 264. */
+static void joined_lists(void)
+{
+    table.length = 0;
+    rule(&table, 4, 40, HITAC_MOST_PREMISES, 40);
+    for (size_t atomics = 32; atomics <= 33; atomics++) {
+        other.length = 0;
+        field(&other, 3, atomics, 40);
+        side_by_side(&other, atomics, 4);
+        size_t place = 3 + 2 * atomics;
+        if (atomics == 33)
+            is("22 in a run", answer(RUN), HITAC_JOINED_TOO_LONG, HITAC_NO_FILE, 0);
+        field(&other, 3, 8 * 32, 40);
+        if (atomics == 32)
+            is("256 goals joined", answer(CHECK), HITAC_SUCCESS, HITAC_NO_FILE, 0);
+        else
+            is("22", answer(CHECK), HITAC_JOINED_TOO_LONG, HITAC_OTHER_FILE, (uint32_t)place);
+    }
+}
+
+/* As many rules as a table may have, and one more; the same of premises and definitions. */
+static void limits_of_tables(void)
+{
+    small_proof(1, 1, 1, 0);
+    table.length = 0;
+    for (size_t goal = 0; goal < HITAC_MOST_RULES; goal++)
+        rule(&table, 1, goal, 0, 0);
+    is("the most rules", answer(CHECK), HITAC_SUCCESS, HITAC_NO_FILE, 0);
+    rule(&table, 1, HITAC_MOST_RULES, 0, 0);
+    is("a rule more", answer(CHECK), HITAC_LIMIT_PASSED, HITAC_TABLE, 7 * HITAC_MOST_RULES);
+    table.length = 0;
+    rule(&table, 1, 2, HITAC_MOST_PREMISES + 1, 3);
+    is("a premise more", answer(CHECK), HITAC_LENGTH_WRONG, HITAC_TABLE, 0);
+    table.length = 0;
+    rule(&table, 1, 1, 0, 0);
+    for (size_t tactic = 0; tactic < HITAC_MOST_DEFINITIONS; tactic++)
+        definition(&table, tactic);
+    is("the most definitions", answer(CHECK), HITAC_SUCCESS, HITAC_NO_FILE, 0);
+    definition(&table, HITAC_MOST_DEFINITIONS);
+    is("a definition more", answer(CHECK), HITAC_LIMIT_PASSED, HITAC_TABLE, 7 + 8 * HITAC_MOST_DEFINITIONS);
+}
+
+/* The most term fields, and one more. */
+static void limits_of_terms(void)
+{
+    table.length = 0;
+    for (size_t more = 0; more <= 1; more++) {
+        other.length = 0;
+        field(&other, 3, 1, 10);
+        labels(&other, HITAC_MOST_TERM_FIELDS + more);
+        field(&other, 3, 1, 10);
+        size_t innermost = 5 + 5 * HITAC_MOST_TERM_FIELDS;
+        if (more == 0)
+            is("the most term fields", answer(CHECK), HITAC_SUCCESS, HITAC_NO_FILE, 0);
+        else
+            is("a term field more", answer(CHECK), HITAC_LIMIT_PASSED, HITAC_OTHER_FILE, (uint32_t)innermost);
+    }
+}
+
+/* Eight rows of 256 uses, each giving its goal back: no flat form of a proof is longer. No proof has longer lists or fields. */
+static void longest_results(void)
+{
+    expect("the longest proof", HITAC_LONGEST_PROOF == 2 * (3 + 2 * HITAC_MOST_GOALS) + 5 * HITAC_MOST_TERM_FIELDS);
+    table.length = 0;
+    rule(&table, 5, 10, 1, 10);
+    other.length = 0;
+    field(&other, 3, HITAC_MOST_GOALS, 10);
+    rows_of(&other, 8, HITAC_MOST_GOALS, 5);
+    field(&other, 3, HITAC_MOST_GOALS, 10);
+    struct hitac_answer got = answer_in(FLATTEN, HITAC_FLATTEN_WORK, HITAC_LONGEST_FLAT, 0);
+    is("the longest flat form", got, HITAC_SUCCESS, HITAC_NO_FILE, 0);
+    expect("its length", got.length == HITAC_LONGEST_FLAT);
+}
+
+/* A flat file of goal 10, so many uses of rule 5, which gives its goal back, and an open. */
+static void long_flat(size_t uses)
+{
+    table.length = 0;
+    rule(&table, 5, 10, 1, 10);
+    other.length = 0;
+    field(&other, 3, 1, 10);
+    while (uses-- > 0)
+        entry(&other, 5, 10);
+    field(&other, 33, 1, 10);
+}
+
+/* The most entries of the writer and the most uses of a flat file, and one more of each; the same of goals and opens. */
+static void limits_of_flats(void)
+{
+    long_flat(HITAC_MOST_ENTRIES - 1);
+    is("the most entries", answer(WRITE_PROOF), HITAC_SUCCESS, HITAC_NO_FILE, 0);
+    long_flat(HITAC_MOST_ENTRIES);
+    is("28", answer(WRITE_PROOF), HITAC_ENTRIES_TOO_MANY, HITAC_OTHER_FILE, 0);
+    long_flat(HITAC_MOST_USES);
+    is("the most uses", answer(CHECK_FLAT), HITAC_SUCCESS, HITAC_NO_FILE, 0);
+    long_flat(HITAC_MOST_USES + 1);
+    is("a use more", answer(CHECK_FLAT), HITAC_LIMIT_PASSED, HITAC_OTHER_FILE, 5 + 7 * HITAC_MOST_USES);
+    other.length = 0;
+    field(&other, 3, HITAC_MOST_GOALS, 10);
+    for (size_t i = 0; i < HITAC_MOST_OPENS; i++)
+        field(&other, 33, 1, 10);
+    is("the most goals and opens", answer(CHECK_FLAT), HITAC_SUCCESS, HITAC_NO_FILE, 0);
+    size_t end = other.length;
+    field(&other, 33, 1, 10);
+    is("an open more", answer(CHECK_FLAT), HITAC_LIMIT_PASSED, HITAC_OTHER_FILE, (uint32_t)end);
+}
+
+int main(void)
+{
+    layout();
+    counts();
+    spaces(CHECK);
+    spaces(RUN);
+    spaces(FLATTEN);
+    spaces(CHECK_FLAT);
+    spaces(WRITE_PROOF);
+    refusals_of_reading();
+    refusals_of_tables();
+    refusals_of_meaning();
+    joined_lists();
+    limits_of_tables();
+    limits_of_terms();
+    longest_results();
+    limits_of_flats();
+    printf("agreement: %u tests, %u wrong\n", tests, failures);
+    return failures != 0;
+}

@@ -1,0 +1,32 @@
+/* Runs the worked calls of docs/ENTRIES.md, which library/test puts into worked_calls.inc, on the files of a folder. */
+#include <stdio.h>
+
+#include "hitac.h"
+
+static uint8_t table[HITAC_LONGEST_FILE], proof[HITAC_LONGEST_FILE], job[HITAC_LONGEST_FILE], flat[HITAC_LONGEST_FILE];
+static size_t table_length, proof_length, job_length, flat_length;
+
+static size_t load(const char *folder, const char *name, uint8_t *bytes)
+{
+    char path[1024];
+    snprintf(path, sizeof path, "%s/%s", folder, name);
+    FILE *stream = fopen(path, "rb");
+    if (stream == NULL)
+        return 0;
+    size_t length = fread(bytes, 1, HITAC_LONGEST_FILE, stream);
+    fclose(stream);
+    return length;
+}
+
+#include "worked_calls.inc"
+
+int main(int count, char **arguments)
+{
+    const char *folder = count > 1 ? arguments[1] : ".";
+    table_length = load(folder, "table.kit", table);
+    proof_length = load(folder, "proof.hip", proof);
+    job_length = load(folder, "job.tac", job);
+    flat_length = load(folder, "flat.der", flat);
+    worked_calls();
+    return 0;
+}
