@@ -23,8 +23,8 @@ struct hitac_answer {
 
 /*
  * Every file and space is a pointer and its length in bytes. A pointer is never NULL, also where the length is 0.
- * Files and spaces of one call do not overlap. Any bytes, lengths and budget get an answer. Nothing is allocated and
- * nothing is kept between calls, so calls with spaces of their own may run at the same time.
+ * The spaces of a call overlap neither each other nor a file. Any bytes, lengths and budget get an answer. Nothing is
+ * allocated and nothing is kept between calls, so calls with spaces of their own may run at the same time.
  * Work space that is long enough is all zero afterwards. A refusal leaves the output space untouched; a success
  * leaves the bytes behind its result untouched.
  */

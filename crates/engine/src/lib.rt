@@ -1,6 +1,6 @@
 // The five entries as C functions: nothing but calls. include/hitac.h declares them for C.
 ghost use mathlib.Core.Path.{_≡_};
-ghost use Rattle.entries.specs.Check as proofs;
+ghost use Rattle.entries.specs.Check as entry;
 ghost use Rattle.entries.specs.CheckFlat.{checkFlat, writeProof};
 ghost use Rattle.entries.specs.Run.{runTactic};
 use answers::Answer;
@@ -13,8 +13,8 @@ use writer::entry::write_proof;
 // Whether the proof is accepted in the table.
 #[no_mangle]
 pub extern "C" fn hitac_check(table: &[u8], proof: &[u8], work: &mut [u8]) -> Answer
-    ensures answer { λ r. ⌜ r ≡ proofs.check (now (table .entry)) (now (proof .entry)) (now (work .entry)) .answer ⌝ }
-    ensures work { λ _. ⌜ now (work .exit) ≡ proofs.check (now (table .entry)) (now (proof .entry)) (now (work .entry)) .work ⌝ }
+    ensures answer { λ r. ⌜ r ≡ entry.check (now (table .entry)) (now (proof .entry)) (now (work .entry)) .answer ⌝ }
+    ensures work { λ _. ⌜ now (work .exit) ≡ entry.check (now (table .entry)) (now (proof .entry)) (now (work .entry)) .work ⌝ }
 {
     check(table, proof, work)
 }
@@ -43,9 +43,9 @@ pub extern "C" fn hitac_flatten(
     work: &mut [u8],
     out: &mut [u8],
 ) -> Answer
-    ensures answer { λ r. ⌜ r ≡ proofs.flatten (now (table .entry)) (now (proof .entry)) (now (work .entry)) (now (out .entry)) .answer ⌝ }
-    ensures work { λ _. ⌜ now (work .exit) ≡ proofs.flatten (now (table .entry)) (now (proof .entry)) (now (work .entry)) (now (out .entry)) .work ⌝ }
-    ensures out { λ _. ⌜ now (out .exit) ≡ proofs.flatten (now (table .entry)) (now (proof .entry)) (now (work .entry)) (now (out .entry)) .out ⌝ }
+    ensures answer { λ r. ⌜ r ≡ entry.flatten (now (table .entry)) (now (proof .entry)) (now (work .entry)) (now (out .entry)) .answer ⌝ }
+    ensures work { λ _. ⌜ now (work .exit) ≡ entry.flatten (now (table .entry)) (now (proof .entry)) (now (work .entry)) (now (out .entry)) .work ⌝ }
+    ensures out { λ _. ⌜ now (out .exit) ≡ entry.flatten (now (table .entry)) (now (proof .entry)) (now (work .entry)) (now (out .entry)) .out ⌝ }
 {
     flatten(table, proof, work, out)
 }

@@ -1,4 +1,5 @@
 //! The Hitac proof engine for Rust: a value that owns the space that the calls need, and results as `Result`.
+#[rustfmt::skip]
 mod raw;
 mod refusal;
 
@@ -38,55 +39,40 @@ impl Engine {
         Engine { work: vec![0; raw::RUN_WORK], out: vec![0; longest] }
     }
 
+    // Each call is lent no more work space than it needs, because it clears all that it was lent.
+
     /// Whether the proof is accepted in the table.
     pub fn check(&mut self, table: &[u8], proof: &[u8]) -> Result<Accepted, Refusal> {
-        let answer = self.checks(raw::hitac_check, raw::CHECK_WORK, table, proof)?;
+        let work = &mut self.work[..raw::CHECK_WORK];
+        let answer = succeeded(raw::check(table, proof, work))?;
         Ok(Accepted { fields: answer.fields, uses: answer.uses, open: answer.remaining })
     }
 
     /// Runs the tactic of the job in at most `budget` steps, of which 4,096 are the most.
     pub fn run(&mut self, table: &[u8], job: &[u8], budget: u32) -> Result<Ran, Refusal> {
-        let (t, j) = (table, job);
-        let (w, o) = (&mut self.work[..raw::RUN_WORK], &mut self.out);
-        // SAFETY: each pointer and length is that of a slice, and no two of these slices overlap.
-        let answer = succeeded(unsafe {
-            let (work, work_length) = (w.as_mut_ptr(), w.len());
-            let (out, out_length) = (o.as_mut_ptr(), o.len());
-            raw::hitac_run(t.as_ptr(), t.len(), j.as_ptr(), j.len(), budget, work, work_length, out, out_length)
-        })?;
+        let work = &mut self.work[..raw::RUN_WORK];
+        let answer = succeeded(raw::run(table, job, budget, work, &mut self.out))?;
         Ok(Ran { proof: self.result(answer), steps: answer.steps })
     }
 
     /// The flat file of an accepted proof.
     pub fn flatten(&mut self, table: &[u8], proof: &[u8]) -> Result<Vec<u8>, Refusal> {
-        self.writes(raw::hitac_flatten, raw::FLATTEN_WORK, table, proof)
+        let work = &mut self.work[..raw::FLATTEN_WORK];
+        let answer = succeeded(raw::flatten(table, proof, work, &mut self.out))?;
+        Ok(self.result(answer))
     }
 
     /// Whether the flat derivation is right in the table.
     pub fn check_flat(&mut self, table: &[u8], flat: &[u8]) -> Result<Right, Refusal> {
-        let answer = self.checks(raw::hitac_check_flat, raw::CHECK_FLAT_WORK, table, flat)?;
+        let work = &mut self.work[..raw::CHECK_FLAT_WORK];
+        let answer = succeeded(raw::check_flat(table, flat, work))?;
         Ok(Right { uses: answer.uses, open: answer.remaining })
     }
 
     /// The proof file of a right derivation.
     pub fn write_proof(&mut self, table: &[u8], flat: &[u8]) -> Result<Vec<u8>, Refusal> {
-        self.writes(raw::hitac_write_proof, raw::WRITE_PROOF_WORK, table, flat)
-    }
-
-    // Lends no more work space than the call needs, because a call clears all that it was lent.
-    fn checks(&mut self, call: raw::Checks, size: usize, t: &[u8], f: &[u8]) -> Result<raw::Answer, Refusal> {
-        let w = &mut self.work[..size];
-        // SAFETY: as in `run`.
-        succeeded(unsafe { call(t.as_ptr(), t.len(), f.as_ptr(), f.len(), w.as_mut_ptr(), w.len()) })
-    }
-
-    fn writes(&mut self, call: raw::Writes, size: usize, t: &[u8], f: &[u8]) -> Result<Vec<u8>, Refusal> {
-        let (w, o) = (&mut self.work[..size], &mut self.out);
-        // SAFETY: as in `run`.
-        let answer = succeeded(unsafe {
-            let (out, out_length) = (o.as_mut_ptr(), o.len());
-            call(t.as_ptr(), t.len(), f.as_ptr(), f.len(), w.as_mut_ptr(), w.len(), out, out_length)
-        })?;
+        let work = &mut self.work[..raw::WRITE_PROOF_WORK];
+        let answer = succeeded(raw::write_proof(table, flat, work, &mut self.out))?;
         Ok(self.result(answer))
     }
 

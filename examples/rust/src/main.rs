@@ -1,5 +1,5 @@
 //! Checks a proof, runs a tactic, flattens a proof, checks the derivation and writes it back, on the files of a folder.
-use hitac::{Engine, Refusal};
+use hitac::Engine;
 use std::path::Path;
 use std::{env, error, fs};
 
@@ -9,31 +9,20 @@ fn main() -> Result<(), Box<dyn error::Error>> {
     let (table, proof, job) = (load("table.kit")?, load("proof.hip")?, load("job.tac")?);
     let mut engine = Engine::new();
 
-    let checked = engine.check(&table, &proof);
-    let counts =
-        checked.map(|proof| format!("accepted fields {} uses {} open {}", proof.fields, proof.uses, proof.open));
-    print("check", counts);
+    let accepted = engine.check(&table, &proof)?;
+    println!("check: accepted fields {} uses {} open {}", accepted.fields, accepted.uses, accepted.open);
     for budget in [4096, 18] {
-        let ran = engine.run(&table, &job, budget);
-        print("run", ran.map(|ran| format!("steps {} {}", ran.steps, listed(&ran.proof))));
+        match engine.run(&table, &job, budget) {
+            Ok(ran) => println!("run: steps {} {}", ran.steps, listed(&ran.proof)),
+            Err(refusal) => println!("run: {refusal}"),
+        }
     }
-    let flattened = engine.flatten(&table, &proof);
-    print("flatten", flattened.as_deref().map(listed).map_err(|refusal| *refusal));
-    if let Ok(flat) = flattened {
-        let right = engine.check_flat(&table, &flat);
-        print("check_flat", right.map(|flat| format!("right uses {} open {}", flat.uses, flat.open)));
-        let written = engine.write_proof(&table, &flat);
-        print("write_proof", written.map(|proof| listed(&proof)));
-    }
+    let flat = engine.flatten(&table, &proof)?;
+    println!("flatten: {}", listed(&flat));
+    let right = engine.check_flat(&table, &flat)?;
+    println!("check_flat: right uses {} open {}", right.uses, right.open);
+    println!("write_proof: {}", listed(&engine.write_proof(&table, &flat)?));
     Ok(())
-}
-
-/// A result, or the refusal, as one line.
-fn print(call: &str, result: Result<String, Refusal>) {
-    match result {
-        Ok(text) => println!("{call}: {text}"),
-        Err(refusal) => println!("{call}: {refusal}"),
-    }
 }
 
 /// The length of a file, and its bytes on the next line.

@@ -1,4 +1,4 @@
-//! What include/hitac.h declares.
+//! What include/hitac.h declares, and the five calls on slices. Laid out by hand: a pointer stands beside its length.
 
 /// The answer of every call.
 #[repr(C)]
@@ -23,36 +23,81 @@ pub const WRITE_PROOF_WORK: usize = 65536;
 pub const LONGEST_PROOF: usize = 21510;
 pub const LONGEST_FLAT: usize = 16131;
 
-/// A call that takes table, other file and work space.
-pub type Checks = unsafe extern "C" fn(*const u8, usize, *const u8, usize, *mut u8, usize) -> Answer;
-
-/// A call that takes table, other file, work and output space.
-pub type Writes = unsafe extern "C" fn(*const u8, usize, *const u8, usize, *mut u8, usize, *mut u8, usize) -> Answer;
-
-#[rustfmt::skip]
 extern "C" {
-    pub fn hitac_check(
+    fn hitac_check(
         table: *const u8, table_length: usize, proof: *const u8, proof_length: usize,
         work: *mut u8, work_length: usize,
     ) -> Answer;
 
-    pub fn hitac_run(
+    fn hitac_run(
         table: *const u8, table_length: usize, job: *const u8, job_length: usize, budget: u32,
         work: *mut u8, work_length: usize, out: *mut u8, out_length: usize,
     ) -> Answer;
 
-    pub fn hitac_flatten(
+    fn hitac_flatten(
         table: *const u8, table_length: usize, proof: *const u8, proof_length: usize,
         work: *mut u8, work_length: usize, out: *mut u8, out_length: usize,
     ) -> Answer;
 
-    pub fn hitac_check_flat(
+    fn hitac_check_flat(
         table: *const u8, table_length: usize, flat: *const u8, flat_length: usize,
         work: *mut u8, work_length: usize,
     ) -> Answer;
 
-    pub fn hitac_write_proof(
+    fn hitac_write_proof(
         table: *const u8, table_length: usize, flat: *const u8, flat_length: usize,
         work: *mut u8, work_length: usize, out: *mut u8, out_length: usize,
     ) -> Answer;
+}
+
+// In each call below the pointers and lengths are those of slices, and a slice that is lent to be written overlaps no other.
+
+pub fn check(table: &[u8], proof: &[u8], work: &mut [u8]) -> Answer {
+    // SAFETY: as said above.
+    unsafe {
+        hitac_check(
+            table.as_ptr(), table.len(), proof.as_ptr(), proof.len(),
+            work.as_mut_ptr(), work.len(),
+        )
+    }
+}
+
+pub fn run(table: &[u8], job: &[u8], budget: u32, work: &mut [u8], out: &mut [u8]) -> Answer {
+    // SAFETY: as said above.
+    unsafe {
+        hitac_run(
+            table.as_ptr(), table.len(), job.as_ptr(), job.len(), budget,
+            work.as_mut_ptr(), work.len(), out.as_mut_ptr(), out.len(),
+        )
+    }
+}
+
+pub fn flatten(table: &[u8], proof: &[u8], work: &mut [u8], out: &mut [u8]) -> Answer {
+    // SAFETY: as said above.
+    unsafe {
+        hitac_flatten(
+            table.as_ptr(), table.len(), proof.as_ptr(), proof.len(),
+            work.as_mut_ptr(), work.len(), out.as_mut_ptr(), out.len(),
+        )
+    }
+}
+
+pub fn check_flat(table: &[u8], flat: &[u8], work: &mut [u8]) -> Answer {
+    // SAFETY: as said above.
+    unsafe {
+        hitac_check_flat(
+            table.as_ptr(), table.len(), flat.as_ptr(), flat.len(),
+            work.as_mut_ptr(), work.len(),
+        )
+    }
+}
+
+pub fn write_proof(table: &[u8], flat: &[u8], work: &mut [u8], out: &mut [u8]) -> Answer {
+    // SAFETY: as said above.
+    unsafe {
+        hitac_write_proof(
+            table.as_ptr(), table.len(), flat.as_ptr(), flat.len(),
+            work.as_mut_ptr(), work.len(), out.as_mut_ptr(), out.len(),
+        )
+    }
 }
