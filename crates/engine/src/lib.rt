@@ -7,7 +7,7 @@ use answers::Answer;
 use checker::check::check;
 use derivation::check::check_flat;
 use flattener::flatten::flatten;
-use machine::entry::run;
+use runner::entry::run;
 use writer::entry::write_proof;
 
 // Whether the proof is accepted in the table.

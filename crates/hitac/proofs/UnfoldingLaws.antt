@@ -27,7 +27,7 @@ both-within f none b a′ b′ p q n e = absurd (Option·none-ne-some n e)
 both-within f (some x) none a′ b′ p q n e = absurd (Option·none-ne-some n e)
 both-within f (some x) (some y) a′ b′ p q n e = rw (p x refl, q y refl) e
 
-arityIn-within : {ρ σ : TacticNo → Option ℕ} → Within ρ σ → Within (arityIn ρ) (arityIn σ)
+pub arityIn-within : {ρ σ : TacticNo → Option ℕ} → Within ρ σ → Within (arityIn ρ) (arityIn σ)
 unfolding arityIn
 arityIn-within h (atomic a) n e = e
 arityIn-within h id n e = e
@@ -104,7 +104,7 @@ count-tight {ρ} {σ} h (x ∷ ds) c d u b n e = go (sameTactic d (x .tactic)) r
         (present-tight (ρ (x .tactic)) (σ (x .tactic)) (h (x .tactic)) first n (subst (λ y. σ y ≡ some n) p e))
     go false q b′ ih = ih rest b′
 
-same-arity : (a b : Option ℕ) → ((n : ℕ) → a ≡ some n → b ≡ some n) → ((n : ℕ) → b ≡ some n → a ≡ some n) → a ≡ b
+pub same-arity : (a b : Option ℕ) → ((n : ℕ) → a ≡ some n → b ≡ some n) → ((n : ℕ) → b ≡ some n → a ≡ some n) → a ≡ b
 same-arity none none f g = refl
 same-arity none (some y) f g = g y refl
 same-arity (some x) b f g = sym (f x refl)
@@ -115,7 +115,7 @@ module _ (ds : List Definition) where
   suc-within j k h d n e = body-within h (findBodyIn ds d) n e
 
   -- more unfoldings, same arity
-  after-suc : (k : ℕ) → Within (arityAfter k ds) (arityAfter (suc k) ds)
+  pub after-suc : (k : ℕ) → Within (arityAfter k ds) (arityAfter (suc k) ds)
   unfolding arityAfter
   after-suc zero d n e = absurd (Option·none-ne-some n e)
   after-suc (suc k) d n e = suc-within k (suc k) (after-suc k) d n e
@@ -129,7 +129,7 @@ module _ (ds : List Definition) where
   Stable k = Within (arityAfter (suc k) ds) (arityAfter k ds)
 
   -- an arity that an unfolding gives is a definition's
-  has-body : (k : ℕ) (d : TacticNo) (n : ℕ) → arityAfter (suc k) ds d ≡ some n → (u : Term) × (findBodyIn ds d ≡ some u)
+  pub has-body : (k : ℕ) (d : TacticNo) (n : ℕ) → arityAfter (suc k) ds d ≡ some n → (u : Term) × (findBodyIn ds d ≡ some u)
   unfolding arityAfter
   has-body k d n e = go (findBodyIn ds d) refl e
     where

@@ -23,7 +23,7 @@ use Rattle.hitac.specs.Machine as M
 use Rattle.hitac.specs.Machine.{labelled, sequenceLeft, alternationLeft}
 use Rattle.machine.specs.declared.frames.Frame.{Frame}
 use Rattle.machine.specs.declared.state.State.{State}
-use Rattle.machine.specs.Layout.{framesEnd}
+use Rattle.arities.specs.Layout.{framesEnd}
 use Rattle.machine.specs.Memory.{Only}
 use Rattle.machine.specs.Frames.{frameAt, putFrame, putHeader}
 use Rattle.machine.specs.Shows.{source, GoalsIs, FrameIs, FramesAt, frameAside, setAside, Sizes, Runs, Ends, Config, next, done, Holds}

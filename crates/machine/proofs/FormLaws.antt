@@ -31,11 +31,11 @@ use Rattle.hitac.specs.Outcomes.{Split, splitAt, splitBy, finished, foundPremis
 use Rattle.hitac.specs.Machine as M
 use Rattle.hitac.specs.Machine.{tensorLeft}
 use Rattle.machine.specs.declared.state.State.{State}
-use Rattle.machine.specs.Layout.{outputEnd, framesEnd}
+use Rattle.arities.specs.Layout.{outputEnd, framesEnd}
 use Rattle.machine.specs.Memory.{Same, Only}
 use Rattle.machine.specs.Frames.{putFrame, putHeader}
 use Rattle.machine.specs.Shows.{source, GoalsIs, FrameIs, Runs, Ends, Config, next, done, Holds}
-use Rattle.machine.specs.Arities.{arityCode}
+use Rattle.arities.specs.Arities.{arityCode}
 use Rattle.machine.specs.Begun.{enter, Room, Begins, BeginsIn, failed, entered, tensorNext, tensorFrame, atomicNext, ruleNext, used, definedNext, unfolded}
 use Rattle.machine.specs.Step.{Grown}
 use Rattle.machine.proofs.MemoryLaws.{only-then, only-wider, only-word, only-copy, same-word, same-head}

@@ -19,7 +19,7 @@ use Rattle.hitac.specs.Machine as M
 use Rattle.hitac.specs.Machine.{tensorRight}
 use Rattle.machine.specs.declared.frames.Frame.{Frame}
 use Rattle.machine.specs.declared.state.State.{State}
-use Rattle.machine.specs.Layout.{outputEnd, goalsEnd, framesEnd}
+use Rattle.arities.specs.Layout.{outputEnd, goalsEnd, framesEnd}
 use Rattle.machine.specs.Memory.{Only}
 use Rattle.machine.specs.Frames.{frameAt}
 use Rattle.machine.specs.Shows.{GoalsIs, FrameIs, FramesAt, setAside, Sizes, Proved, Ends, Holds}

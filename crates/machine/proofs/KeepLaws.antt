@@ -12,7 +12,7 @@ use Rattle.format.specs.Standing.{Stands}
 use Rattle.hitac.specs.Machine as M
 use Rattle.hitac.specs.Machine.{labelled, sequenceLeft, sequenceRight, tensorLeft, tensorRight, alternationLeft}
 use Rattle.machine.specs.declared.frames.Frame.{Frame}
-use Rattle.machine.specs.Layout.{outputEnd, framesEnd}
+use Rattle.arities.specs.Layout.{outputEnd, framesEnd}
 use Rattle.machine.specs.Memory.{Same, Only}
 use Rattle.machine.specs.Frames.{long, frameAt}
 use Rattle.machine.specs.Shows.{GoalsIs, FrameIs, FramesAt}

@@ -9,11 +9,4 @@ pub mod JoinLaws
 pub mod UnwindLaws
 pub mod BeginLaws
 pub mod FormLaws
-pub mod ArityLaws
-pub mod RoundLaws
-pub mod FillLaws
 pub mod StepLaws
-pub mod RunLaws
-pub mod FileLaws
-pub mod JobLaws
-pub mod EntryLaws

@@ -13,7 +13,7 @@ use Rattle.hitac.specs.Machine as M
 use Rattle.hitac.specs.Machine.{sequenceRight, tensorRight}
 use Rattle.machine.specs.declared.frames.Frame.{Frame}
 use Rattle.machine.specs.declared.state.State.{State}
-use Rattle.machine.specs.Layout.{outputEnd, goalsEnd}
+use Rattle.arities.specs.Layout.{outputEnd, goalsEnd}
 use Rattle.machine.specs.Memory.{Only}
 use Rattle.machine.specs.Frames.{frameAt, putFrame}
 use Rattle.machine.specs.Shows.{GoalsIs, FrameIs, FramesAt, setAside, Proved, Ends, Holds}

@@ -18,7 +18,7 @@ use Rattle.hitac.specs.Machine as M
 use Rattle.hitac.specs.Machine.{labelled, sequenceLeft, sequenceRight, tensorLeft, tensorRight, alternationLeft}
 use Rattle.machine.specs.declared.state.State.{State}
 use Rattle.machine.specs.declared.frames.Frame.{Frame}
-use Rattle.machine.specs.Layout.{spaceEnd, framesEnd}
+use Rattle.arities.specs.Layout.{spaceEnd, framesEnd}
 use Rattle.machine.specs.Frames.{frameAt}
 use Rattle.machine.specs.Shows.{FrameIs, FramesAt, setAside, Sizes, Proved, Lost, Overflowed, Ends}
 use Rattle.machine.specs.Popping.{Fits, Waiting, Unwinding}

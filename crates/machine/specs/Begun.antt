@@ -18,7 +18,7 @@ use Rattle.hitac.specs.Machine as M
 use Rattle.hitac.specs.Machine.{labelled, sequenceLeft, tensorLeft, alternationLeft}
 use Rattle.machine.specs.declared.state.State.{State}
 use Rattle.machine.specs.declared.frames.Frame.{Frame}
-use Rattle.machine.specs.Layout.{outputEnd, goalsEnd, framesEnd, spaceEnd}
+use Rattle.arities.specs.Layout.{outputEnd, goalsEnd, framesEnd, spaceEnd}
 use Rattle.machine.specs.Shows.{Config, next, done, Runs, Holds}
 
 -- fail, or go on

@@ -1,10 +1,6 @@
-pub mod Layout
 pub mod Memory
 pub mod Frames
 pub mod Shows
 pub mod Popping
-pub mod Arities
-pub mod Rounds
 pub mod Begun
 pub mod Step
-pub mod Jobs

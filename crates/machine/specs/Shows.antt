@@ -16,7 +16,7 @@ use Rattle.hitac.specs.Machine as M
 use Rattle.hitac.specs.Machine.{labelled, sequenceLeft, sequenceRight, tensorLeft, tensorRight, alternationLeft, running, stopped}
 use Rattle.machine.specs.declared.state.State.{State}
 use Rattle.machine.specs.declared.frames.Frame.{Frame}
-use Rattle.machine.specs.Layout.{outputEnd, framesEnd}
+use Rattle.arities.specs.Layout.{outputEnd, framesEnd}
 use Rattle.machine.specs.Frames.{frameAt}
 
 -- the file that a term stands in
@@ -113,8 +113,3 @@ Holds table job w s (done e k) = Ends table job w s e k
 unfoldable pub Shows : (table job w : List ℕ) → State → M.Control → Type 0
 Shows table job w s (running t g k) = Runs table job w s t g k
 Shows table job w s (stopped e) = Ends table job w s e []
-
--- a state of the machine: its steps, and where it stands
-pub record ShowsState (table job w : List ℕ) (s : State) (σ : M.State) : Type 0 where
-  pub steps-are : s .steps ≡ σ .steps
-  pub shows : Shows table job w s (σ .control)

@@ -1,4 +1,4 @@
--- A step and a run: what the code is given, and what it shows afterwards.
+-- A step: what the code is given, and what it shows afterwards.
 use Prim.Native.Nat.{ℕ, _+_, _<_, _≤_}
 use mathlib.Core.Path.{_≡_}
 use mathlib.Core.List.{List}
@@ -11,10 +11,10 @@ use Rattle.tables.specs.Tables.{Table}
 use Rattle.tables.specs.Standing.{TableStands}
 use Rattle.hitac.specs.Machine as M
 use Rattle.machine.specs.declared.state.State.{State}
-use Rattle.machine.specs.Layout.{framesEnd, spaceEnd}
-use Rattle.machine.specs.Shows.{source, Runs, Holds, Shows, ShowsState}
+use Rattle.arities.specs.Layout.{framesEnd, spaceEnd}
+use Rattle.machine.specs.Shows.{source, Runs, Holds, Shows}
 use Rattle.machine.specs.Begun.{begun, Room}
-use Rattle.machine.specs.Arities.{ArityTable, arities}
+use Rattle.arities.specs.Arities.{ArityTable, arities}
 
 -- after a term was begun: the arities are the same, and one step was counted
 pub record Grown (w : List ℕ) (s : State) (v : List ℕ) (r : State) : Type 0 where
@@ -69,24 +69,3 @@ abbrev pub BeginsPair : (src w : List ℕ) → State → List ℕ → State → 
 BeginsPair src w s v r =
     (bytes job : List ℕ) (T : Table) (t : Term) (g : List Goal) (k : List M.Frame) → source bytes job (s .file) ≡ src → ArityTable w (arities T)
     → Runs bytes job w s t g k → Holds bytes job v r (begun T t g k)
-
--- what a run is given
-pub record Started (bytes : List ℕ) (first : ℕ) (job w : List ℕ) (s : State) (budget : ℕ) : Type 0 where
-  pub steps-left : s .steps + budget ≤ mostSteps
-  pub space : spaceEnd ≤ length w
-  pub table-small : length bytes < 65536
-  pub job-small : length job < 65536
-  pub table : Table
-  pub table-stands : TableStands bytes first table
-  pub known : ArityTable w (arities table)
-  pub term : Term
-  pub goals : List Goal
-  pub frames : List M.Frame
-  pub runs : Runs bytes job w s term goals frames
-
--- a run: what the code shows is the machine's state after at most so many steps
-pub record Ran (bytes : List ℕ) (first : ℕ) (job w : List ℕ) (s : State) (budget : ℕ) (v : List ℕ) (r : State) : Type 0 where
-  pub same-length : length v ≡ length w
-  pub few-steps : r .steps ≤ s .steps + budget
-  pub shows : (T : Table) (t : Term) (g : List Goal) (k : List M.Frame) → TableStands bytes first T → ArityTable w (arities T) → Runs bytes job w s t g k
-      → ShowsState bytes job v r (M.run T budget (M.after (s .steps) (M.running t g k)))

@@ -1,10 +1,5 @@
-// The tactic machine over bytes: its control state by value; the hiproof so far, the goals, the terms that wait and the arities in lent work space.
-pub mod arity;
+// The tactic machine over bytes: its control state by value and its step; the hiproof so far, the goals and the terms that wait in lent work space.
 pub mod begin;
-pub mod entry;
 pub mod frames;
-pub mod job;
-pub mod layout;
-pub mod rounds;
 pub mod state;
 pub mod unwind;

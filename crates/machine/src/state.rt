@@ -1,8 +1,8 @@
-// The machine's control state, and its steps.
+// The machine's control state, and its step.
 ghost use mathlib.Core.Path.{_≡_};
 ghost use Prim.Native.Nat.{_+_};
 ghost use Rattle.machine.specs.Shows.{source};
-ghost use Rattle.machine.specs.Step.{Given, Stepped, Grown, Started, Ran};
+ghost use Rattle.machine.specs.Step.{Given, Stepped, Grown};
 
 // How a state stands: a term is to begin; or the last one ended with a proof, failed, or ended the run (22).
 pub const RUNNING: u8 = 0;
@@ -51,29 +51,5 @@ impl State {
             return self.step_in(table, first, table, work);
         }
         self.step_in(table, first, job, work)
-    }
-
-    // At most so many steps; a term that is still to begin afterwards says that the budget is spent.
-    pub fn run(
-        self,
-        budget: usize,
-        table: &[u8],
-        first: usize,
-        job: &[u8],
-        work: &mut [u8],
-    ) -> State
-        requires { ⌜ Started (now table) first (now job) (now work) self budget ⌝ }
-        ensures { λ r. ⌜ Ran (now (table .entry)) first (now (job .entry)) (now (work .entry)) self budget (now (work .exit)) r ⌝ }
-    {
-        let mut s = self;
-        let mut left = budget;
-        while 0 < left {
-            if s.mode != RUNNING {
-                return s;
-            }
-            s = s.step(table, first, job, work);
-            left -= 1;
-        }
-        s
     }
 }

@@ -2,7 +2,7 @@
 ghost use mathlib.Core.Path.{_≡_};
 ghost use Prim.Native.Nat.{_+_, _*_, _≤_};
 ghost use lib.ListN.{length};
-ghost use Rattle.machine.specs.Layout.{goalsEnd, framesEnd};
+ghost use Rattle.arities.specs.Layout.{goalsEnd, framesEnd};
 ghost use Rattle.machine.specs.Frames.{frameAt};
 ghost use Rattle.machine.specs.Popping.{Gathered, Waiting, Popped, Smaller, Unwinding, Unwound, Fewer, leave, overflowed};
 use crate::frames::ALTERNATION_LEFT;
@@ -13,12 +13,12 @@ use crate::frames::TENSOR_LEFT;
 use crate::frames::TENSOR_RIGHT;
 use crate::frames::load_frame;
 use crate::frames::store_frame;
-use crate::layout::FRAMES_END;
 use crate::state::ENDED;
 use crate::state::FAILED;
 use crate::state::PROVED;
 use crate::state::RUNNING;
 use crate::state::State;
+use arities::layout::FRAMES_END;
 use words::move_up;
 use words::store16;
 

@@ -21,7 +21,7 @@ use answers::Answer;
 use checker::check::check;
 use derivation::check::check_flat;
 use flattener::flatten::flatten;
-use machine::entry::run;
+use runner::entry::run;
 use writer::entry::write_proof;
 
 // Longer than any output space that a vector file of the fixed set lends.

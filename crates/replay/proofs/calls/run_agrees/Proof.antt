@@ -7,7 +7,7 @@ use Rattle.replay.proofs.calls.run_agrees.Statement.{statement}
 use Rattle.replay.proofs.calls.run_agrees.Tie as tie
 use Rattle.replay.proofs.calls.run_agrees.Reads as reads
 use Rattle.replay.proofs.calls.run_agrees.Lts as lts
-use Rattle.machine.proofs.entry.run.Reads as run-reads
+use Rattle.runner.proofs.entry.run.Reads as run-reads
 use Rattle.replay.proofs.calls.wrote_as_told.Reads as wrote-as-told-reads
 use Rattle.replay.proofs.lent.fill.Reads as fill-reads
 

@@ -6,8 +6,8 @@ use Rattle.machine.proofs.state.State.begin_pair.Statement.{statement}
 use Rattle.machine.proofs.state.State.begin_pair.Tie as tie
 use Rattle.machine.proofs.state.State.begin_pair.Reads as reads
 use Rattle.machine.proofs.state.State.begin_pair.Lts as lts
-use Rattle.machine.proofs.arity.arity_of.Reads as arity-of-reads
-use Rattle.machine.proofs.arity.right_of.Reads as right-of-reads
+use Rattle.arities.proofs.arity.arity_of.Reads as arity-of-reads
+use Rattle.arities.proofs.arity.right_of.Reads as right-of-reads
 use Rattle.machine.proofs.state.State.begin_alternation.Reads as begin-alternation-reads
 use Rattle.machine.proofs.state.State.begin_sequence.Reads as begin-sequence-reads
 use Rattle.machine.proofs.state.State.begin_tensor.Reads as begin-tensor-reads

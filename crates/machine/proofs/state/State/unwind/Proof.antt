@@ -3,7 +3,7 @@
 use Prim.Native.Nat.{_-_}
 use mathlib.Core.Path.{_∙_}
 use native.Mathlib.Omega.{arith}
-use Rattle.machine.specs.Layout.{framesEnd}
+use Rattle.arities.specs.Layout.{framesEnd}
 use Rattle.machine.specs.Popping.{Fewer}
 use Rattle.machine.proofs.UnwindLaws.{Towards, start-here, start-fewer, waits, at-end, few-next, way-next, found}
 use Rattle.machine.proofs.state.State.unwind.Statement.{statement}

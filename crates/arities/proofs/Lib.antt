@@ -1,0 +1,3 @@
+pub mod ArityLaws
+pub mod RoundLaws
+pub mod FillLaws

@@ -1,0 +1,292 @@
+-- A job: its first state shows the machine's, the run is the machine's run, and its last state says which of the entry's outcomes it is.
+-- Assumes nothing.
+use Prim.Native.Nat.{ℕ, _+_, _*_, _≤_, _<_}
+use mathlib.Core.Path.{_≡_, refl, sym, ap, subst, _∙_}
+use mathlib.Core.Bool.{Bool, true, false, cond}
+use mathlib.Core.List.{List, [], _++_}
+use native.Mathlib.Omega.{arith}
+use lib.Dec.{ltb}
+use lib.ListN.{length, getD, drop}
+use lib.Seq.{paste}
+use borrow.Author.Tests.{lt-ltb, le-ltb}
+use Rattle.format.specs.declared.values.Goal.{Goal}
+use Rattle.format.specs.Limits.{mostSteps}
+use Rattle.format.specs.Refusals.{Cause, number, joinedTooLong, tacticFailed, budgetSpent, outputTooShort}
+use Rattle.format.specs.Goals.{goalsAt}
+use Rattle.format.specs.Terms.{Term, size}
+use Rattle.format.specs.Standing.{Stands}
+use Rattle.format.specs.Encoding.{Bytes}
+use Rattle.format.proofs.GoalsAt.{goals-paste}
+use Rattle.tables.specs.Tables.{Table, UniqueDefinitions}
+use Rattle.tables.specs.Standing.{TableStands}
+use Rattle.files.specs.declared.jobs.JobParts.{JobParts}
+use Rattle.files.specs.Proofs.{proofBytes}
+use Rattle.files.specs.Jobs.{Job}
+use Rattle.files.specs.Counts.{jobTermPlace}
+use Rattle.files.specs.Standing.{JobStands}
+use Rattle.files.specs.Shapes.{jobPartsOf}
+use Rattle.hitac.specs.Outcomes.{Ending, proved, failed, ended}
+use Rattle.hitac.specs.Machine as M
+use Rattle.hitac.specs.Machine.{Control, running, stopped, after}
+use Rattle.answers.specs.declared.Answer.{Answer}
+use Rattle.answers.specs.Answers as said
+use Rattle.entries.specs.Outcomes.{Outcome, success, refusal, noFile}
+use Rattle.entries.specs.LentSpace.{cleared, Written, writeOut}
+use Rattle.entries.specs.Run.{runEnd, runResult}
+use Rattle.machine.specs.declared.state.State.{State}
+use Rattle.arities.specs.Layout.{outputEnd, framesEnd, spaceEnd}
+use Rattle.machine.specs.Memory.{Only}
+use Rattle.machine.specs.Frames.{putHeader}
+use Rattle.machine.specs.Shows.{GoalsIs, FramesAt, setAside, Runs, Proved, Ends, Shows}
+use Rattle.arities.specs.Arities.{ArityTable, arities}
+use Rattle.arities.specs.Rounds.{FillGiven, Filled}
+use Rattle.runner.specs.Run.{ShowsState, Started, Ran}
+use Rattle.runner.specs.Jobs.{StartGiven, Starts, FileGiven, FileWritten, FinishGiven, Leaves, Finishes, JobGiven, JobRan}
+use Rattle.machine.proofs.MemoryLaws.{only-copy}
+use Rattle.machine.proofs.WaitingLaws.{if-proved, if-failed, if-ended}
+use Rattle.runner.proofs.RunLaws.{known-same, if-running, if-stopped}
+use Rattle.runner.proofs.FileLaws.{file-size, file-written}
+
+-- the parts of a job
+module _ (job : List ℕ) (j : Job) (parts : JobParts) (st : JobStands job j) (e : jobPartsOf j ≡ parts) where
+  goals-count : length (j .goals) ≡ parts .goals
+  unfolding jobPartsOf
+  goals-count = ap (λ (q : JobParts). q .goals) e
+
+  term-place : jobTermPlace j ≡ parts .term
+  unfolding jobPartsOf
+  term-place = ap (λ (q : JobParts). q .term) e
+
+  goals-few : parts .goals ≤ 256
+  goals-few = omega (arith, goals-count, st .goals-stand .few)
+
+  goals-inside : 3 + parts .goals * 2 ≤ length job
+  goals-inside = omega (arith, goals-count, st .goals-stand .head)
+
+-- the first state
+abbrev startState : JobParts → State
+startState parts = record { mode = 0; file = 1; at = parts .term; start = outputEnd; count = parts .goals; top = framesEnd; arena = outputEnd + parts .goals * 2; out = 0; steps = 0 }
+
+pub start-few : (job : List ℕ) (parts : JobParts) (w : List ℕ) → StartGiven job parts w → (parts .goals ≤ 256) × (3 + parts .goals * 2 ≤ length job)
+start-few job parts w q = (goals-few job (q .the-job) parts (q .job-stands) (q .parts-are), goals-inside job (q .the-job) parts (q .job-stands) (q .parts-are))
+
+pub start-end : (job : List ℕ) (parts : JobParts) (w v : List ℕ) → StartGiven job parts w → v ≡ paste w outputEnd (drop 3 job) (parts .goals * 2) → Starts job parts w v (startState parts)
+unfolding FramesAt setAside
+start-end job parts w v q e =
+    let few = start-few job parts w q in
+    let only : Only outputEnd (outputEnd + parts .goals * 2) w v =
+    subst (λ (x : List ℕ). Only outputEnd (outputEnd + parts .goals * 2) w x) (sym e) (only-copy w job outputEnd 3 (parts .goals * 2) (omega (arith, few, q .space)) (few .1)) in
+    record {
+      same-length = only .same-length;
+      beyond = λ i b. only .kept .above i (omega (arith, few, b));
+      no-steps = refl;
+      runs = λ table j st p.
+          let n = goals-count job j parts st p in
+          let there : goalsAt v outputEnd (parts .goals) ≡ goalsAt job 3 (parts .goals) =
+          ap (λ (x : List ℕ). goalsAt x outputEnd (parts .goals)) e ∙ goals-paste w job outputEnd 3 (parts .goals) (omega (arith, few, q .space)) (few .1) in
+          record {
+            mode-is = refl;
+            stands = subst (λ (i : ℕ). Stands job i (j .term)) (term-place job j parts st p) (st .term-stands);
+            goals = record {
+              low = omega arith;
+              high = omega arith;
+              few = few .0;
+              are = there ∙ ap (goalsAt job 3) (sym n) ∙ sym (st .goals-stand .goals-are);
+            };
+            frames = (refl, refl);
+            sizes = record { output-fits = omega arith; goals-fit = omega (arith, few .0); frames-fit = omega arith };
+          };
+    }
+
+-- a refusal leaves the output space
+pub refusal-leaves : (c : Cause) (k file place n : ℕ) (o : List ℕ) (r : Answer) → number c ≡ k → r ≡ said.refusal k file place n → Leaves (refusal c file place n) o r o
+unfolding writeOut
+refusal-leaves c k file place n o r e q = record { answer-is = λ work. q ∙ ap (λ (x : ℕ). said.refusal x file place n) (sym e); output-is = λ work. refl }
+
+-- a success writes, or is 26
+pub short-leaves : (bytes : List ℕ) (size n : ℕ) (o : List ℕ) (r : Answer) → length bytes ≡ size → length o < size → r ≡ said.refusal 26 0 0 n → Leaves (success bytes n) o r o
+unfolding writeOut number
+short-leaves bytes size n o r e h q =
+    let t : ltb (length o) (length bytes) ≡ true = lt-ltb (length o) (length bytes) (omega (arith, e, h)) in
+    record {
+      answer-is = λ work. q ∙ sym (ap (λ (b : Bool). told b work .answer) t);
+      output-is = λ work. sym (ap (λ (b : Bool). told b work .out) t);
+    }
+  where
+    told : Bool → List ℕ → Written
+    told b work = cond b (record { answer = said.refusal 26 0 0 n; work = cleared work; out = o }) (record { answer = said.wrote (length bytes) n; work = cleared work; out = bytes ++ drop (length bytes) o })
+
+pub success-leaves : (bytes : List ℕ) (size n : ℕ) (o v : List ℕ) (r : Answer) → length bytes ≡ size → size ≤ length o → r ≡ said.wrote size n → v ≡ bytes ++ drop size o → Leaves (success bytes n) o r v
+unfolding writeOut number
+success-leaves bytes size n o v r e h q p =
+    let t : ltb (length o) (length bytes) ≡ false = le-ltb (length o) (length bytes) (omega (arith, e, h)) in
+    record {
+      answer-is = λ work. q ∙ ap (λ (k : ℕ). said.wrote k n) (sym e) ∙ sym (ap (λ (b : Bool). told b work .answer) t);
+      output-is = λ work. p ∙ ap (λ (k : ℕ). bytes ++ drop k o) (sym e) ∙ sym (ap (λ (b : Bool). told b work .out) t);
+    }
+  where
+    told : Bool → List ℕ → Written
+    told b work = cond b (record { answer = said.refusal 26 0 0 n; work = cleared work; out = o }) (record { answer = said.wrote (length bytes) n; work = cleared work; out = bytes ++ drop (length bytes) o })
+
+-- the end of a run, by the last state's mode
+module _ (job w : List ℕ) (s : State) (o : List ℕ) (r : Answer) where
+  pub spent-end : s .mode ≡ 0 → r ≡ said.refusal 24 0 0 (s .steps) → Finishes job w s o r o
+  unfolding runEnd number
+  spent-end m q table j κ st h = if-running table job w s (λ x. Leaves (runEnd j (s .steps) x) o r o) m (λ t g k i. refusal-leaves budgetSpent 24 0 0 (s .steps) o r refl q) κ h
+
+  pub failed-end : (s .mode ≡ 0 → ⊥) → s .mode ≡ 2 → r ≡ said.refusal 23 0 0 (s .steps) → Finishes job w s o r o
+  unfolding runEnd number
+  failed-end n m q table j κ st h =
+      if-stopped table job w s (λ x. Leaves (runEnd j (s .steps) x) o r o) n
+      (λ e i. if-failed table job w s [] (λ y. Leaves (runEnd j (s .steps) (stopped y)) o r o) m (λ l. refusal-leaves tacticFailed 23 0 0 (s .steps) o r refl q) e i) κ h
+
+  pub ended-end : (s .mode ≡ 0 → ⊥) → (s .mode ≡ 1 → ⊥) → (s .mode ≡ 2 → ⊥) → r ≡ said.refusal 22 0 0 (s .steps) → Finishes job w s o r o
+  unfolding runEnd number
+  ended-end n a b q table j κ st h =
+      if-stopped table job w s (λ x. Leaves (runEnd j (s .steps) x) o r o) n
+      (λ e i. if-ended table job w s [] (λ y. Leaves (runEnd j (s .steps) (stopped y)) o r o) a b (λ c l. refusal-leaves c 22 0 0 (s .steps) o r (ap number (l .cause-is)) q) e i) κ h
+
+-- the end of a run that succeeded
+module _ (job : List ℕ) (term : ℕ) (w : List ℕ) (s : State) (m : s .mode ≡ 1) (q : FinishGiven job term w s) where
+  not-running : s .mode ≡ 0 → ⊥
+  not-running z = omega (arith, m, z)
+
+  -- its numbers are small
+  pub finish-small : (term ≤ 515) × (term ≤ length job) × (s .out ≤ outputEnd) × (s .count ≤ 256) × (s .start + s .count * 2 ≤ s .arena) × (s .arena ≤ length w)
+  unfolding jobTermPlace setAside
+  finish-small =
+      let st = q .job-stands in
+      if-stopped (q .table) job w s (λ x. Small) not-running
+      (λ e i. if-proved (q .table) job w s [] (λ y. Small) m (λ p g a. (
+        omega (arith, q .term-is, st .goals-stand .few),
+        omega (arith, q .term-is, st .goals-stand .head),
+        omega (arith, q .few-steps, a .sizes .output-fits),
+        a .goals .few,
+        a .goals .high,
+        omega (arith, q .few-steps, a .sizes .goals-fit, q .space),
+      )) e i) (q .control) (q .shows)
+    where
+      Small : Type 0
+      Small = (term ≤ 515) × (term ≤ length job) × (s .out ≤ outputEnd) × (s .count ≤ 256) × (s .start + s .count * 2 ≤ s .arena) × (s .arena ≤ length w)
+
+  module _ (o : List ℕ) (r : Answer) where
+    -- what is said of every last state that the code may stand for
+    if-success : (v : List ℕ) → ((table : List ℕ) (j : Job) (p : Term) (g : List Goal) → JobStands job j → Proved table job w s p g [] → jobTermPlace j ≡ term
+        → Leaves (success (proofBytes (record { goals = j .goals; term = p; remaining = g })) (s .steps)) o r v)
+        → ((j : Job) → JobStands job j → jobTermPlace j ≡ term) → Finishes job w s o r v
+    unfolding runEnd
+    if-success v f place table j κ st h =
+        if-stopped table job w s (λ x. Leaves (runEnd j (s .steps) x) o r v) not-running
+        (λ e i. if-proved table job w s [] (λ y. Leaves (runEnd j (s .steps) (stopped y)) o r v) m (λ p g a. f table j p g st a (place j st)) e i) κ h
+
+  -- every job that stands in the file has its term at the same place
+  same-place : (j : Job) → JobStands job j → jobTermPlace j ≡ term
+  unfolding jobTermPlace
+  same-place j st = omega (arith, q .term-is, st .goals-stand .head .length-is, q .job-stands .goals-stand .head .length-is)
+
+  pub file-given : (o : List ℕ) → term + s .out + 3 + s .count * 2 ≤ length o → FileGiven job term w s o
+  file-given o h = record {
+    mode-is = m;
+    few-steps = q .few-steps;
+    space = q .space;
+    the-job = q .the-job;
+    job-stands = q .job-stands;
+    term-is = q .term-is;
+    table = q .table;
+    control = q .control;
+    shows = q .shows;
+    fits = h;
+  }
+
+  module _ (o : List ℕ) (r : Answer) where
+    abbrev total : ℕ
+    total = term + s .out + 3 + s .count * 2
+
+    pub short-end : length o < total → r ≡ said.refusal 26 0 0 (s .steps) → Finishes job w s o r o
+    short-end h e = if-success o r o (λ table j p g st a place.
+        short-leaves (proofBytes (record { goals = j .goals; term = p; remaining = g })) total (s .steps) o r
+        (subst (λ (i : ℕ). length (proofBytes (record { goals = j .goals; term = p; remaining = g })) ≡ i + s .out + 3 + s .count * 2) place (file-size job w s table j p g a)) h e) same-place
+
+    pub success-end : (v : List ℕ) → total ≤ length o → FileWritten job term w s o v → r ≡ said.wrote total (s .steps) → Finishes job w s o r v
+    success-end v h f e = if-success o r v (λ table j p g st a place.
+        success-leaves (proofBytes (record { goals = j .goals; term = p; remaining = g })) total (s .steps) o v r
+        (subst (λ (i : ℕ). length (proofBytes (record { goals = j .goals; term = p; remaining = g })) ≡ i + s .out + 3 + s .count * 2) place (file-size job w s table j p g a)) h e (f table j p g st place a)) same-place
+
+-- the file written by the code
+pub write-end : (job : List ℕ) (term : ℕ) (w : List ℕ) (s : State) (o : List ℕ) → FileGiven job term w s o → Bytes job → Bytes w → s .arena ≤ length w → (v₁ v₂ v₃ v : List ℕ)
+    → v₁ ≡ paste o 0 (drop 0 job) term → v₂ ≡ paste v₁ term (drop 0 w) (s .out) → v₃ ≡ putHeader v₂ (term + s .out) 3 (s .count * 2)
+    → v ≡ paste v₃ (term + s .out + 3) (drop (s .start) w) (s .count * 2) → FileWritten job term w s o v
+write-end job term w s o q jb wb inside v₁ v₂ v₃ v e₁ e₂ e₃ e₄ table j p g st place a =
+    subst (λ (i : ℕ). i + s .out + 3 + s .count * 2 ≤ length o → v₁ ≡ paste o 0 (drop 0 job) i → v₂ ≡ paste v₁ i (drop 0 w) (s .out) → v₃ ≡ putHeader v₂ (i + s .out) 3 (s .count * 2)
+    → v ≡ paste v₃ (i + s .out + 3) (drop (s .start) w) (s .count * 2) → v ≡ proofBytes (record { goals = j .goals; term = p; remaining = g }) ++ drop (i + s .out + 3 + s .count * 2) o) place
+    (λ f. file-written job w s table j p g a o jb wb st inside f v₁ v₂ v₃ v) (q .fits) e₁ e₂ e₃ e₄
+
+pub file-finish : (job : List ℕ) (term : ℕ) (w : List ℕ) (s : State) (o : List ℕ) → FileGiven job term w s o → FinishGiven job term w s
+file-finish job term w s o q = record {
+  few-steps = q .few-steps;
+  space = q .space;
+  the-job = q .the-job;
+  job-stands = q .job-stands;
+  term-is = q .term-is;
+  table = q .table;
+  control = q .control;
+  shows = q .shows;
+}
+
+-- the whole job
+module _ (bytes : List ℕ) (first definitions : ℕ) (job : List ℕ) (parts : JobParts) (budget : ℕ) (w : List ℕ) (q : JobGiven bytes first definitions job parts budget w) where
+  pub fill-given : FillGiven bytes first definitions w
+  fill-given = record { small = q .table-small; space = q .space; table = q .table; table-stands = q .table-stands; count-is = q .count-is }
+
+  module _ (w₁ : List ℕ) (f : Filled bytes first definitions w w₁) where
+    pub start-given : StartGiven job parts w₁
+    start-given = record { space = omega (arith, q .space, f .same-length); the-job = q .the-job; job-stands = q .job-stands; parts-are = q .parts-are }
+
+    module _ (w₂ : List ℕ) (s : State) (b : Starts job parts w₁ w₂ s) where
+      arities-there : (T : Table) → TableStands bytes first T → UniqueDefinitions T → definitions ≡ length (T .definitions) → ArityTable w₂ (arities T)
+      arities-there T st unique c = known-same w₁ w₂ (arities T) (b .beyond) (f .filled T st unique c)
+
+      pub run-given : Started bytes first job w₂ s budget
+      run-given = record {
+        steps-left = omega (arith, b .no-steps, q .budget-fits);
+        space = omega (arith, q .space, f .same-length, b .same-length);
+        table-small = q .table-small;
+        job-small = omega (arith, q .job-stands .short);
+        table = q .table;
+        table-stands = q .table-stands;
+        known = arities-there (q .table) (q .table-stands) (q .unique) (q .count-is);
+        term = q .the-job .term;
+        goals = q .the-job .goals;
+        frames = [];
+        runs = b .runs bytes (q .the-job) (q .job-stands) (q .parts-are);
+      }
+
+      module _ (w₃ : List ℕ) (r : State) (a : Ran bytes first job w₂ s budget w₃ r) where
+        -- what the last state shows
+        last : (T : Table) (j : Job) → TableStands bytes first T → UniqueDefinitions T → definitions ≡ length (T .definitions) → JobStands job j → jobPartsOf j ≡ parts
+            → ShowsState bytes job w₃ r (M.run T budget (M.start (j .term) (j .goals)))
+        unfolding M.start
+        last T j st unique c js p =
+            subst (λ (n : ℕ). ShowsState bytes job w₃ r (M.run T budget (after n (running (j .term) (j .goals) [])))) (b .no-steps)
+            (a .shows T (j .term) (j .goals) [] st (arities-there T st unique c) (b .runs bytes j js p))
+
+        pub finish-given : FinishGiven job (parts .term) w₃ r
+        finish-given =
+            let l = last (q .table) (q .the-job) (q .table-stands) (q .unique) (q .count-is) (q .job-stands) (q .parts-are) in
+            record {
+              few-steps = omega (arith, a .few-steps, b .no-steps, q .budget-fits);
+              space = omega (arith, q .space, f .same-length, b .same-length, a .same-length);
+              the-job = q .the-job;
+              job-stands = q .job-stands;
+              term-is = term-place job (q .the-job) parts (q .job-stands) (q .parts-are);
+              table = bytes;
+              control = M.run (q .table) budget (M.start (q .the-job .term) (q .the-job .goals)) .control;
+              shows = l .shows;
+            }
+
+        pub job-end : (o : List ℕ) (x : Answer) (v : List ℕ) → Finishes job w₃ r o x v → JobRan bytes first definitions job parts budget o x v
+        unfolding runResult
+        job-end o x v h T j st unique c js p =
+            let l = last T j st unique c js p in
+            let σ = M.run T budget (M.start (j .term) (j .goals)) in
+            subst (λ (n : ℕ). Leaves (runEnd j n (σ .control)) o x v) (l .steps-are) (h bytes j (σ .control) js (l .shows))

@@ -1,0 +1,92 @@
+-- A job run in a table that stands: what the code is given, and the answer and the output space that entries define.
+use Prim.Native.Nat.{ℕ, _+_, _*_, _≤_, _<_}
+use mathlib.Core.Path.{_≡_}
+use mathlib.Core.List.{List, [], _++_}
+use lib.ListN.{length, getD, drop}
+use Rattle.format.specs.declared.values.Goal.{Goal}
+use Rattle.format.specs.Limits.{mostSteps}
+use Rattle.format.specs.Terms.{Term}
+use Rattle.tables.specs.Tables.{Table, UniqueDefinitions}
+use Rattle.tables.specs.Standing.{TableStands}
+use Rattle.files.specs.declared.jobs.JobParts.{JobParts}
+use Rattle.files.specs.Proofs.{proofBytes}
+use Rattle.files.specs.Jobs.{Job}
+use Rattle.files.specs.Counts.{jobTermPlace}
+use Rattle.files.specs.Standing.{JobStands}
+use Rattle.files.specs.Shapes.{jobPartsOf}
+use Rattle.hitac.specs.Machine as M
+use Rattle.answers.specs.declared.Answer.{Answer}
+use Rattle.entries.specs.Outcomes.{Outcome}
+use Rattle.entries.specs.LentSpace.{writeOut}
+use Rattle.entries.specs.Run.{runEnd, runResult}
+use Rattle.machine.specs.declared.state.State.{State}
+use Rattle.arities.specs.Layout.{framesEnd, spaceEnd}
+use Rattle.machine.specs.Shows.{Runs, Proved, Shows}
+
+-- the first state
+pub record StartGiven (job : List ℕ) (parts : JobParts) (w : List ℕ) : Type 0 where
+  pub space : spaceEnd ≤ length w
+  pub the-job : Job
+  pub job-stands : JobStands job the-job
+  pub parts-are : jobPartsOf the-job ≡ parts
+
+pub record Starts (job : List ℕ) (parts : JobParts) (w v : List ℕ) (r : State) : Type 0 where
+  pub same-length : length v ≡ length w
+  pub beyond : (i : ℕ) → framesEnd ≤ i → getD v i 0 ≡ getD w i 0
+  pub no-steps : r .steps ≡ 0
+  pub runs : (table : List ℕ) (j : Job) → JobStands job j → jobPartsOf j ≡ parts → Runs table job v r (j .term) (j .goals) []
+
+-- the proof file
+pub record FileGiven (job : List ℕ) (term : ℕ) (w : List ℕ) (s : State) (o : List ℕ) : Type 0 where
+  pub mode-is : s .mode ≡ 1
+  pub few-steps : s .steps ≤ mostSteps
+  pub space : spaceEnd ≤ length w
+  pub the-job : Job
+  pub job-stands : JobStands job the-job
+  pub term-is : jobTermPlace the-job ≡ term
+  pub table : List ℕ
+  pub control : M.Control
+  pub shows : Shows table job w s control
+  pub fits : term + s .out + 3 + s .count * 2 ≤ length o
+
+abbrev pub FileWritten : (job : List ℕ) → (term : ℕ) → List ℕ → State → List ℕ → List ℕ → Type 0
+FileWritten job term w s o v =
+    (table : List ℕ) (j : Job) (p : Term) (g : List Goal) → JobStands job j → jobTermPlace j ≡ term → Proved table job w s p g []
+    → v ≡ proofBytes (record { goals = j .goals; term = p; remaining = g }) ++ drop (term + s .out + 3 + s .count * 2) o
+
+-- the end of a run
+pub record FinishGiven (job : List ℕ) (term : ℕ) (w : List ℕ) (s : State) : Type 0 where
+  pub few-steps : s .steps ≤ mostSteps
+  pub space : spaceEnd ≤ length w
+  pub the-job : Job
+  pub job-stands : JobStands job the-job
+  pub term-is : jobTermPlace the-job ≡ term
+  pub table : List ℕ
+  pub control : M.Control
+  pub shows : Shows table job w s control
+
+-- the answer and the output space are those of an outcome, whatever the work space was
+pub record Leaves (outcome : Outcome (List ℕ)) (o : List ℕ) (r : Answer) (v : List ℕ) : Type 0 where
+  pub answer-is : (work : List ℕ) → r ≡ writeOut work o outcome .answer
+  pub output-is : (work : List ℕ) → v ≡ writeOut work o outcome .out
+
+abbrev pub Finishes : (job : List ℕ) → List ℕ → State → List ℕ → Answer → List ℕ → Type 0
+Finishes job w s o r v = (table : List ℕ) (j : Job) (κ : M.Control) → JobStands job j → Shows table job w s κ → Leaves (runEnd j (s .steps) κ) o r v
+
+-- the whole job
+pub record JobGiven (bytes : List ℕ) (first definitions : ℕ) (job : List ℕ) (parts : JobParts) (budget : ℕ) (w : List ℕ) : Type 0 where
+  pub budget-fits : budget ≤ mostSteps
+  pub space : spaceEnd ≤ length w
+  pub table-small : length bytes < 65536
+  pub table : Table
+  pub table-stands : TableStands bytes first table
+  pub unique : UniqueDefinitions table
+  pub count-is : definitions ≡ length (table .definitions)
+  pub the-job : Job
+  pub job-stands : JobStands job the-job
+  pub parts-are : jobPartsOf the-job ≡ parts
+
+abbrev pub JobRan : (bytes : List ℕ) → (first definitions : ℕ) → (job : List ℕ) → JobParts → (budget : ℕ) → List ℕ → Answer → List ℕ → Type 0
+JobRan bytes first definitions job parts budget o r v =
+    (T : Table) (j : Job) → TableStands bytes first T → UniqueDefinitions T → definitions ≡ length (T .definitions) → JobStands job j → jobPartsOf j ≡ parts
+    → Leaves (runResult j (M.run T budget (M.start (j .term) (j .goals)))) o r v
