@@ -1,5 +1,3 @@
-pub mod MemoryLaws
-pub mod FrameLaws
 pub mod KeepLaws
 pub mod WaitingLaws
 pub mod PopLaws

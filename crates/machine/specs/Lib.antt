@@ -1,5 +1,3 @@
-pub mod Memory
-pub mod Frames
 pub mod Shows
 pub mod Popping
 pub mod Begun

@@ -6,7 +6,6 @@ use lib.ListN.{length, getD}
 use Rattle.format.specs.declared.values.Goal.{Goal}
 use Rattle.format.specs.Limits.{mostSteps}
 use Rattle.format.specs.Terms.{Term}
-use Rattle.format.specs.Standing.{Stands}
 use Rattle.tables.specs.Tables.{Table}
 use Rattle.tables.specs.Standing.{TableStands}
 use Rattle.hitac.specs.Machine as M

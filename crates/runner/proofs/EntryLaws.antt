@@ -9,7 +9,7 @@ use lib.Dec.{ltb}
 use lib.ListN.{length, drop, replicate}
 use borrow.Author.Tests.{lt-ltb, le-ltb}
 use Rattle.format.specs.Limits.{mostSteps}
-use Rattle.format.specs.Refusals.{Cause, number, budgetTooLarge, workTooShort, outputTooShort}
+use Rattle.format.specs.Refusals.{Cause, number, budgetTooLarge, outputTooShort}
 use Rattle.format.specs.Results.{gives, refused}
 use Rattle.tables.specs.declared.fields.TableRead.the-variants as R
 use Rattle.tables.specs.Tables.{Table}
@@ -20,14 +20,14 @@ use Rattle.tables.proofs.ReadsTable.{reads-unique-definitions}
 use Rattle.files.specs.declared.jobs.JobParts.{JobParts}
 use Rattle.files.specs.declared.jobs.JobRead.the-variants as J
 use Rattle.files.specs.Jobs.{Job, readJob}
-use Rattle.files.specs.Shapes.{jobPartsOf, jobShape}
+use Rattle.files.specs.Shapes.{jobShape}
 use Rattle.files.proofs.Answers as files
 use Rattle.files.proofs.RefusedFiles.{Job-refused}
 use Rattle.files.proofs.WhatStands.{job-stands}
 use Rattle.hitac.specs.Machine as M
 use Rattle.answers.specs.declared.Answer.{Answer}
 use Rattle.answers.specs.Answers as said
-use Rattle.entries.specs.Outcomes.{Outcome, success, refusal, inFile, tableFile, otherFile, noFile}
+use Rattle.entries.specs.Outcomes.{Outcome, success, refusal, tableFile, otherFile, noFile}
 use Rattle.entries.specs.LentSpace.{cleared, Written, writeOut, writeIn}
 use Rattle.entries.specs.Run.{runResult, runOutcome, runWork, runTactic}
 use Rattle.arities.specs.Layout.{spaceEnd}

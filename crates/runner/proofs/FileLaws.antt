@@ -1,19 +1,18 @@
 -- The proof file of a run that succeeded: each copy and the header put a block behind what was written before, and the blocks are the encodings of what
 -- stands in the job's file and in work space.
 -- Assumes nothing.
-use Prim.Native.Nat.{ℕ, zero, suc, _+_, _*_, _-_, _/_, _%_, _≤_, _<_}
+use Prim.Native.Nat.{ℕ, suc, _+_, _*_, _-_, _/_, _%_, _≤_}
 use mathlib.Core.Path.{_≡_, refl, sym, ap, ap₂, subst, _∙_}
 use mathlib.Core.List.{List, [], _∷_, _++_, append-assoc}
-use native.Mathlib.Nat.{suc-add, zero-add, add-zero}
 use native.Mathlib.Omega.{arith}
 use lib.ListN.{length, getD, set, take, drop, length-drop, length-append}
-use lib.Seq.{paste, take-at, drop-at, drop-drop, drop-cons, length-take-le}
+use lib.Seq.{paste, take-at, drop-at, drop-drop, drop-cons}
 use Rattle.words.specs.Word.{putWord}
 use Rattle.format.specs.declared.values.Goal.{Goal}
 use Rattle.format.specs.Goals.{goalsAt}
 use Rattle.format.specs.Terms.{Term, size}
-use Rattle.format.specs.Standing.{Head, Stands}
-use Rattle.format.specs.Encoding.{Bytes, wordBytes, fieldBytes, termBytes, goalBytes, goalListBytes}
+use Rattle.format.specs.Standing.{Stands}
+use Rattle.format.specs.Encoding.{Bytes, wordBytes, termBytes, goalBytes, goalListBytes}
 use Rattle.format.proofs.Encoded.{length-termBytes, term-bytes}
 use Rattle.format.proofs.GoalBytes.{length-goalBytes, goals-bytes}
 use Rattle.format.proofs.GoalListBytes.{list-bytes}
@@ -23,8 +22,8 @@ use Rattle.files.specs.Jobs.{Job}
 use Rattle.files.specs.Counts.{jobTermPlace}
 use Rattle.files.specs.Standing.{JobStands}
 use Rattle.machine.specs.declared.state.State.{State}
-use Rattle.machine.specs.Frames.{putHeader}
-use Rattle.machine.specs.Shows.{GoalsIs, FramesAt, Proved}
+use Rattle.frames.specs.Frames.{putHeader}
+use Rattle.machine.specs.Shows.{FramesAt, Proved}
 
 -- so much has been written at the beginning of a list
 pub record Written (o x v : List ℕ) : Type 0 where

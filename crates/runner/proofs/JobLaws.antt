@@ -6,12 +6,11 @@ use mathlib.Core.Bool.{Bool, true, false, cond}
 use mathlib.Core.List.{List, [], _++_}
 use native.Mathlib.Omega.{arith}
 use lib.Dec.{ltb}
-use lib.ListN.{length, getD, drop}
+use lib.ListN.{length, drop}
 use lib.Seq.{paste}
 use borrow.Author.Tests.{lt-ltb, le-ltb}
 use Rattle.format.specs.declared.values.Goal.{Goal}
-use Rattle.format.specs.Limits.{mostSteps}
-use Rattle.format.specs.Refusals.{Cause, number, joinedTooLong, tacticFailed, budgetSpent, outputTooShort}
+use Rattle.format.specs.Refusals.{Cause, number, tacticFailed, budgetSpent}
 use Rattle.format.specs.Goals.{goalsAt}
 use Rattle.format.specs.Terms.{Term, size}
 use Rattle.format.specs.Standing.{Stands}
@@ -25,24 +24,23 @@ use Rattle.files.specs.Jobs.{Job}
 use Rattle.files.specs.Counts.{jobTermPlace}
 use Rattle.files.specs.Standing.{JobStands}
 use Rattle.files.specs.Shapes.{jobPartsOf}
-use Rattle.hitac.specs.Outcomes.{Ending, proved, failed, ended}
 use Rattle.hitac.specs.Machine as M
-use Rattle.hitac.specs.Machine.{Control, running, stopped, after}
+use Rattle.hitac.specs.Machine.{running, stopped, after}
 use Rattle.answers.specs.declared.Answer.{Answer}
 use Rattle.answers.specs.Answers as said
-use Rattle.entries.specs.Outcomes.{Outcome, success, refusal, noFile}
+use Rattle.entries.specs.Outcomes.{success, refusal}
 use Rattle.entries.specs.LentSpace.{cleared, Written, writeOut}
 use Rattle.entries.specs.Run.{runEnd, runResult}
 use Rattle.machine.specs.declared.state.State.{State}
-use Rattle.arities.specs.Layout.{outputEnd, framesEnd, spaceEnd}
-use Rattle.machine.specs.Memory.{Only}
-use Rattle.machine.specs.Frames.{putHeader}
-use Rattle.machine.specs.Shows.{GoalsIs, FramesAt, setAside, Runs, Proved, Ends, Shows}
+use Rattle.arities.specs.Layout.{outputEnd, framesEnd}
+use Rattle.frames.specs.Memory.{Only}
+use Rattle.frames.specs.Frames.{putHeader}
+use Rattle.machine.specs.Shows.{FramesAt, setAside, Proved}
 use Rattle.arities.specs.Arities.{ArityTable, arities}
 use Rattle.arities.specs.Rounds.{FillGiven, Filled}
 use Rattle.runner.specs.Run.{ShowsState, Started, Ran}
 use Rattle.runner.specs.Jobs.{StartGiven, Starts, FileGiven, FileWritten, FinishGiven, Leaves, Finishes, JobGiven, JobRan}
-use Rattle.machine.proofs.MemoryLaws.{only-copy}
+use Rattle.frames.proofs.MemoryLaws.{only-copy}
 use Rattle.machine.proofs.WaitingLaws.{if-proved, if-failed, if-ended}
 use Rattle.runner.proofs.RunLaws.{known-same, if-running, if-stopped}
 use Rattle.runner.proofs.FileLaws.{file-size, file-written}

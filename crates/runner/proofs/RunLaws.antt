@@ -8,10 +8,8 @@ use mathlib.Core.Option.{Option}
 use native.Mathlib.Omega.{arith}
 use lib.Dec.{eqb}
 use lib.ListN.{length, getD}
-use Rattle.words.specs.Word.{word}
 use Rattle.format.specs.declared.values.Goal.{Goal}
 use Rattle.format.specs.declared.values.TacticNo.{TacticNo}
-use Rattle.format.specs.Limits.{mostSteps}
 use Rattle.format.specs.Terms.{Term}
 use Rattle.tables.specs.Tables.{Table}
 use Rattle.tables.specs.Standing.{TableStands}
@@ -20,12 +18,12 @@ use Rattle.hitac.specs.Machine as M
 use Rattle.hitac.specs.Machine.{Control, running, stopped, after, stepFrom, step, run}
 use Rattle.hitac.proofs.RunLaws.{run-stopped}
 use Rattle.machine.specs.declared.state.State.{State}
-use Rattle.arities.specs.Layout.{framesEnd, spaceEnd}
+use Rattle.arities.specs.Layout.{framesEnd}
 use Rattle.machine.specs.Shows.{source, Runs, Ends, Shows}
 use Rattle.arities.specs.Arities.{ArityTable, arities}
 use Rattle.machine.specs.Step.{Grown, Given, Stepped}
 use Rattle.runner.specs.Run.{ShowsState, Started, Ran}
-use Rattle.machine.proofs.MemoryLaws.{same-word}
+use Rattle.frames.proofs.MemoryLaws.{same-word}
 use Rattle.machine.proofs.UnwindLaws.{not-running}
 
 -- what is left of the run comes to the same

@@ -9,14 +9,12 @@ ghost use Rattle.runner.specs.Jobs.{Leaves};
 use crate::job::run_job;
 use answers::Answer;
 use answers::refusal;
+use arities::layout::SPACE_END;
 use files::jobs::JobRead;
 use files::jobs::read_job;
 use tables::fields::TableRead;
 use tables::table::read_table;
 use words::clear;
-
-// The size of the work space that is named for this entry; SPACE_END of it are used.
-const WORK: usize = 1290752;
 
 // Both files, within the budget's limit, in a work space that is long enough.
 fn run_files(table: &[u8], job: &[u8], budget: usize, work: &mut [u8], out: &mut [u8]) -> Answer
@@ -55,7 +53,7 @@ pub fn run(table: &[u8], job: &[u8], budget: u32, work: &mut [u8], out: &mut [u8
     ensures { λ _. ⌜ now (work .exit) ≡ runTactic (now (table .entry)) (now (job .entry)) budget (now (work .entry)) (now (out .entry)) .work ⌝ }
     ensures { λ _. ⌜ now (out .exit) ≡ runTactic (now (table .entry)) (now (job .entry)) budget (now (work .entry)) (now (out .entry)) .out ⌝ }
 {
-    if work.len() < WORK {
+    if work.len() < SPACE_END {
         return refusal(29, 0, 0, 0);
     }
     let answer = run_budget(table, job, budget, work, out);

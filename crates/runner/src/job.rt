@@ -12,7 +12,7 @@ use arities::layout::FRAMES_END;
 use arities::layout::OUTPUT_END;
 use arities::rounds::fill_arities;
 use files::jobs::JobParts;
-use machine::frames::put_header;
+use frames::put_header;
 use machine::state::FAILED;
 use machine::state::PROVED;
 use machine::state::RUNNING;

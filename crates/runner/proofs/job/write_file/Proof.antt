@@ -8,7 +8,7 @@ use Rattle.runner.proofs.job.write_file.Statement.{statement}
 use Rattle.runner.proofs.job.write_file.Tie as tie
 use Rattle.runner.proofs.job.write_file.Reads as reads
 use Rattle.runner.proofs.job.write_file.Lts as lts
-use Rattle.machine.proofs.frames.put_header.Reads as put-header-reads
+use Rattle.frames.proofs.put_header.Reads as put-header-reads
 use Rattle.words.proofs.copy_in.Reads as copy-in-reads
 
 add-behind : tie.Need-add-behind

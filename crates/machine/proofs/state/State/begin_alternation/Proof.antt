@@ -6,7 +6,7 @@ use Rattle.machine.proofs.state.State.begin_alternation.Statement.{stat
 use Rattle.machine.proofs.state.State.begin_alternation.Tie as tie
 use Rattle.machine.proofs.state.State.begin_alternation.Reads as reads
 use Rattle.machine.proofs.state.State.begin_alternation.Lts as lts
-use Rattle.machine.proofs.frames.store_frame.Reads as store-frame-reads
+use Rattle.frames.proofs.store_frame.Reads as store-frame-reads
 
 sub-top : tie.Need-sub-top
 sub-top c = search needs

@@ -8,7 +8,7 @@ use Rattle.machine.proofs.state.State.pop_failed.Statement.{statement}
 use Rattle.machine.proofs.state.State.pop_failed.Tie as tie
 use Rattle.machine.proofs.state.State.pop_failed.Reads as reads
 use Rattle.machine.proofs.state.State.pop_failed.Lts as lts
-use Rattle.machine.proofs.frames.load_frame.Reads as load-frame-reads
+use Rattle.frames.proofs.load_frame.Reads as load-frame-reads
 use Rattle.machine.proofs.state.State.leave.Reads as leave-reads
 
 load-frame-requires : tie.Need-load-frame-requires

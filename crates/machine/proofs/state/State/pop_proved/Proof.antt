@@ -8,7 +8,7 @@ use Rattle.machine.proofs.state.State.pop_proved.Statement.{statement}
 use Rattle.machine.proofs.state.State.pop_proved.Tie as tie
 use Rattle.machine.proofs.state.State.pop_proved.Reads as reads
 use Rattle.machine.proofs.state.State.pop_proved.Lts as lts
-use Rattle.machine.proofs.frames.load_frame.Reads as load-frame-reads
+use Rattle.frames.proofs.load_frame.Reads as load-frame-reads
 use Rattle.machine.proofs.state.State.join.Reads as join-reads
 use Rattle.machine.proofs.state.State.leave.Reads as leave-reads
 use Rattle.machine.proofs.state.State.turn.Reads as turn-reads

@@ -3,7 +3,7 @@
 use mathlib.Core.Path.{ap, _∙_}
 use mathlib.Core.List.{List}
 use Prim.Native.Nat.{ℕ, _-_}
-use Rattle.machine.specs.Frames.{putFrame}
+use Rattle.frames.specs.Frames.{putFrame}
 use Rattle.machine.specs.Begun.{tensorFrame}
 use Rattle.machine.proofs.FormLaws.{split-end}
 use borrow.Author.Needs.{needs}
@@ -11,8 +11,8 @@ use Rattle.machine.proofs.state.State.split.Statement.{statement}
 use Rattle.machine.proofs.state.State.split.Tie as tie
 use Rattle.machine.proofs.state.State.split.Reads as reads
 use Rattle.machine.proofs.state.State.split.Lts as lts
-use Rattle.machine.proofs.frames.put_header.Reads as put-header-reads
-use Rattle.machine.proofs.frames.store_frame.Reads as store-frame-reads
+use Rattle.frames.proofs.put_header.Reads as put-header-reads
+use Rattle.frames.proofs.store_frame.Reads as store-frame-reads
 
 sub-top : tie.Need-sub-top
 sub-top c = search needs

@@ -8,7 +8,7 @@ use Rattle.machine.proofs.state.State.turn_beside.Statement.{statement}
 use Rattle.machine.proofs.state.State.turn_beside.Tie as tie
 use Rattle.machine.proofs.state.State.turn_beside.Reads as reads
 use Rattle.machine.proofs.state.State.turn_beside.Lts as lts
-use Rattle.machine.proofs.frames.store_frame.Reads as store-frame-reads
+use Rattle.frames.proofs.store_frame.Reads as store-frame-reads
 
 cast-t10 : tie.Need-cast-t10
 cast-t10 c =

@@ -7,7 +7,7 @@ use Rattle.machine.proofs.state.State.use_rule.Statement.{statement}
 use Rattle.machine.proofs.state.State.use_rule.Tie as tie
 use Rattle.machine.proofs.state.State.use_rule.Reads as reads
 use Rattle.machine.proofs.state.State.use_rule.Lts as lts
-use Rattle.machine.proofs.frames.put_header.Reads as put-header-reads
+use Rattle.frames.proofs.put_header.Reads as put-header-reads
 use Rattle.words.proofs.copy_in.Reads as copy-in-reads
 use Rattle.words.proofs.store16.Reads as store16-reads
 

@@ -1,11 +1,11 @@
--- `frames::load32` meets its contract: two values of 16 bits are one of 32.
+-- `load32` meets its contract: two values of 16 bits are one of 32.
 -- Assumes nothing.
-use Rattle.machine.specs.Frames.{long}
+use Rattle.frames.specs.Frames.{long}
 use borrow.Author.Needs.{needs}
-use Rattle.machine.proofs.frames.load32.Statement.{statement}
-use Rattle.machine.proofs.frames.load32.Tie as tie
-use Rattle.machine.proofs.frames.load32.Reads as reads
-use Rattle.machine.proofs.frames.load32.Lts as lts
+use Rattle.frames.proofs.load32.Statement.{statement}
+use Rattle.frames.proofs.load32.Tie as tie
+use Rattle.frames.proofs.load32.Reads as reads
+use Rattle.frames.proofs.load32.Lts as lts
 use Rattle.words.proofs.load16.Reads as load16-reads
 
 load16-requires : tie.Need-load16-requires

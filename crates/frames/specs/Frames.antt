@@ -3,7 +3,7 @@ use Prim.Native.Nat.{ℕ, _+_, _*_, _/_, _%_}
 use mathlib.Core.List.{List}
 use lib.ListN.{set}
 use Rattle.words.specs.Word.{word, putWord}
-use Rattle.machine.specs.declared.frames.Frame.{Frame}
+use Rattle.frames.specs.declared.Frame.{Frame}
 
 -- a value of 32 bits, high byte first
 unfoldable pub long : List ℕ → (at : ℕ) → ℕ

@@ -1,11 +1,11 @@
--- `frames::store32` meets its contract: the high and the low half are stored.
+-- `store32` meets its contract: the high and the low half are stored.
 -- Assumes nothing.
-use Rattle.machine.specs.Frames.{putLong}
+use Rattle.frames.specs.Frames.{putLong}
 use borrow.Author.Needs.{needs}
-use Rattle.machine.proofs.frames.store32.Statement.{statement}
-use Rattle.machine.proofs.frames.store32.Tie as tie
-use Rattle.machine.proofs.frames.store32.Reads as reads
-use Rattle.machine.proofs.frames.store32.Lts as lts
+use Rattle.frames.proofs.store32.Statement.{statement}
+use Rattle.frames.proofs.store32.Tie as tie
+use Rattle.frames.proofs.store32.Reads as reads
+use Rattle.frames.proofs.store32.Lts as lts
 use Rattle.words.proofs.store16.Reads as store16-reads
 
 cast-store16 : tie.Need-cast-store16

@@ -1,21 +1,19 @@
 -- A write leaves bytes, values, goals and terms that lie elsewhere as they were: from what words and format say of one write, and for terms by induction.
 -- Assumes nothing.
-use Prim.Native.Nat.{ℕ, _+_, _*_, _/_, _%_, _≤_, _<_}
+use Prim.Native.Nat.{ℕ, _+_, _*_, _≤_, _<_}
 use mathlib.Core.Path.{_≡_, refl, ap, ap₂, _∙_}
 use mathlib.Core.List.{List}
 use native.Mathlib.Omega.{arith}
 use lib.ListN.{length, getD, set, drop, length-set, length-drop}
 use lib.Seq.{paste, getD-set-other, length-paste}
 use Rattle.words.specs.Word.{word, putWord}
-use Rattle.words.specs.Kept.{Kept}
 use Rattle.words.proofs.WordLaws.{length-putWord}
 use Rattle.words.proofs.KeptLaws.{kept-put, kept-copy}
-use Rattle.format.specs.declared.values.Goal.{Goal}
 use Rattle.format.specs.Goals.{goalsAt}
 use Rattle.format.specs.Terms.{Term, atomic, id, label, sequence, tensor, empty, alternation, assert, defined, size}
 use Rattle.format.specs.Standing.{Head, Stands}
 use Rattle.format.proofs.GoalsAt.{goals-shift}
-use Rattle.machine.specs.Memory.{Same, Only}
+use Rattle.frames.specs.Memory.{Same, Only}
 
 pub only-nothing : (a b : ℕ) (w : List ℕ) → Only a b w w
 only-nothing a b w = record { same-length = refl; kept = record { below = λ i h. refl; above = λ i h. refl } }

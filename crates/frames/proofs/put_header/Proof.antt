@@ -1,11 +1,11 @@
--- `frames::put_header` meets its contract: length, then tag.
+-- `put_header` meets its contract: length, then tag.
 -- Assumes nothing.
-use Rattle.machine.specs.Frames.{putHeader}
+use Rattle.frames.specs.Frames.{putHeader}
 use borrow.Author.Needs.{needs}
-use Rattle.machine.proofs.frames.put_header.Statement.{statement}
-use Rattle.machine.proofs.frames.put_header.Tie as tie
-use Rattle.machine.proofs.frames.put_header.Reads as reads
-use Rattle.machine.proofs.frames.put_header.Lts as lts
+use Rattle.frames.proofs.put_header.Statement.{statement}
+use Rattle.frames.proofs.put_header.Tie as tie
+use Rattle.frames.proofs.put_header.Reads as reads
+use Rattle.frames.proofs.put_header.Lts as lts
 use Rattle.words.proofs.store16.Reads as store16-reads
 
 add-store16 : tie.Need-add-store16

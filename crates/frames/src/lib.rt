@@ -2,7 +2,7 @@
 ghost use mathlib.Core.Path.{_≡_};
 ghost use Prim.Native.Nat.{_+_, _<_};
 ghost use lib.ListN.{length};
-ghost use Rattle.machine.specs.Frames.{long, putLong, frameAt, putFrame, putHeader};
+ghost use Rattle.frames.specs.Frames.{long, putLong, frameAt, putFrame, putHeader};
 use words::load16;
 use words::store16;
 

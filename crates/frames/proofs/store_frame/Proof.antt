@@ -1,12 +1,12 @@
--- `frames::store_frame` meets its contract: each value is stored at its place.
+-- `store_frame` meets its contract: each value is stored at its place.
 -- Assumes nothing.
-use Rattle.machine.specs.Frames.{putFrame}
+use Rattle.frames.specs.Frames.{putFrame}
 use borrow.Author.Needs.{needs}
-use Rattle.machine.proofs.frames.store_frame.Statement.{statement}
-use Rattle.machine.proofs.frames.store_frame.Tie as tie
-use Rattle.machine.proofs.frames.store_frame.Reads as reads
-use Rattle.machine.proofs.frames.store_frame.Lts as lts
-use Rattle.machine.proofs.frames.store32.Reads as store32-reads
+use Rattle.frames.proofs.store_frame.Statement.{statement}
+use Rattle.frames.proofs.store_frame.Tie as tie
+use Rattle.frames.proofs.store_frame.Reads as reads
+use Rattle.frames.proofs.store_frame.Lts as lts
+use Rattle.frames.proofs.store32.Reads as store32-reads
 use Rattle.words.proofs.store16.Reads as store16-reads
 
 store16-requires : tie.Need-store16-requires

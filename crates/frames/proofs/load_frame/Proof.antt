@@ -1,12 +1,12 @@
--- `frames::load_frame` meets its contract: each value is loaded from its place.
+-- `load_frame` meets its contract: each value is loaded from its place.
 -- Assumes nothing.
-use Rattle.machine.specs.Frames.{frameAt}
+use Rattle.frames.specs.Frames.{frameAt}
 use borrow.Author.Needs.{needs}
-use Rattle.machine.proofs.frames.load_frame.Statement.{statement}
-use Rattle.machine.proofs.frames.load_frame.Tie as tie
-use Rattle.machine.proofs.frames.load_frame.Reads as reads
-use Rattle.machine.proofs.frames.load_frame.Lts as lts
-use Rattle.machine.proofs.frames.load32.Reads as load32-reads
+use Rattle.frames.proofs.load_frame.Statement.{statement}
+use Rattle.frames.proofs.load_frame.Tie as tie
+use Rattle.frames.proofs.load_frame.Reads as reads
+use Rattle.frames.proofs.load_frame.Lts as lts
+use Rattle.frames.proofs.load32.Reads as load32-reads
 use Rattle.words.proofs.load16.Reads as load16-reads
 
 load16-requires : tie.Need-load16-requires

@@ -11,10 +11,10 @@ use lib.Seq.{getD-set-same}
 use Rattle.words.specs.Word.{word, putWord}
 use Rattle.words.proofs.WordLaws.{length-putWord, word-same, word-other}
 use Rattle.format.specs.Standing.{Head}
-use Rattle.machine.specs.declared.frames.Frame.{Frame}
-use Rattle.machine.specs.Memory.{Same, Only}
-use Rattle.machine.specs.Frames.{long, putLong, frameAt, putFrame, putHeader}
-use Rattle.machine.proofs.MemoryLaws.{only-set, only-then, only-wider, only-word, same-word}
+use Rattle.frames.specs.declared.Frame.{Frame}
+use Rattle.frames.specs.Memory.{Same, Only}
+use Rattle.frames.specs.Frames.{long, putLong, frameAt, putFrame, putHeader}
+use Rattle.frames.proofs.MemoryLaws.{only-set, only-then, only-wider, only-word, same-word}
 
 pub only-long : (w : List ℕ) (at v : ℕ) → Only at (at + 4) w (putLong w at v)
 unfolding putLong
