@@ -116,6 +116,13 @@ module _ (s : List ℕ) (at : ℕ) (b : Bool) (tag len : ℕ) (e : headerAt s at
       let f = is-field s at (length s) entryKind entryKind b tag len e in
       fixed 33 2 (entry-tag tag (f .above) (f .below) q) refl refl
 
+  -- where the reader moves behind the entry
+  pub behind-use : (next : ℕ) → tag ≡ 32 → next ≡ at + 3 + len → next ≡ at + 7
+  behind-use next q m = omega (arith, is-field s at (length s) entryKind entryKind b tag len e .the-length, use-head q .length-is, m)
+
+  pub behind-open : (next : ℕ) → (tag ≡ 32 → ⊥) → next ≡ at + 3 + len → next ≡ at + 5
+  behind-open next q m = omega (arith, is-field s at (length s) entryKind entryKind b tag len e .the-length, open-head q .length-is, m)
+
 -- an entry counts once, whether before or behind it
 with-use : (a : RuleName) (γ : Goal) (u o : ℕ) (x : Result (List Entry)) → entriesShape u o (withEntry (useEntry a γ) x) ≡ entriesShape (u + 1) o x
 unfolding entriesShape told withEntry andThen usesIn opensIn
@@ -143,17 +150,17 @@ module _ (s : List ℕ) (at u o : ℕ) where
   turn-refused zero k p l h e = absurd (omega arith)
   turn-refused (suc f) k p l h e = rw (step f l) (first-refused header-tells (λ g. (g .tag, g .len)) E.Refused (counts u o) (entriesOf (readEntries f s) s at u o) _ k p e)
 
-  pub turn-use : (f tag len : ℕ) → at < length s → length s - at < f → headerAt s at (length s) entryKind entryKind (full s at u o) ≡ gives (header tag len) → tag ≡ 32
-      → (g : ℕ) × (length s - (at + 7) < g) × (entriesShape u o (readEntries f s at u o) ≡ entriesShape (u + 1) o (readEntries g s (at + 7) (u + 1) o))
+  pub turn-use : (f tag len next : ℕ) → at < length s → length s - at < f → headerAt s at (length s) entryKind entryKind (full s at u o) ≡ gives (header tag len) → tag ≡ 32 → next ≡ at + 7
+      → (g : ℕ) × (length s - next < g) × (entriesShape u o (readEntries f s at u o) ≡ entriesShape (u + 1) o (readEntries g s next (u + 1) o))
   unfolding andThen entriesOf
-  turn-use zero tag len l h e t = absurd (omega arith)
-  turn-use (suc f) tag len l h e t = (f, omega arith, rw (step f l, e, eq-eqb tag 32 t) (with-use _ _ u o _))
+  turn-use zero tag len next l h e t b = absurd (omega arith)
+  turn-use (suc f) tag len next l h e t b = (f, omega arith, rw (step f l, e, eq-eqb tag 32 t, b) (with-use _ _ u o _))
 
-  pub turn-open : (f tag len : ℕ) → at < length s → length s - at < f → headerAt s at (length s) entryKind entryKind (full s at u o) ≡ gives (header tag len) → (tag ≡ 32 → ⊥)
-      → (g : ℕ) × (length s - (at + 5) < g) × (entriesShape u o (readEntries f s at u o) ≡ entriesShape u (o + 1) (readEntries g s (at + 5) u (o + 1)))
+  pub turn-open : (f tag len next : ℕ) → at < length s → length s - at < f → headerAt s at (length s) entryKind entryKind (full s at u o) ≡ gives (header tag len) → (tag ≡ 32 → ⊥) → next ≡ at + 5
+      → (g : ℕ) × (length s - next < g) × (entriesShape u o (readEntries f s at u o) ≡ entriesShape u (o + 1) (readEntries g s next u (o + 1)))
   unfolding andThen entriesOf
-  turn-open zero tag len l h e t = absurd (omega arith)
-  turn-open (suc f) tag len l h e t = (f, omega arith, rw (step f l, e, ne-eqb tag 32 t) (with-open _ u o _))
+  turn-open zero tag len next l h e t b = absurd (omega arith)
+  turn-open (suc f) tag len next l h e t b = (f, omega arith, rw (step f l, e, ne-eqb tag 32 t, b) (with-open _ u o _))
 
 module _ (s : List ℕ) where
   flat-steps : readFlat s ≡ andThen (ofSize s (readGoals s 0 (length s))) (derivationOf s)

@@ -7,7 +7,7 @@ ghost use Rattle.files.specs.Shapes.{entriesShape, flatShape};
 use crate::stated::read_stated;
 use format::goals::GoalsRead;
 use format::headers::HeaderRead;
-use format::headers::read_header;
+use format::reader::next_field;
 use format::tags::ENTRY;
 
 // The tag of a use; the other entries are opens.
@@ -60,17 +60,17 @@ fn read_entries(s: &[u8], first: usize) -> EntriesRead
     let mut opens: usize = 0;
     while at < end {
         let full = is_full(s, at, uses, opens);
-        let header = read_header(s, at, end, ENTRY, ENTRY, full);
+        let field = next_field(s, at, end, ENTRY, ENTRY, full);
+        let header = field.header;
         match header {
             HeaderRead::Refused(number, place) => {
                 return EntriesRead::Refused(number, place);
             }
             HeaderRead::Field(tag, _) => {
+                at = field.next;
                 if tag == USE {
-                    at += 7;
                     uses += 1;
                 } else {
-                    at += 5;
                     opens += 1;
                 }
             }

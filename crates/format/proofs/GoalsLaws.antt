@@ -42,6 +42,6 @@ pub many-goals : (s : List ℕ) (at tag len : ℕ) → ltb mostGoals (len / 2) �
 unfolding goalsOf goalsShape told number
 many-goals s at tag len t = rw t
 
-pub few-goals : (s : List ℕ) (at tag len : ℕ) → ltb mostGoals (len / 2) ≡ false → goalsShape (goalsOf s at (header tag len)) ≡ Read (len / 2) (at + 3 + len)
+pub few-goals : (s : List ℕ) (at tag len next : ℕ) → ltb mostGoals (len / 2) ≡ false → next ≡ at + 3 + len → goalsShape (goalsOf s at (header tag len)) ≡ Read (len / 2) next
 unfolding goalsOf goalsShape told
-few-goals s at tag len t = rw (t, length-goalsAt (len / 2) s (at + 3))
+few-goals s at tag len next t e = rw (t, length-goalsAt (len / 2) s (at + 3), e)

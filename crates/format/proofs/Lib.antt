@@ -2,6 +2,7 @@ pub mod ConstantTable
 pub mod Rows
 pub mod ResultLaws
 pub mod HeaderLaws
+pub mod ReaderLaws
 pub mod TermLaws
 pub mod GoalsLaws
 pub mod TermTags

@@ -49,11 +49,11 @@ header-refused x next k p e =
     told-refused H.Refused (λ h. H.Field (h .tag) (h .len)) Refused (λ t. Read (t .next) (t .count)) x next k p e
     (λ c q f. let a : number c ≡ k = cc in let b : q ≡ p = cc in rw (a, b)) (λ a f. let z : _≡_ {A = ℕ} 0 1 = cc in omega arith)
 
--- a header that was read
-pub header-read : (rec : ℕ → ℕ → ℕ → Result ParsedTerm) (s : List ℕ) (at n : ℕ) (x : Result Header) (tag len : ℕ) → x ≡ gives (header tag len)
-    → termShape (andThen x (termOf rec s at n)) ≡ termShape (contents rec s at tag (at + 3 + len) (n + 1) (innerOf tag))
+-- a header that was read, of a field that ends at `close`
+pub header-read : (rec : ℕ → ℕ → ℕ → Result ParsedTerm) (s : List ℕ) (at n : ℕ) (x : Result Header) (tag len close : ℕ) → x ≡ gives (header tag len) → close ≡ at + 3 + len
+    → termShape (andThen x (termOf rec s at n)) ≡ termShape (contents rec s at tag close (n + 1) (innerOf tag))
 unfolding andThen termOf
-header-read rec s at n x tag len e = rw e
+header-read rec s at n x tag len close e c = rw (e, c)
 
 closed-ending : (at end : ℕ) (t : Term) (next n : ℕ) → termShape (closed at end t next n) ≡ ending at end next n
 unfolding termShape told closed ending

@@ -11,3 +11,4 @@ pub mod Goals
 pub mod Encoding
 pub mod Standing
 pub mod Shapes
+pub mod Reader

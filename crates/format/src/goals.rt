@@ -5,7 +5,7 @@ ghost use lib.ListN.{length};
 ghost use Rattle.format.specs.Goals.{readGoals};
 ghost use Rattle.format.specs.Shapes.{goalsShape};
 use crate::headers::HeaderRead;
-use crate::headers::read_header;
+use crate::reader::next_field;
 use crate::tags::GOAL_LIST;
 
 // What reading a goal list finds: the refusal's number and place, or the number of goals and the offset behind the list.
@@ -19,7 +19,8 @@ pub fn read_goals(s: &[u8], at: usize, end: usize) -> GoalsRead
     requires { ⌜ (at ≤ end) × (end ≤ length (now s)) ⌝ }
     ensures { λ r. ⌜ r ≡ goalsShape (readGoals (now (s .entry)) at end) ⌝ }
 {
-    let header = read_header(s, at, end, GOAL_LIST, GOAL_LIST, false);
+    let field = next_field(s, at, end, GOAL_LIST, GOAL_LIST, false);
+    let header = field.header;
     match header {
         HeaderRead::Refused(number, place) => GoalsRead::Refused(number, place),
         HeaderRead::Field(_, len) => {
@@ -27,7 +28,7 @@ pub fn read_goals(s: &[u8], at: usize, end: usize) -> GoalsRead
             if 256 < count {
                 return GoalsRead::Refused(5, at);
             }
-            GoalsRead::Read(count, at + 3 + len)
+            GoalsRead::Read(count, field.next)
         }
     }
 }

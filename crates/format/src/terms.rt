@@ -5,7 +5,7 @@ ghost use lib.ListN.{length};
 ghost use Rattle.format.specs.ReadTerms.{readTerm};
 ghost use Rattle.format.specs.Shapes.{termShape, ending, Within};
 use crate::headers::HeaderRead;
-use crate::headers::read_header;
+use crate::reader::next_field;
 use crate::tags::HIPROOF;
 use crate::tags::inner_of;
 use crate::tags::least_of;
@@ -33,11 +33,12 @@ pub fn read_term(s: &[u8], at: usize, end: usize, high: u8, fields: usize) -> Te
     ensures { λ r. ⌜ ((f : ℕ) → end - at < f → r ≡ termShape (readTerm f (now (s .entry)) high at end fields)) ⌝ }
     ensures { λ r. ⌜ Within at end r ⌝ }
 {
-    let header = read_header(s, at, end, HIPROOF, high, 4096 <= fields);
+    let field = next_field(s, at, end, HIPROOF, high, 4096 <= fields);
+    let header = field.header;
     match header {
         HeaderRead::Refused(number, place) => TermRead::Refused(number, place),
-        HeaderRead::Field(tag, len) => {
-            let close = at + 3 + len;
+        HeaderRead::Field(tag, _) => {
+            let close = field.next;
             let inner = inner_of(tag);
             if inner == 0 {
                 return TermRead::Read(close, fields + 1);

@@ -220,24 +220,25 @@ unfolding told fieldTold number
 ending s at next m v true = refl
 ending s at next m v false = refl
 
-module _ (s : List ℕ) (at n tag len : ℕ) (x : Result Header) (e : x ≡ gives (header tag len)) where
-  pub rule-read : tag ≡ 1 → fieldShape (andThen x (fieldOf s at n)) ≡ F.Rule (at + 3 + len)
+-- the field ends at `close`
+module _ (s : List ℕ) (at n tag len : ℕ) (x : Result Header) (e : x ≡ gives (header tag len)) (close : ℕ) (c : close ≡ at + 3 + len) where
+  pub rule-read : tag ≡ 1 → fieldShape (andThen x (fieldOf s at n)) ≡ F.Rule close
   unfolding andThen fieldOf fieldShape told fieldTold
-  rule-read t = simp (e, eq-eqb tag 1 t)
+  rule-read t = simp (e, eq-eqb tag 1 t, c)
 
   module _ (other : tag ≡ 1 → ⊥) where
-    body : fieldShape (andThen x (fieldOf s at n)) ≡ fieldShape (andThen (readTerm (len + 1) s tacticKind (at + 5) (at + 3 + len) n) (definitionOf s at (at + 3 + len)))
+    body : fieldShape (andThen x (fieldOf s at n)) ≡ fieldShape (andThen (readTerm (len + 1) s tacticKind (at + 5) close n) (definitionOf s at close))
     unfolding andThen fieldOf
-    body = simp (e, ne-eqb tag 1 other)
+    body = simp (e, ne-eqb tag 1 other, c)
 
-    pub body-refused : (k p : ℕ) → termShape (readTerm (len + 1) s tacticKind (at + 5) (at + 3 + len) n) ≡ R.Refused k p → fieldShape (andThen x (fieldOf s at n)) ≡ F.Refused k p
+    pub body-refused : (k p : ℕ) → termShape (readTerm (len + 1) s tacticKind (at + 5) close n) ≡ R.Refused k p → fieldShape (andThen x (fieldOf s at n)) ≡ F.Refused k p
     unfolding termShape fieldShape
-    body-refused k p q = body ∙ told-refused R.Refused (λ t. R.Read (t .next) (t .count)) F.Refused fieldTold _ (definitionOf s at (at + 3 + len)) k p q
+    body-refused k p q = body ∙ told-refused R.Refused (λ t. R.Read (t .next) (t .count)) F.Refused fieldTold _ (definitionOf s at close) k p q
         (λ c j f. let a : number c ≡ k = cc in let b : j ≡ p = cc in rw (a, b)) (λ a f. let z : _≡_ {A = ℕ} 0 1 = cc in omega arith)
 
-    pub body-read : (next m : ℕ) (b : Bool) → eqb next (at + 3 + len) ≡ b → termShape (readTerm (len + 1) s tacticKind (at + 5) (at + 3 + len) n) ≡ R.Read next m
+    pub body-read : (next m : ℕ) (b : Bool) → eqb next close ≡ b → termShape (readTerm (len + 1) s tacticKind (at + 5) close n) ≡ R.Read next m
         → fieldShape (andThen x (fieldOf s at n)) ≡ cond b (F.Definition next m) (F.Refused 4 at)
     unfolding termShape fieldShape definitionOf
-    body-read next m b t q = body ∙ told-gives R.Refused (λ u. R.Read (u .next) (u .count)) F.Refused fieldTold _ (definitionOf s at (at + 3 + len)) (R.Read next m) _ q
+    body-read next m b t q = body ∙ told-gives R.Refused (λ u. R.Read (u .next) (u .count)) F.Refused fieldTold _ (definitionOf s at close) (R.Read next m) _ q
         (λ k p f. let z : _≡_ {A = ℕ} 0 1 = cc in omega arith)
         (λ u g f. let i : u .next ≡ next = cc in let j : u .count ≡ m = cc in rw (i, j, t) (ending s at next m (u .term) b))

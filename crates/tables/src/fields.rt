@@ -5,7 +5,7 @@ ghost use lib.ListN.{length};
 ghost use Rattle.tables.specs.ReadTables.{full, lowest, readField, readFields};
 ghost use Rattle.tables.specs.Shapes.{fieldShape, tableShape};
 use format::headers::HeaderRead;
-use format::headers::read_header;
+use format::reader::next_field;
 use format::tags::DEFINITION;
 use format::tags::RULE;
 use format::tags::TACTIC;
@@ -52,11 +52,12 @@ pub fn read_field(s: &[u8], at: usize, rules: usize, definitions: usize, fields:
     let end = s.len();
     let low = lowest_kind(definitions);
     let more = no_more(s, at, rules, definitions);
-    let header = read_header(s, at, end, low, DEFINITION, more);
+    let field = next_field(s, at, end, low, DEFINITION, more);
+    let header = field.header;
     match header {
         HeaderRead::Refused(number, place) => FieldRead::Refused(number, place),
-        HeaderRead::Field(tag, len) => {
-            let close = at + 3 + len;
+        HeaderRead::Field(tag, _) => {
+            let close = field.next;
             if tag == 1 {
                 return FieldRead::Rule(close);
             }

@@ -5,14 +5,12 @@ use borrow.Author.Needs.{needs}
 use borrow.Author.Tests.{lt-ltb, le-ltb}
 use Rattle.format.specs.Goals.{readGoals}
 use Rattle.format.proofs.GoalsLaws.{header-refused, header-read, many-goals, few-goals}
+use Rattle.format.proofs.ReaderLaws.{moves}
 use Rattle.format.proofs.goals.read_goals.Statement.{statement}
 use Rattle.format.proofs.goals.read_goals.Tie as tie
-use Rattle.format.proofs.goals.read_goals.Reads as reads
-use Rattle.format.proofs.goals.read_goals.Lts as lts
-use Rattle.format.proofs.headers.read_header.Reads as read-header-reads
 
-read-header-requires : tie.Need-read-header-requires
-read-header-requires c κs = search needs
+next-field-requires : tie.Need-next-field-requires
+next-field-requires c κs = search needs
 
 enum-known-header : tie.Need-enum-known-header
 enum-known-header c = search needs
@@ -22,31 +20,23 @@ enum-known-header-2 c = search needs
 
 returns : tie.Need-returns
 unfolding readGoals
-returns c = sym (header-read _ _ _ _ _ (sym (c .before .before .before .before .read-header .ensures) ∙ c .before .before .header2 .given .1) ∙ many-goals _ _ _ _ (lt-ltb _ _ (c .if1 .taken)))
-
-add-t11 : tie.Need-add-t11
-add-t11 c = search needs
-
-add-t12 : tie.Need-add-t12
-add-t12 c = search needs
+returns c = sym (header-read _ _ _ _ _ (sym (c .before .before .before .before .next-field .ensures .0) ∙ c .before .before .header2 .given .1) ∙ many-goals _ _ _ _ (lt-ltb _ _ (c .if1 .taken)))
 
 returns-2 : tie.Need-returns-2
 unfolding readGoals
-returns-2 c = sym (header-refused _ _ _ _ _ (sym (c .before .before .before .read-header .ensures) ∙ c .before .header .given .1))
+returns-2 c = sym (header-refused _ _ _ _ _ (sym (c .before .before .before .next-field .ensures .0) ∙ c .before .header .given .1))
 
 returns-3 : tie.Need-returns-3
 unfolding readGoals
-returns-3 c = sym (header-read _ _ _ _ _ (sym (c .before .before .before .before .read-header .ensures) ∙ c .before .before .header2 .given .1) ∙ few-goals _ _ _ _ (le-ltb _ _ (c .if1 .left)))
+returns-3 c = sym (header-read _ _ _ _ _ (sym (c .before .before .before .before .next-field .ensures .0) ∙ c .before .before .header2 .given .1) ∙ few-goals _ _ _ _ _ (le-ltb _ _ (c .if1 .left)) (c .before .before .before .before .next-field .ensures .1 ∙ moves _ _ _ _ (c .before .before .header2 .given .1)))
 
 pub read-goals-spec : {M : Type 1} → statement M
 read-goals-spec =
     tie.close
     (tie.spec
-    read-header-requires
+    next-field-requires
     enum-known-header
     enum-known-header-2
     returns
-    add-t11
-    add-t12
     returns-2
     returns-3)

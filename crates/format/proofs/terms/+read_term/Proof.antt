@@ -2,7 +2,7 @@
 -- At each return the header, and what the inner terms gave, say which case of `readTerm` holds, at every depth above the measure.
 -- Assumes nothing.
 use mathlib.Core.Path.{_≡_, sym, subst, _∙_}
-use Prim.Native.Nat.{ℕ, _<_, _-_}
+use Prim.Native.Nat.{ℕ, _+_, _<_, _-_}
 use native.Mathlib.Omega.{arith}
 use denote.Ref.{now}
 use lib.Dec.{leb}
@@ -17,11 +17,12 @@ use Rattle.format.specs.Headers.{header, headerAt}
 use Rattle.format.specs.ReadTerms.{contents}
 use Rattle.format.specs.Shapes.{termShape, Within}
 use Rattle.format.proofs.HeaderLaws.{IsField, is-field, told-field}
+use Rattle.format.proofs.ReaderLaws.{moves}
 use Rattle.format.proofs.TermLaws.{at-depth, header-refused, header-read, first-refused, one-read, second-refused, both-read, within-ending, within-read}
 use Rattle.format.proofs.terms.read_term.Reads as read-term
 use Rattle.format.proofs.terms.read_term.Kinds as read-term-kinds
 use Rattle.format.proofs.terms.+read_term.Lts-read_term as lts
-use Rattle.format.proofs.headers.read_header.Reads as read-header-reads
+use Rattle.format.proofs.reader.next_field.Reads as next-field-reads
 use Rattle.format.proofs.tags.inner_of.Reads as inner-of-reads
 use Rattle.format.proofs.tags.least_of.Reads as least-of-reads
 use Rattle.format.proofs.terms.closed.Reads as closed-reads
@@ -39,8 +40,8 @@ below t = and 1 read-term-kinds.ps (falls 1 read-term-kinds.ps _<_ μ t) read-te
 
 abbrev claims : ℕ → lts.Claims
 claims t = (
-  read-header-reads.Asked,
-  read-header-reads.Learnt,
+  next-field-reads.Asked,
+  next-field-reads.Learnt,
   inner-of-reads.Asked,
   inner-of-reads.Learnt,
   least-of-reads.Asked,
@@ -65,13 +66,15 @@ module _ (t : ℕ) where
   lenOf c = c .before .header2 .given .0 .1 .0
 
   header-is : (c : K) → headerAt (now (start c .args .s)) (start c .args .at) (start c .args .end) hiproofKind (start c .args .high) (leb mostTermFields (start c .args .fields)) ≡ gives (header (tagOf c) (lenOf c))
-  header-is c = told-field _ _ _ (sym (c .before .before .before .read-header .ensures) ∙ c .before .header2 .given .1)
+  header-is c = told-field _ _ _ (sym (c .before .before .before .next-field .ensures .0) ∙ c .before .header2 .given .1)
 
+  -- what is known of the field, which ends where the reader moves to
   field : (c : K) → IsField (now (start c .args .s)) (start c .args .at) (start c .args .end) hiproofKind (start c .args .high) (leb mostTermFields (start c .args .fields)) (tagOf c) (lenOf c)
-  field c = is-field _ _ _ _ _ _ _ _ (header-is c)
+      × (c .before .before .before .next-field .result .next ≡ start c .args .at + 3 + lenOf c)
+  field c = (is-field _ _ _ _ _ _ _ _ (header-is c), c .before .before .before .next-field .ensures .1 ∙ moves _ _ _ _ (c .before .header2 .given .1))
 
-  read-header-requires : lts.Need-read-header-requires (claims t) (given t) read-term.Post
-  read-header-requires c κs = search needs
+  next-field-requires : lts.Need-next-field-requires (claims t) (given t) read-term.Post
+  next-field-requires c κs = search needs
 
   enum-known-header : lts.Need-enum-known-header (claims t) (given t) read-term.Post
   enum-known-header c = search needs
@@ -79,21 +82,15 @@ module _ (t : ℕ) where
   enum-known-header-2 : lts.Need-enum-known-header-2 (claims t) (given t) read-term.Post
   enum-known-header-2 c = search needs
 
-  add-close : lts.Need-add-close (claims t) (given t) read-term.Post
-  add-close c = omega (arith, leb-false, field c)
-
-  add-close-2 : lts.Need-add-close-2 (claims t) (given t) read-term.Post
-  add-close-2 c = omega (arith, leb-false, field c)
-
   inner-of-requires : lts.Need-inner-of-requires (claims t) (given t) read-term.Post
   inner-of-requires c κs = search needs
 
-  add-t24 : lts.Need-add-t24 (claims t) (given t) read-term.Post
-  add-t24 c = omega (arith, leb-false, field (c .before .before))
+  add-t23 : lts.Need-add-t23 (claims t) (given t) read-term.Post
+  add-t23 c = omega (arith, leb-false, field (c .before .before))
 
   returns : lts.Need-returns (claims t) (given t) read-term.Post
   unfolding contents termShape told Within
-  returns c = (at-depth _ _ _ _ _ _ (λ f h. sym (header-read _ _ _ _ _ _ _ (header-is (c .before .before)) ∙ simp (sym (c .before .inner-of .ensures) ∙ c .if1 .taken))), omega (arith, leb-false, field (c .before .before)))
+  returns c = (at-depth _ _ _ _ _ _ (λ f h. sym (header-read _ _ _ _ _ _ _ _ (header-is (c .before .before)) (field (c .before .before) .1) ∙ simp (sym (c .before .inner-of .ensures) ∙ c .if1 .taken))), omega (arith, leb-false, field (c .before .before)))
 
   add-from : lts.Need-add-from (claims t) (given t) read-term.Post
   add-from c = omega (arith, leb-false, field (c .before .before))
@@ -123,7 +120,7 @@ module _ (t : ℕ) where
   unfolding Within
   returns-2 c =
       let told = c .enum-told .given .1 in (
-        at-depth _ _ _ _ _ _ (λ f h. told ∙ sym (header-read _ _ _ _ _ _ _ (header-is (c .before .before .before .before .before .before))
+        at-depth _ _ _ _ _ _ (λ f h. told ∙ sym (header-read _ _ _ _ _ _ _ _ (header-is (c .before .before .before .before .before .before)) (field (c .before .before .before .before .before .before) .1)
             ∙ first-refused _ _ _ _ _ _ _ (c .before .before .before .least-of .ensures) _ _ _ (c .before .before .before .before .before .inner-of .ensures) (c .before .before .before .before .if1 .left) (sym (c .before .before .read-term .ensures .0 f (omega (arith, leb-false, field (c .before .before .before .before .before .before)))) ∙ told))),
         rw told tt,
       )
@@ -135,7 +132,7 @@ module _ (t : ℕ) where
   returns-3 c =
       let got = c .before .before .before .first .given .1 in
       let w = within-read _ _ got (c .before .before .before .before .before .read-term .ensures .1) in (
-        at-depth _ _ _ _ _ _ (λ f h. c .closed .ensures ∙ sym (header-read _ _ _ _ _ _ _ (header-is (c .before .before .before .before .before .before .before .before .before))
+        at-depth _ _ _ _ _ _ (λ f h. c .closed .ensures ∙ sym (header-read _ _ _ _ _ _ _ _ (header-is (c .before .before .before .before .before .before .before .before .before)) (field (c .before .before .before .before .before .before .before .before .before) .1)
             ∙ one-read _ _ _ _ _ _ _ (c .before .before .before .before .before .before .least-of .ensures) _ _ _ (c .before .before .before .before .before .before .before .before .inner-of .ensures) (c .before .if2 .taken) (sym (c .before .before .before .before .before .read-term .ensures .0 f (omega (arith, leb-false, field (c .before .before .before .before .before .before .before .before .before)))) ∙ got))),
         rw (c .closed .ensures) (within-ending _ _ _ _ _ (omega (arith, leb-false, field (c .before .before .before .before .before .before .before .before .before))) (omega (arith, leb-false, field (c .before .before .before .before .before .before .before .before .before)))),
       )
@@ -155,7 +152,7 @@ module _ (t : ℕ) where
       let told = c .enum-told2 .given .1 in
       let got = c .before .before .before .before .before .first .given .1 in
       let w = within-read _ _ got (c .before .before .before .before .before .before .before .read-term .ensures .1) in (
-        at-depth _ _ _ _ _ _ (λ f h. told ∙ sym (header-read _ _ _ _ _ _ _ (header-is (c .before .before .before .before .before .before .before .before .before .before .before))
+        at-depth _ _ _ _ _ _ (λ f h. told ∙ sym (header-read _ _ _ _ _ _ _ _ (header-is (c .before .before .before .before .before .before .before .before .before .before .before)) (field (c .before .before .before .before .before .before .before .before .before .before .before) .1)
             ∙ second-refused _ _ _ _ _ _ _ (c .before .before .before .before .before .before .before .before .least-of .ensures) _ _ _ _ _ (c .before .before .before .before .before .before .before .before .before .before .inner-of .ensures) (c .before .before .before .before .before .before .before .before .before .if1 .left) (c .before .before .before .if2 .left) (sym (c .before .before .before .before .before .before .before .read-term .ensures .0 f (omega (arith, leb-false, field (c .before .before .before .before .before .before .before .before .before .before .before)))) ∙ got)
             (sym (c .before .before .read-term2 .ensures .0 f (omega (arith, leb-false, field (c .before .before .before .before .before .before .before .before .before .before .before)))) ∙ told))),
         rw told tt,
@@ -166,7 +163,7 @@ module _ (t : ℕ) where
 
   returns-5 : lts.Need-returns-5 (claims t) (given t) read-term.Post
   unfolding Within
-  returns-5 c = (at-depth _ _ _ _ _ _ (λ f h. sym (header-refused _ _ _ _ (sym (c .before .before .before .read-header .ensures) ∙ c .before .header .given .1))), tt)
+  returns-5 c = (at-depth _ _ _ _ _ _ (λ f h. sym (header-refused _ _ _ _ (sym (c .before .before .before .next-field .ensures .0) ∙ c .before .header .given .1))), tt)
 
   returns-6 : lts.Need-returns-6 (claims t) (given t) read-term.Post
   returns-6 c =
@@ -174,7 +171,7 @@ module _ (t : ℕ) where
       let w = within-read _ _ got (c .before .before .before .before .before .before .before .before .before .read-term .ensures .1) in
       let got₂ = c .before .before .second .given .1 in
       let w₂ = within-read _ _ got₂ (c .before .before .before .before .read-term2 .ensures .1) in (
-        at-depth _ _ _ _ _ _ (λ f h. c .closed2 .ensures ∙ sym (header-read _ _ _ _ _ _ _ (header-is (c .before .before .before .before .before .before .before .before .before .before .before .before .before))
+        at-depth _ _ _ _ _ _ (λ f h. c .closed2 .ensures ∙ sym (header-read _ _ _ _ _ _ _ _ (header-is (c .before .before .before .before .before .before .before .before .before .before .before .before .before)) (field (c .before .before .before .before .before .before .before .before .before .before .before .before .before) .1)
             ∙ both-read _ _ _ _ _ _ _ (c .before .before .before .before .before .before .before .before .before .before .least-of .ensures) _ _ _ _ _ (c .before .before .before .before .before .before .before .before .before .before .before .before .inner-of .ensures) (c .before .before .before .before .before .before .before .before .before .before .before .if1 .left) (c .before .before .before .before .before .if2 .left) (sym (c .before .before .before .before .before .before .before .before .before .read-term .ensures .0 f (omega (arith, leb-false, field (c .before .before .before .before .before .before .before .before .before .before .before .before .before)))) ∙ got)
             (sym (c .before .before .before .before .read-term2 .ensures .0 f (omega (arith, leb-false, field (c .before .before .before .before .before .before .before .before .before .before .before .before .before)))) ∙ got₂))),
         rw (c .closed2 .ensures) (within-ending _ _ _ _ _ (omega (arith, leb-false, field (c .before .before .before .before .before .before .before .before .before .before .before .before .before))) (omega (arith, leb-false, field (c .before .before .before .before .before .before .before .before .before .before .before .before .before)))),
@@ -182,13 +179,11 @@ module _ (t : ℕ) where
 
 pub +read-term-spec : {M : Type 1} → statement M
 +read-term-spec = close μ λ t. lts.spec (claims t) (given t) read-term.Post
-    (read-header-requires t)
+    (next-field-requires t)
     (enum-known-header t)
     (enum-known-header-2 t)
-    (add-close t)
-    (add-close-2 t)
     (inner-of-requires t)
-    (add-t24 t)
+    (add-t23 t)
     (returns t)
     (add-from t)
     (least-of-requires t)

@@ -12,6 +12,7 @@ use Rattle.format.specs.Results.{gives}
 use Rattle.format.specs.Tags.{definitionKind}
 use Rattle.format.specs.Headers.{header, headerAt}
 use Rattle.format.proofs.HeaderLaws.{IsField, is-field, told-field}
+use Rattle.format.proofs.ReaderLaws.{moves}
 use Rattle.tables.specs.ReadTables.{full, lowest, readField}
 use Rattle.tables.proofs.FieldLaws.{behind-value, header-refused, rule-read, body-refused, body-read}
 use Rattle.tables.proofs.fields.read_field.Statement.{statement}
@@ -30,10 +31,12 @@ abbrev lenOf : K → ℕ
 lenOf c = c .before .header2 .given .0 .1 .0
 
 header-is : (c : K) → headerAt (now (start c .args .s)) (start c .args .at) (length (now (start c .args .s))) (lowest (start c .args .definitions)) definitionKind (full (now (start c .args .s)) (start c .args .at) (start c .args .rules) (start c .args .definitions)) ≡ gives (header (tagOf c) (lenOf c))
-header-is c = rw (← c .before .before .before .before .before .lowest-kind .ensures, ← c .before .before .before .before .no-more .ensures) (told-field _ _ _ (sym (c .before .before .before .read-header .ensures) ∙ c .before .header2 .given .1))
+header-is c = rw (← c .before .before .before .before .before .lowest-kind .ensures, ← c .before .before .before .before .no-more .ensures) (told-field _ _ _ (sym (c .before .before .before .next-field .ensures .0) ∙ c .before .header2 .given .1))
 
+-- what is known of the field, which ends where the reader moves to
 field : (c : K) → IsField (now (start c .args .s)) (start c .args .at) (length (now (start c .args .s))) (lowest (start c .args .definitions)) definitionKind (full (now (start c .args .s)) (start c .args .at) (start c .args .rules) (start c .args .definitions)) (tagOf c) (lenOf c)
-field c = is-field _ _ _ _ _ _ _ _ (header-is c)
+    × (c .before .before .before .next-field .result .next ≡ start c .args .at + 3 + lenOf c)
+field c = (is-field _ _ _ _ _ _ _ _ (header-is c), c .before .before .before .next-field .ensures .1 ∙ moves _ _ _ _ (c .before .header2 .given .1))
 
 lowest-kind-requires : tie.Need-lowest-kind-requires
 lowest-kind-requires c κs = search needs
@@ -41,8 +44,8 @@ lowest-kind-requires c κs = search needs
 no-more-requires : tie.Need-no-more-requires
 no-more-requires c κs = search needs
 
-read-header-requires : tie.Need-read-header-requires
-read-header-requires c κs = search needs
+next-field-requires : tie.Need-next-field-requires
+next-field-requires c κs = search needs
 
 enum-known-header : tie.Need-enum-known-header
 enum-known-header c = search needs
@@ -50,21 +53,15 @@ enum-known-header c = search needs
 enum-known-header-2 : tie.Need-enum-known-header-2
 enum-known-header-2 c = search needs
 
-add-close : tie.Need-add-close
-add-close c = search needs
-
-add-close-2 : tie.Need-add-close-2
-add-close-2 c = omega (arith, field c)
-
 returns : tie.Need-returns
 unfolding readField
-returns c = sym (rule-read _ _ _ _ _ _ (header-is (c .before)) (c .if1 .taken))
+returns c = sym (rule-read _ _ _ _ _ _ (header-is (c .before)) _ (field (c .before) .1) (c .if1 .taken))
 
 add-read-term : tie.Need-add-read-term
 add-read-term c = search needs
 
 read-term-requires : tie.Need-read-term-requires
-read-term-requires c κs = omega (arith, field (c .before), behind-value _ _ _ _ (start (c .before) .args .fields) _ _ (field (c .before)))
+read-term-requires c κs = omega (arith, field (c .before), behind-value _ _ _ _ (start (c .before) .args .fields) _ _ (field (c .before) .0))
 
 enum-known-body : tie.Need-enum-known-body
 enum-known-body c = search needs
@@ -74,19 +71,19 @@ enum-known-body-2 c = search needs
 
 returns-2 : tie.Need-returns-2
 unfolding readField
-returns-2 c = sym (body-read _ _ _ _ _ _ (header-is (c .before .before .before .before .before .before)) (c .before .before .before .before .before .if1 .left) _ _ true (eq-eqb _ _ (c .if2 .taken)) (sym (c .before .before .before .before .read-term .ensures .0 (lenOf (c .before .before .before .before .before .before) + 1) (omega arith)) ∙ c .before .before .body2 .given .1))
+returns-2 c = sym (body-read _ _ _ _ _ _ (header-is (c .before .before .before .before .before .before)) _ (field (c .before .before .before .before .before .before) .1) (c .before .before .before .before .before .if1 .left) _ _ true (eq-eqb _ _ (c .if2 .taken)) (sym (c .before .before .before .before .read-term .ensures .0 (lenOf (c .before .before .before .before .before .before) + 1) (omega (arith, field (c .before .before .before .before .before .before)))) ∙ c .before .before .body2 .given .1))
 
 returns-3 : tie.Need-returns-3
 unfolding readField
-returns-3 c = rw (← c .before .before .before .before .before .lowest-kind .ensures, ← c .before .before .before .before .no-more .ensures) (sym (header-refused _ _ _ _ _ _ (sym (c .before .before .before .read-header .ensures) ∙ c .before .header .given .1)))
+returns-3 c = rw (← c .before .before .before .before .before .lowest-kind .ensures, ← c .before .before .before .before .no-more .ensures) (sym (header-refused _ _ _ _ _ _ (sym (c .before .before .before .next-field .ensures .0) ∙ c .before .header .given .1)))
 
 returns-4 : tie.Need-returns-4
 unfolding readField
-returns-4 c = sym (body-refused _ _ _ _ _ _ (header-is (c .before .before .before .before .before)) (c .before .before .before .before .if1 .left) _ _ (sym (c .before .before .before .read-term .ensures .0 (lenOf (c .before .before .before .before .before) + 1) (omega arith)) ∙ c .before .body .given .1))
+returns-4 c = sym (body-refused _ _ _ _ _ _ (header-is (c .before .before .before .before .before)) _ (field (c .before .before .before .before .before) .1) (c .before .before .before .before .if1 .left) _ _ (sym (c .before .before .before .read-term .ensures .0 (lenOf (c .before .before .before .before .before) + 1) (omega (arith, field (c .before .before .before .before .before)))) ∙ c .before .body .given .1))
 
 returns-5 : tie.Need-returns-5
 unfolding readField
-returns-5 c = sym (body-read _ _ _ _ _ _ (header-is (c .before .before .before .before .before .before)) (c .before .before .before .before .before .if1 .left) _ _ false (ne-eqb _ _ (c .if2 .left)) (sym (c .before .before .before .before .read-term .ensures .0 (lenOf (c .before .before .before .before .before .before) + 1) (omega arith)) ∙ c .before .before .body2 .given .1))
+returns-5 c = sym (body-read _ _ _ _ _ _ (header-is (c .before .before .before .before .before .before)) _ (field (c .before .before .before .before .before .before) .1) (c .before .before .before .before .before .if1 .left) _ _ false (ne-eqb _ _ (c .if2 .left)) (sym (c .before .before .before .before .read-term .ensures .0 (lenOf (c .before .before .before .before .before .before) + 1) (omega (arith, field (c .before .before .before .before .before .before)))) ∙ c .before .before .body2 .given .1))
 
 pub read-field-spec : {M : Type 1} → statement M
 read-field-spec =
@@ -94,11 +91,9 @@ read-field-spec =
     (tie.spec
     lowest-kind-requires
     no-more-requires
-    read-header-requires
+    next-field-requires
     enum-known-header
     enum-known-header-2
-    add-close
-    add-close-2
     returns
     add-read-term
     read-term-requires

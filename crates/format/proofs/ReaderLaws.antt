@@ -1,0 +1,36 @@
+-- Where the reader moves: by the cases of a header; and a header that is read ends within what encloses it, by the tests of `headerAt`.
+-- Assumes nothing.
+use mathlib.Core.Path.{_≡_, refl, ap, subst}
+use mathlib.Core.Bool.{Bool}
+use mathlib.Core.List.{List}
+use Prim.Native.Nat.{ℕ, _+_, _≤_}
+use Rattle.format.specs.declared.headers.HeaderRead.{HeaderRead}
+use Rattle.format.specs.declared.headers.HeaderRead.the-variants.{Refused, Field}
+use Rattle.format.specs.Results.{Result, gives, refused, told}
+use Rattle.format.specs.Headers.{Header, headerAt}
+use Rattle.format.specs.Shapes.{headerShape}
+use Rattle.format.specs.Reader.{behindField, Encloses}
+use Rattle.format.proofs.HeaderLaws.{is-field}
+
+-- at a refusal the reader stays
+pub stays : (at k p : ℕ) (h : HeaderRead) → h ≡ Refused k p → behindField at h ≡ at
+unfolding behindField
+stays at k p h e = ap (behindField at) e
+
+-- behind a field it moves by the three header bytes and the contents
+pub moves : (at tag len : ℕ) (h : HeaderRead) → h ≡ Field tag len → behindField at h ≡ at + 3 + len
+unfolding behindField
+moves at tag len h e = ap (behindField at) e
+
+pub ends-within : (at end tag len : ℕ) (h : HeaderRead) → h ≡ Field tag len → Encloses at end h → at + 3 + len ≤ end
+unfolding Encloses
+ends-within at end tag len h e p = subst (Encloses at end) e p
+
+-- a header that is read ends within what encloses it
+pub encloses : (s : List ℕ) (at end low high : ℕ) (full : Bool) → Encloses at end (headerShape (headerAt s at end low high full))
+unfolding Encloses headerShape told
+encloses s at end low high full = go (headerAt s at end low high full) refl
+  where
+    go : (x : Result Header) → headerAt s at end low high full ≡ x → Encloses at end (headerShape x)
+    go (gives h) e = is-field s at end low high full (h .tag) (h .len) e .contents
+    go (refused c p) e = tt
