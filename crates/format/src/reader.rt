@@ -21,7 +21,7 @@ pub struct FieldFound {
     pub next: usize,
 }
 
-// The offset behind the field with that header; after a refusal, that of the field itself.
+// The offset behind the field with that header; after a refusal, that of the field itself. That the field ends within what encloses it bounds the sum.
 fn behind(at: usize, end: usize, header: HeaderRead) -> usize
     requires { ⌜ Encloses at end header ⌝ }
     ensures { λ r. ⌜ r ≡ behindField at header ⌝ }
@@ -40,7 +40,7 @@ pub fn new<'a>(file: &'a [u8], at: usize, end: usize) -> Reader<'a>
 }
 
 // The header of the field at which the reader stands.
-pub fn header<'a>(r: Reader<'a>, low: u8, high: u8, full: bool) -> HeaderRead
+pub fn header_of<'a>(r: Reader<'a>, low: u8, high: u8, full: bool) -> HeaderRead
     requires { ⌜ (r .at ≤ r .end) × (r .end ≤ length (now (r .file))) ⌝ }
     ensures { λ h. ⌜ h ≡ headerShape (headerAt (now (r .entry .file)) (r .entry .at) (r .entry .end) low high full) ⌝ }
 {
@@ -65,7 +65,7 @@ pub fn next_field(file: &[u8], at: usize, end: usize, low: u8, high: u8, full: b
     ensures { λ r. ⌜ (r .header ≡ headerShape (headerAt (now (file .entry)) at end low high full)) × (r .next ≡ behindField at (r .header)) ⌝ }
 {
     let reader = new(file, at, end);
-    let header = header(reader, low, high, full);
+    let header = header_of(reader, low, high, full);
     let moved = past(reader, header);
     FieldFound {
         header,

@@ -1,4 +1,4 @@
--- `reader::next_field` meets its contract: a walk of its MIR, by hand. The `Reader` that `new` returns is held in a local and passed to `header` and to `past`; the answer is made of the header and of the offset of the `Reader` that `past` returns. All that the proof knows of the three is that each meets its contract.
+-- `reader::next_field` meets its contract: a walk of its MIR, by hand. The `Reader` that `new` returns is held in a local and passed to `header_of` and to `past`; the answer is made of the header and of the offset of the `Reader` that `past` returns. All that the proof knows of the three is that each meets its contract.
 -- In a local of a body MIR erases the lifetime of the struct's type, so a value is shown to have the type at `erased`: what the struct owns does not say the lifetime's name.
 -- Assumes nothing.
 use mathlib.Core.Path.{_≡_, refl, sym, ap, subst}
@@ -59,10 +59,10 @@ use Rattle.format.proofs.reader.new as new
 use Rattle.format.proofs.reader.new.Symbol as new-def
 use Rattle.format.proofs.reader.new.Symbol.{name as #new}
 use Rattle.format.proofs.reader.new.Met as new-thm
-use Rattle.format.proofs.reader.header as header
-use Rattle.format.proofs.reader.header.Symbol as header-def
-use Rattle.format.proofs.reader.header.Symbol.{name as #header}
-use Rattle.format.proofs.reader.header.Met as header-thm
+use Rattle.format.proofs.reader.header_of as header-of
+use Rattle.format.proofs.reader.header_of.Symbol as header-of-def
+use Rattle.format.proofs.reader.header_of.Symbol.{name as #header-of}
+use Rattle.format.proofs.reader.header_of.Met as header-of-thm
 use Rattle.format.proofs.reader.past as past
 use Rattle.format.proofs.reader.past.Symbol as past-def
 use Rattle.format.proofs.reader.past.Symbol.{name as #past}
@@ -85,7 +85,7 @@ module _ {M : Type 1} (𝓤 : URA M) (H : Heap 𝓤) (A : Atoms 𝓤) (mem : Mem
   New = tripleOf 𝓤 H A new.signature (new.spec 𝓤 H A mem run)
 
   abbrev HeaderOf : Contract 𝓤
-  HeaderOf = tripleOf 𝓤 H A header.signature (header.spec 𝓤 H A mem run)
+  HeaderOf = tripleOf 𝓤 H A header-of.signature (header-of.spec 𝓤 H A mem run)
 
   abbrev Past : Contract 𝓤
   Past = tripleOf 𝓤 H A past.signature (past.spec 𝓤 H A mem run)
@@ -152,7 +152,7 @@ module _ {M : Type 1} (𝓤 : URA M) (H : Heap 𝓤) (A : Atoms 𝓤) (W : Given
   new-said : (r : Reader) → ent 𝓤 (ensured 𝓤 H A new.ended (new.clauses 𝓤 H A mem run) (κ, tt) (s, (n, (m, tt))) tt r) (fact 𝓤 (NewSaid r))
   new-said r = exE 𝓤 _ (λ ws. snd∗ 𝓤 (sem 𝓤 H A (lasts new.ended (κ, tt) (s, (n, (m, tt))) ws)) (fact 𝓤 (NewSaid r)))
 
-  -- the call of `header`, at the reader with the machine value u
+  -- the call of `header_of`, at the reader with the machine value u
   abbrev to-header : Val → HeaderOf 𝓤 H A mem run .Ghost
   to-header u = (((κ, tt), (q, tt), tt, (reader, (lo, (hi, (full, tt)))), (u ∷ [], (vint w8 lo ∷ [], (vint w8 hi ∷ [], (vbool full ∷ [], tt))))), tt)
 
@@ -161,8 +161,8 @@ module _ {M : Type 1} (𝓤 : URA M) (H : Heap 𝓤) (A : Atoms 𝓤) (W : Given
       qed W ((‵ (flft κ q) ⊛ ‵ ftrue) ∷ ‵ (Struct u) ∷ []) ∵ says ! within $ frame ! $ nothing ! $ owned ! bool (Is bool) (bool-makes 𝓤 H A W) full _ refl $ fjoin ! $
       owned ! u8 (Is u8) (uint-makes 𝓤 H A W w8) hi _ (refl, hi-fits) $ fjoin ! $ owned ! u8 (Is u8) (uint-makes 𝓤 H A W w8) lo _ (refl, lo-fits) $ fjoin ! $ move ! (1 ∷ 0 ∷ []) $ fjoin ! $ done !
 
-  header-said : (h : HeaderRead) → ent 𝓤 (ensured 𝓤 H A header.ended (header.clauses 𝓤 H A mem run) (κ, tt) (reader, (lo, (hi, (full, tt)))) tt h) (fact 𝓤 (h ≡ found))
-  header-said h = exE 𝓤 _ (λ ws. snd∗ 𝓤 (sem 𝓤 H A (lasts header.ended (κ, tt) (reader, (lo, (hi, (full, tt)))) ws)) (fact 𝓤 (h ≡ found)))
+  header-said : (h : HeaderRead) → ent 𝓤 (ensured 𝓤 H A header-of.ended (header-of.clauses 𝓤 H A mem run) (κ, tt) (reader, (lo, (hi, (full, tt)))) tt h) (fact 𝓤 (h ≡ found))
+  header-said h = exE 𝓤 _ (λ ws. snd∗ 𝓤 (sem 𝓤 H A (lasts header-of.ended (κ, tt) (reader, (lo, (hi, (full, tt)))) ws)) (fact 𝓤 (h ≡ found)))
 
   -- the call of `past`, at the reader and the header h with the machine values u and w
   abbrev to-past : HeaderRead → Val → Val → Past 𝓤 H A mem run .Ghost
@@ -195,7 +195,7 @@ module _ {M : Type 1} (𝓤 : URA M) (H : Heap 𝓤) (A : Atoms 𝓤) (W : Given
       owned ! usize (Is usize) (uint-makes 𝓤 H A W w64) m _ (refl, m-fits) $ fjoin ! $ owned ! usize (Is usize) (uint-makes 𝓤 H A W w64) n _ (refl, n-fits) $ fjoin ! $ move ! (1 ∷ 0 ∷ []) $ fjoin ! $ frame ! $
       owned ! F.the-row (Is F.the-row) (LL.makes F.the-type F′.the-plain 𝓤 H A) (answer h) _ is $ done !
 
-  module _ (C : Calls 𝓤 H) (Λ : Loops 𝓤 H) (fm : FmC 𝓤 H (W .laws) C) (known-new : Triple 𝓤 (C #new) (New 𝓤 H A mem run)) (known-header : Triple 𝓤 (C #header) (HeaderOf 𝓤 H A mem run)) (known-past : Triple 𝓤 (C #past) (Past 𝓤 H A mem run)) where
+  module _ (C : Calls 𝓤 H) (Λ : Loops 𝓤 H) (fm : FmC 𝓤 H (W .laws) C) (known-new : Triple 𝓤 (C #new) (New 𝓤 H A mem run)) (known-header : Triple 𝓤 (C #header-of) (HeaderOf 𝓤 H A mem run)) (known-past : Triple 𝓤 (C #past) (Past 𝓤 H A mem run)) where
     walk : Is (ShrSlice (named 0) κ u8) s (v ∷ []) → ent 𝓤 (onEntry 𝓤 H A next-field.signature (κ, tt) (q, tt) a vals) (WpFn 𝓤 H C Λ code.function (v ∷ vint w64 n ∷ vint w64 m ∷ vint w8 lo ∷ vint w8 hi ∷ vbool full ∷ []) Post)
     walk p =
         qed W (raw (onEntry 𝓤 H A next-field.signature (κ, tt) (q, tt) a vals) ∷ []) ∵ enter ! C Λ code.function (v ∷ vint w64 n ∷ vint w64 m ∷ vint w8 lo ∷ vint w8 hi ∷ vbool full ∷ []) _ $
@@ -211,11 +211,11 @@ module _ {M : Type 1} (𝓤 : URA M) (H : Heap 𝓤) (A : Atoms 𝓤) (W : Given
         -- [what the reader owns; the token; what the file owns; _12; …; _0; …]
         peeks ! (B (κ, tt)) (Is (B (κ, tt))) (shows 𝓤 H A (B (κ, tt))) reader (u ∷ []) (λ is₀. land ! (from ! (stop !)) (init ! 13 refl (typed reader u is₀)) $
         assigns ! (of-opd ! (load ! (from ! (stop !)) (look ! 13 refl))) (from ! (stop !)) (init ! 7 refl (typed reader u is₀)) $
-        -- `header`: the reader is Copy, and one copy of what it owns is kept for `past`
+        -- `header_of`: the reader is Copy, and one copy of what it owns is kept for `past`
         use1 W (‵ (Struct u) ⊛ ‵ (Struct u)) (LL.copy (T.the-type (namedLft 1 0 tt (κ, tt))) (T′.the-copy (namedLft 1 0 tt (κ, tt))) 𝓤 H A W .twice reader (u ∷ [])) $ split ! $ move ! (2 ∷ 0 ∷ []) $
         use2 W (raw (HeaderOf 𝓤 H A mem run .pre (to-header u))) (goes-header u) $
         calls-at ! fm (HeaderOf 𝓤 H A mem run) known-header (to-header u) (and-then ! (load ! (from ! (stop !)) (look ! 7 refl)) (and-then ! (load ! (from ! (stop !)) (look ! 19 refl)) (and-then ! (load ! (from ! (stop !)) (look ! 17 refl)) (and-then ! (load ! (from ! (stop !)) (look ! 15 refl)) (no-more !))))) (λ w.
-        use1 W (later (some (λ (h : HeaderRead). ((‵ (flft κ q) ⊛ ‵ ftrue) ⊛ ‵ (S.the-row .own h (w ∷ []))) ⊛ raw (ensured 𝓤 H A header.ended (header.clauses 𝓤 H A mem run) (κ, tt) (reader, (lo, (hi, (full, tt)))) tt h)))) (id⊢ 𝓤 _) $ await ! tt $ pick ! (λ h.
+        use1 W (later (some (λ (h : HeaderRead). ((‵ (flft κ q) ⊛ ‵ ftrue) ⊛ ‵ (S.the-row .own h (w ∷ []))) ⊛ raw (ensured 𝓤 H A header-of.ended (header-of.clauses 𝓤 H A mem run) (κ, tt) (reader, (lo, (hi, (full, tt)))) tt h)))) (id⊢ 𝓤 _) $ await ! tt $ pick ! (λ h.
         split ! $ move ! (1 ∷ []) $ use1 W (raw (fact 𝓤 (h ≡ found))) (header-said h) $ heard ! (h ≡ found) (λ e₁. split ! $ move ! (1 ∷ []) $
         -- [the header; the token; what the reader owns; what the file owns; _12; …; _0; …]
         peeks ! S.the-row (Is S.the-row) (shows 𝓤 H A S.the-row) h (w ∷ []) (λ is₁. land ! (from ! (stop !)) (init ! 12 refl (EL.lawful S.the-type S′.the-laws 𝓤 H A W tt .typed h _ is₁ .0)) $ drop ! $
@@ -238,7 +238,7 @@ module _ {M : Type 1} (𝓤 : URA M) (H : Heap 𝓤) (A : Atoms 𝓤) (W : Given
         by ! (exits h w e₁ (is-answer h w is₁ (offset-fits h u′ is₂))))))))))))))))))))))))))))
 
 module _ {M : Type 1} (𝓤 : URA M) (H : Heap 𝓤) (A : Atoms 𝓤) (W : Given 𝓤 H A) (mem : Memory → SProp 𝓤) (run : Routine → Fun 𝓤) where
-  next-field-walks : (C : Calls 𝓤 H) (Λ : Loops 𝓤 H) → FmC 𝓤 H (W .laws) C → Triple 𝓤 (C #new) (New 𝓤 H A mem run) → Triple 𝓤 (C #header) (HeaderOf 𝓤 H A mem run) → Triple 𝓤 (C #past) (Past 𝓤 H A mem run)
+  next-field-walks : (C : Calls 𝓤 H) (Λ : Loops 𝓤 H) → FmC 𝓤 H (W .laws) C → Triple 𝓤 (C #new) (New 𝓤 H A mem run) → Triple 𝓤 (C #header-of) (HeaderOf 𝓤 H A mem run) → Triple 𝓤 (C #past) (Past 𝓤 H A mem run)
       → Walks 𝓤 H A next-field.ended stayed (WpFn 𝓤 H C Λ code.function) (next-field.clauses 𝓤 H A mem run)
   next-field-walks C Λ fm known-new known-header known-past = walked 𝓤 H A next-field.ended stayed (next-field.clauses 𝓤 H A mem run) (WpFn 𝓤 H C Λ code.function)
       (λ κs. (slice-vals, (uint-vals w64, (uint-vals w64, (uint-vals w8, (uint-vals w8, (bool-vals, tt))))))) (λ κs. (shr-slice-tells (named 0) (κs .0) u8, (uint-tells w64, (uint-tells w64, (uint-tells w8, (uint-tells w8, (bool-tells, tt)))))))
@@ -246,7 +246,7 @@ module _ {M : Type 1} (𝓤 : URA M) (H : Heap 𝓤) (A : Atoms 𝓤) (W : Given
       walk 𝓤 H A W mem run (κs .0) (qs .0) (a .0) (a .1 .0) (a .1 .1 .0) (a .1 .1 .1 .0) (a .1 .1 .1 .1 .0) (a .1 .1 .1 .1 .1 .0) (are .1 .0 .1) (are .1 .1 .0 .1) (are .1 .1 .1 .0 .1) (are .1 .1 .1 .1 .0 .1) within C Λ fm known-new known-header known-past (are .0)))
 
 next-field-meets : {M : Type 1} (𝓤 : URA M) (H : Heap 𝓤) (A : Atoms 𝓤) → Given 𝓤 H A → (mem : Memory → SProp 𝓤) (run : Routine → Fun 𝓤) (𝓣 : Tables 𝓤 H)
-    → Triple 𝓤 (𝓣 .C #new) (New 𝓤 H A mem run) → Triple 𝓤 (𝓣 .C #header) (HeaderOf 𝓤 H A mem run) → Triple 𝓤 (𝓣 .C #past) (Past 𝓤 H A mem run)
+    → Triple 𝓤 (𝓣 .C #new) (New 𝓤 H A mem run) → Triple 𝓤 (𝓣 .C #header-of) (HeaderOf 𝓤 H A mem run) → Triple 𝓤 (𝓣 .C #past) (Past 𝓤 H A mem run)
     → Meets 𝓤 H A next-field.signature (WpFn 𝓤 H (𝓣 .C) (𝓣 .Λ) code.function) (next-field.spec 𝓤 H A mem run)
 next-field-meets 𝓤 H A W mem run 𝓣 known-new known-header known-past =
     walk-meets 𝓤 H A next-field.ended stayed W
@@ -260,5 +260,5 @@ next-field-spec 𝓤 H 𝓜 𝓖 𝓡 =
     (tables 𝓤 H 𝓜 𝓡 code.env .C) (tables 𝓤 H 𝓜 𝓡 code.env .Λ) #next-field code.function (code.unfolded 𝓤 H 𝓜 𝓡)
     (next-field-meets 𝓤 H (𝓖 .A) (givenOf 𝓤 H 𝓜 𝓖) (𝓜 .mem) (𝓡 .run) (tablesOf 𝓤 H 𝓜 (tables 𝓤 H 𝓜 𝓡 code.env))
     (cited 𝓤 H (New 𝓤 H (𝓖 .A) (𝓜 .mem) (𝓡 .run)) 𝓜 𝓡 code.env #new new-def.routine code.calls-format·reader·new (new-thm.met 𝓤 H 𝓜 𝓖 𝓡))
-    (cited 𝓤 H (HeaderOf 𝓤 H (𝓖 .A) (𝓜 .mem) (𝓡 .run)) 𝓜 𝓡 code.env #header header-def.routine code.calls-format·reader·header (header-thm.met 𝓤 H 𝓜 𝓖 𝓡))
+    (cited 𝓤 H (HeaderOf 𝓤 H (𝓖 .A) (𝓜 .mem) (𝓡 .run)) 𝓜 𝓡 code.env #header-of header-of-def.routine code.calls-format·reader·header-of (header-of-thm.met 𝓤 H 𝓜 𝓖 𝓡))
     (cited 𝓤 H (Past 𝓤 H (𝓖 .A) (𝓜 .mem) (𝓡 .run)) 𝓜 𝓡 code.env #past past-def.routine code.calls-format·reader·past (past-thm.met 𝓤 H 𝓜 𝓖 𝓡)))

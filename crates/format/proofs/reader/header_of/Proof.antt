@@ -1,4 +1,4 @@
--- `reader::header` meets its contract: a walk of its MIR, by hand. The struct is taken apart, and `read_header` is called on the slice and the numbers. All that the proof knows of `read_header` is that it meets its contract.
+-- `reader::header_of` meets its contract: a walk of its MIR, by hand. The struct is taken apart, and `read_header` is called on the slice and the numbers. All that the proof knows of `read_header` is that it meets its contract.
 -- The struct is Copy: what it owns is had twice, one copy is kept whole for the exit, and of the other what the file owns goes to the callee, beside the lifetime's token, which comes back.
 -- Assumes nothing.
 use mathlib.Core.Path.{_≡_, refl}
@@ -56,16 +56,16 @@ use Rattle.format.proofs.headers.read_header as read
 use Rattle.format.proofs.headers.read_header.Symbol as read-def
 use Rattle.format.proofs.headers.read_header.Symbol.{name as #read-header}
 use Rattle.format.proofs.headers.read_header.Met as read-thm
-use Rattle.format.proofs.reader.header.Key.{name as #header}
-use Rattle.format.proofs.reader.header as header
-use Rattle.format.proofs.reader.header.Statement as stated
-use Rattle.format.proofs.reader.header.Code as code
+use Rattle.format.proofs.reader.header_of.Key.{name as #header-of}
+use Rattle.format.proofs.reader.header_of as header-of
+use Rattle.format.proofs.reader.header_of.Statement as stated
+use Rattle.format.proofs.reader.header_of.Code as code
 
 -- the struct's type, over the signature's lifetimes
 abbrev B : Lfts 1 → RattleType
 B κs = T.the-row (namedLft 1 0 tt κs)
 
-abbrev stayed : Stays (header.ended .signature .params) (header.ended .kept)
+abbrev stayed : Stays (header-of.ended .signature .params) (header-of.ended .kept)
 stayed = (stay-none B yes, (stay-none (λ _. u8) yes, (stay-none (λ _. u8) yes, (stay-none (λ _. bool) yes, tt))))
 
 module _ {M : Type 1} (𝓤 : URA M) (H : Heap 𝓤) (A : Atoms 𝓤) (mem : Memory → SProp 𝓤) (run : Routine → Fun 𝓤) where
@@ -84,14 +84,14 @@ module _ {M : Type 1} (𝓤 : URA M) (H : Heap 𝓤) (A : Atoms 𝓤) (W : Given
   abbrev found : HeaderRead
   found = headerShape (headerAt (now (d .file)) (d .at) (d .end) lo hi full)
 
-  abbrev a : Args header.signature (κ, tt)
+  abbrev a : Args header-of.signature (κ, tt)
   a = (d, (lo, (hi, (full, tt))))
 
-  abbrev vals : Vals header.signature (κ, tt)
+  abbrev vals : Vals header-of.signature (κ, tt)
   vals = (mach ∷ [], (vint w8 lo ∷ [], (vint w8 hi ∷ [], (vbool full ∷ [], tt))))
 
   abbrev Post : Val → SProp 𝓤
-  Post = walkOf 𝓤 H A header.ended stayed (header.clauses 𝓤 H A mem run) .post (((κ, tt), (q, tt), tt, a, vals), tt)
+  Post = walkOf 𝓤 H A header-of.ended stayed (header-of.clauses 𝓤 H A mem run) .post (((κ, tt), (q, tt), tt, a, vals), tt)
 
   abbrev Own : Fml
   Own = B (κ, tt) .own d (mach ∷ [])
@@ -123,7 +123,7 @@ module _ {M : Type 1} (𝓤 : URA M) (H : Heap 𝓤) (A : Atoms 𝓤) (W : Given
   asked within = qed W ((‵ (flft κ q) ⊛ ‵ ftrue) ∷ ‵ (owns (ShrSlice (named 0) κ u8 ∷ usize ∷ usize ∷ u8 ∷ u8 ∷ bool ∷ []) b passed) ∷ []) ∵ says ! within $ frame ! $ done !
 
   -- what the struct owns gives what the callee asks, and is kept
-  apart : Within → d .at < 2 ^ 64 → d .end < 2 ^ 64 → ent 𝓤 (onEntry 𝓤 H A header.signature (κ, tt) (q, tt) a vals) (sep 𝓤 (ReadHeader 𝓤 H A mem run .pre to) (sem 𝓤 H A Own))
+  apart : Within → d .at < 2 ^ 64 → d .end < 2 ^ 64 → ent 𝓤 (onEntry 𝓤 H A header-of.signature (κ, tt) (q, tt) a vals) (sep 𝓤 (ReadHeader 𝓤 H A mem run .pre to) (sem 𝓤 H A Own))
   apart within at-fits end-fits =
       qed W ((‵ (flft κ q) ⊛ ‵ ftrue) ∷ ‵ (owns (B (κ, tt) ∷ u8 ∷ u8 ∷ bool ∷ []) a vals) ∷ []) ∵
       move ! (1 ∷ []) $ fsplit ! $ move ! (1 ∷ []) $ drop ! $ use1 W (‵ Own ⊛ ‵ Own) (LL.copy D (T′.the-copy (namedLft 1 0 tt (κ, tt))) 𝓤 H A W .twice d (mach ∷ [])) $ split ! $
@@ -141,14 +141,14 @@ module _ {M : Type 1} (𝓤 : URA M) (H : Heap 𝓤) (A : Atoms 𝓤) (W : Given
   exits : (r : HeaderRead) (u : Val) → r ≡ found → ent 𝓤 (⋆ 𝓤 H A (‵ (S.the-row .own r (u ∷ [])) ∷ (‵ (flft κ q) ⊛ ‵ ftrue) ∷ ‵ Own ∷ [])) (Post u)
   exits r u e =
       qed W (‵ (S.the-row .own r (u ∷ [])) ∷ (‵ (flft κ q) ⊛ ‵ ftrue) ∷ ‵ Own ∷ []) ∵
-      suffices ! _ (ends-at 𝓤 H A header.ended stayed (header.clauses 𝓤 H A mem run) W (((κ, tt), (q, tt), tt, a, vals), tt) u r (tt, (tt, (tt, (tt, tt)))) (tt, (tt, (tt, (tt, tt))))) $ says ! e $
+      suffices ! _ (ends-at 𝓤 H A header-of.ended stayed (header-of.clauses 𝓤 H A mem run) W (((κ, tt), (q, tt), tt, a, vals), tt) u r (tt, (tt, (tt, (tt, tt)))) (tt, (tt, (tt, (tt, tt))))) $ says ! e $
       move ! (1 ∷ []) $ frame ! $ nothing ! $ owned ! bool (Is bool) (bool-makes 𝓤 H A W) full _ refl $ fjoin ! $
       owned ! u8 (Is u8) (uint-makes 𝓤 H A W w8) hi _ (refl, hi-fits) $ fjoin ! $ owned ! u8 (Is u8) (uint-makes 𝓤 H A W w8) lo _ (refl, lo-fits) $ fjoin ! $ move ! (2 ∷ 0 ∷ []) $ fjoin ! $ frame ! $ done !
 
   module _ (C : Calls 𝓤 H) (Λ : Loops 𝓤 H) (fm : FmC 𝓤 H (W .laws) C) (known : Triple 𝓤 (C #read-header) (ReadHeader 𝓤 H A mem run)) where
-    walk : Within → Holds (hasTy (T′.mir (named 0)) mach) × WT mach → ent 𝓤 (onEntry 𝓤 H A header.signature (κ, tt) (q, tt) a vals) (WpFn 𝓤 H C Λ code.function (mach ∷ vint w8 lo ∷ vint w8 hi ∷ vbool full ∷ []) Post)
+    walk : Within → Holds (hasTy (T′.mir (named 0)) mach) × WT mach → ent 𝓤 (onEntry 𝓤 H A header-of.signature (κ, tt) (q, tt) a vals) (WpFn 𝓤 H C Λ code.function (mach ∷ vint w8 lo ∷ vint w8 hi ∷ vbool full ∷ []) Post)
     walk within wt =
-        qed W (raw (onEntry 𝓤 H A header.signature (κ, tt) (q, tt) a vals) ∷ []) ∵ enter ! C Λ code.function (mach ∷ vint w8 lo ∷ vint w8 hi ∷ vbool full ∷ []) _ $
+        qed W (raw (onEntry 𝓤 H A header-of.signature (κ, tt) (q, tt) a vals) ∷ []) ∵ enter ! C Λ code.function (mach ∷ vint w8 lo ∷ vint w8 hi ∷ vbool full ∷ []) _ $
         alloc1 ! (λ l₀. alloc1 ! (λ l₁. alloc1 ! (λ l₂. alloc1 ! (λ l₃. alloc1 ! (λ l₄. alloc1 ! (λ l₅. alloc1 ! (λ l₆. alloc1 ! (λ l₇. alloc0 ! $ params1 ! $
         pass1 ! (init ! 12 refl wt) $ pass1 ! (init ! 10 refl (tt, record { fits = lo-fits })) $ pass1 ! (init ! 8 refl (tt, record { fits = hi-fits })) $ pass1 ! (init ! 6 refl (tt, tt)) $ pass0 ! $
         assigns ! (of-opd ! (load ! (from ! (fld ! refl (stop !))) (look-in ! 12 (sub ! 0 refl (whole !))))) (from ! (stop !)) (init ! 4 refl (tt, wt .1 .0)) $
@@ -168,24 +168,24 @@ module _ {M : Type 1} (𝓤 : URA M) (H : Heap 𝓤) (A : Atoms 𝓤) (W : Given
         move ! (9 ∷ 10 ∷ []) $ free1 ! $ move ! (7 ∷ 8 ∷ []) $ free1 ! $ move ! (5 ∷ 6 ∷ []) $ free1 ! $ move ! (3 ∷ 4 ∷ []) $ free1 ! $ free0 ! $ by ! (exits r u e)))))))))))))
 
 module _ {M : Type 1} (𝓤 : URA M) (H : Heap 𝓤) (A : Atoms 𝓤) (W : Given 𝓤 H A) (mem : Memory → SProp 𝓤) (run : Routine → Fun 𝓤) where
-  header-walks : (C : Calls 𝓤 H) (Λ : Loops 𝓤 H) → FmC 𝓤 H (W .laws) C → Triple 𝓤 (C #read-header) (ReadHeader 𝓤 H A mem run)
-      → Walks 𝓤 H A header.ended stayed (WpFn 𝓤 H C Λ code.function) (header.clauses 𝓤 H A mem run)
-  header-walks C Λ fm known = walked 𝓤 H A header.ended stayed (header.clauses 𝓤 H A mem run) (WpFn 𝓤 H C Λ code.function)
+  header-of-walks : (C : Calls 𝓤 H) (Λ : Loops 𝓤 H) → FmC 𝓤 H (W .laws) C → Triple 𝓤 (C #read-header) (ReadHeader 𝓤 H A mem run)
+      → Walks 𝓤 H A header-of.ended stayed (WpFn 𝓤 H C Λ code.function) (header-of.clauses 𝓤 H A mem run)
+  header-of-walks C Λ fm known = walked 𝓤 H A header-of.ended stayed (header-of.clauses 𝓤 H A mem run) (WpFn 𝓤 H C Λ code.function)
       (λ κs. (LL.vals (T.the-type (namedLft 1 0 tt κs)) (T′.the-laws (namedLft 1 0 tt κs)), (uint-vals w8, (uint-vals w8, (bool-vals, tt))))) (λ κs. (LL.tells (T.the-type (namedLft 1 0 tt κs)) (T′.the-laws (namedLft 1 0 tt κs)), (uint-tells w8, (uint-tells w8, (bool-tells, tt)))))
       (λ κs qs bounds a g are. needs 𝓤 ((a .0 .at ≤ a .0 .end) × (a .0 .end ≤ length (a .0 .file .now))) _ (λ within.
       walk 𝓤 H A W mem run (κs .0) (qs .0) (a .0) (a .1 .0) (a .1 .1 .0) (a .1 .1 .1 .0) (are .1 .0 .1) (are .1 .1 .0 .1) C Λ fm known within (LL.lawful (T.the-type (namedLft 1 0 tt κs)) (T′.the-laws (namedLft 1 0 tt κs)) 𝓤 H A W .typed (a .0) _ (are .0) .0)))
 
-header-meets : {M : Type 1} (𝓤 : URA M) (H : Heap 𝓤) (A : Atoms 𝓤) (W : Given 𝓤 H A) (mem : Memory → SProp 𝓤) (run : Routine → Fun 𝓤) (𝓣 : Tables 𝓤 H)
+header-of-meets : {M : Type 1} (𝓤 : URA M) (H : Heap 𝓤) (A : Atoms 𝓤) (W : Given 𝓤 H A) (mem : Memory → SProp 𝓤) (run : Routine → Fun 𝓤) (𝓣 : Tables 𝓤 H)
     → Triple 𝓤 (𝓣 .C #read-header) (ReadHeader 𝓤 H A mem run)
-    → Meets 𝓤 H A header.signature (WpFn 𝓤 H (𝓣 .C) (𝓣 .Λ) code.function) (header.spec 𝓤 H A mem run)
-header-meets 𝓤 H A W mem run 𝓣 known =
-    walk-meets 𝓤 H A header.ended stayed W (goes-none 𝓤 H A W 1 B yes (λ κs x f. refl), (goes-none 𝓤 H A W 1 (λ _. u8) yes (λ κs x f. refl), (goes-none 𝓤 H A W 1 (λ _. u8) yes (λ κs x f. refl), (goes-none 𝓤 H A W 1 (λ _. bool) yes (λ κs x f. refl), tt))))
-    (header.clauses 𝓤 H A mem run) (WpFn 𝓤 H (𝓣 .C) (𝓣 .Λ) code.function) (WpFn-mono 𝓤 H (W .laws) 𝓣 code.function) (header-walks 𝓤 H A W mem run (𝓣 .C) (𝓣 .Λ) (fmOf 𝓤 H (W .laws) 𝓣) known)
+    → Meets 𝓤 H A header-of.signature (WpFn 𝓤 H (𝓣 .C) (𝓣 .Λ) code.function) (header-of.spec 𝓤 H A mem run)
+header-of-meets 𝓤 H A W mem run 𝓣 known =
+    walk-meets 𝓤 H A header-of.ended stayed W (goes-none 𝓤 H A W 1 B yes (λ κs x f. refl), (goes-none 𝓤 H A W 1 (λ _. u8) yes (λ κs x f. refl), (goes-none 𝓤 H A W 1 (λ _. u8) yes (λ κs x f. refl), (goes-none 𝓤 H A W 1 (λ _. bool) yes (λ κs x f. refl), tt))))
+    (header-of.clauses 𝓤 H A mem run) (WpFn 𝓤 H (𝓣 .C) (𝓣 .Λ) code.function) (WpFn-mono 𝓤 H (W .laws) 𝓣 code.function) (header-of-walks 𝓤 H A W mem run (𝓣 .C) (𝓣 .Λ) (fmOf 𝓤 H (W .laws) 𝓣) known)
 
-pub header-spec : {M : Type 1} → stated.statement M
+pub header-of-spec : {M : Type 1} → stated.statement M
 unfolding code.routine tablesOf
-header-spec 𝓤 H 𝓜 𝓖 𝓡 =
-    entered 𝓤 H (tripleOf 𝓤 H (𝓖 .A) header.signature (header.spec 𝓤 H (𝓖 .A) (𝓜 .mem) (𝓡 .run)))
-    (tables 𝓤 H 𝓜 𝓡 code.env .C) (tables 𝓤 H 𝓜 𝓡 code.env .Λ) #header code.function (code.unfolded 𝓤 H 𝓜 𝓡)
-    (header-meets 𝓤 H (𝓖 .A) (givenOf 𝓤 H 𝓜 𝓖) (𝓜 .mem) (𝓡 .run) (tablesOf 𝓤 H 𝓜 (tables 𝓤 H 𝓜 𝓡 code.env))
+header-of-spec 𝓤 H 𝓜 𝓖 𝓡 =
+    entered 𝓤 H (tripleOf 𝓤 H (𝓖 .A) header-of.signature (header-of.spec 𝓤 H (𝓖 .A) (𝓜 .mem) (𝓡 .run)))
+    (tables 𝓤 H 𝓜 𝓡 code.env .C) (tables 𝓤 H 𝓜 𝓡 code.env .Λ) #header-of code.function (code.unfolded 𝓤 H 𝓜 𝓡)
+    (header-of-meets 𝓤 H (𝓖 .A) (givenOf 𝓤 H 𝓜 𝓖) (𝓜 .mem) (𝓡 .run) (tablesOf 𝓤 H 𝓜 (tables 𝓤 H 𝓜 𝓡 code.env))
     (cited 𝓤 H (ReadHeader 𝓤 H (𝓖 .A) (𝓜 .mem) (𝓡 .run)) 𝓜 𝓡 code.env #read-header read-def.routine code.calls-format·headers·read-header (read-thm.met 𝓤 H 𝓜 𝓖 𝓡)))
