@@ -3,6 +3,8 @@ pub mod WalkLaws
 pub mod ReadyLaws
 pub mod OtherTerms
 pub mod LabelLaws
+pub mod SequenceLaws
+pub mod TensorLaws
 pub mod SameGoals
 pub mod CheckLaws
 pub mod PartsLaws

@@ -9,9 +9,9 @@ use lib.ListN.{length, getD}
 use Rattle.words.specs.Word.{word}
 use Rattle.words.specs.Kept.{Kept}
 use Rattle.format.specs.declared.values.Label.{Label}
-use Rattle.format.specs.Terms.{Term, atomic, id, label, sequence, tensor, empty, alternation, assert, defined, size}
+use Rattle.format.specs.Terms.{Term, label, sequence, tensor, size}
 use Rattle.format.specs.Standing.{Stands}
-use Rattle.format.proofs.ByTag.{Two, One, Value, by-tag}
+use Rattle.format.proofs.ByTag.{Two, One, two, by-tag}
 use Rattle.hitac.specs.Hiproofs.{inputArity, atomics}
 use Rattle.checker.specs.Arities.{slot, AritiesNoted}
 use Rattle.checker.specs.Walks.{Ready}
@@ -40,13 +40,13 @@ module _ (s : List ℕ) (at : ℕ) (w : List ℕ) (low top : ℕ) where
     room = r;
   }
 
-  pub parts-of-sequence : (t u : Term) → Two s at t u → R (sequence t u) → Parts s at t u w low top
-  unfolding size atomics AritiesNoted
-  parts-of-sequence t u b r = parts t u b (r .noted .0) (r .noted .1) (r .noted-below) (r .room)
+  pub parts-of-sequence : (t u : Term) → R (sequence t u) → Parts s at t u w low top
+  unfolding size atomics AritiesNoted Stands
+  parts-of-sequence t u r = parts t u (two s at t u (r .stands .1) (r .stands .2)) (r .noted .0) (r .noted .1) (r .noted-below) (r .room)
 
-  pub parts-of-tensor : (t u : Term) → Two s at t u → R (tensor t u) → Parts s at t u w low top × (word w (slot at) ≡ inputArity t)
-  unfolding size atomics AritiesNoted
-  parts-of-tensor t u b r = (parts t u b (r .noted .1) (r .noted .2) (r .noted-below) (r .room), r .noted .0)
+  pub parts-of-tensor : (t u : Term) → R (tensor t u) → Parts s at t u w low top × (word w (slot at) ≡ inputArity t)
+  unfolding size atomics AritiesNoted Stands
+  parts-of-tensor t u r = (parts t u (two s at t u (r .stands .1) (r .stands .2)) (r .noted .1) (r .noted .2) (r .noted-below) (r .room), r .noted .0)
 
   pub inner-of-label : (l : Label) (t : Term) → One s at t → R (label l t) → Ready s (at + 5) t w low top
   unfolding size atomics AritiesNoted
@@ -54,14 +54,11 @@ module _ (s : List ℕ) (at : ℕ) (w : List ℕ) (low top : ℕ) where
 
   -- the same of the term that stands there, by the tag
   module _ (t : Term) (r : R t) where
-    abbrev pub SomeParts : Type 0
-    SomeParts = (a : Term) × (b : Term) × Parts s at a b w low top
+    pub some-sequence : getD s at 0 ≡ 19 → (a : Term) × (b : Term) × R (sequence a b)
+    some-sequence e = by-tag s at (λ v. R v → (a : Term) × (b : Term) × R (sequence a b)) 19 (λ a b x q. (a, b, q)) e t (r .stands) r
 
-    pub some-sequence : getD s at 0 ≡ 19 → SomeParts
-    some-sequence e = by-tag s at (λ v. R v → SomeParts) 19 (λ a b x q. (a, b, parts-of-sequence a b x q)) e t (r .stands) r
-
-    pub some-tensor : getD s at 0 ≡ 20 → (a : Term) × (b : Term) × Parts s at a b w low top × (word w (slot at) ≡ inputArity a)
-    some-tensor e = by-tag s at (λ v. R v → (a : Term) × (b : Term) × Parts s at a b w low top × (word w (slot at) ≡ inputArity a)) 20 (λ a b x q. let p = parts-of-tensor a b x q in (a, b, p .0, p .1)) e t (r .stands) r
+    pub some-tensor : getD s at 0 ≡ 20 → (a : Term) × (b : Term) × R (tensor a b)
+    some-tensor e = by-tag s at (λ v. R v → (a : Term) × (b : Term) × R (tensor a b)) 20 (λ a b x q. (a, b, q)) e t (r .stands) r
 
     pub some-atomic : getD s at 0 ≡ 16 → (at + 4 < length s) × (low + 14 ≤ top)
     unfolding atomics

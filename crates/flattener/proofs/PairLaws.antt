@@ -51,7 +51,7 @@ module _ (T : Table) (s : List ℕ) (at : ℕ) (a b : Term) (w : List ℕ) (low 
   pub sequence-ready : Two s at a b → NodesReady T s at (sequence a b) w low top count next → SequenceReady
   unfolding Suits
   sequence-ready two q =
-      let p = parts-of-sequence s at (stacks w) low top a b two (q .ready) in
+      let p = parts-of-sequence s at (stacks w) low top a b (q .ready) in
       record { parts = p; left = record { ready = p .left; suits = q .suits .0; within = q .within }; suits-right = q .suits .1; within = q .within }
 
   -- once the left term has been walked and its nodes were moved
@@ -126,7 +126,7 @@ module _ (T : Table) (s : List ℕ) (at : ℕ) (a b : Term) (w : List ℕ) (low 
   pub tensor-ready : (share : ℕ) → share ≡ word (stacks w) (slot at) → Two s at a b → NodesReady T s at (tensor a b) w low top count next → TensorReady share
   unfolding Suits
   tensor-ready share e two q =
-      let p = parts-of-tensor s at (stacks w) low top a b two (q .ready) in
+      let p = parts-of-tensor s at (stacks w) low top a b (q .ready) in
       let i : inputArity a ≡ share = sym (e ∙ p .1) in
       let c : share ≤ count = omega (arith, q .suits .0, length-nodes (stacks w) top count) in
       let t : take (inputArity a) N ≡ nodesAt (stacks w) top share = ap (λ (k : ℕ). take k N) i ∙ take-nodes (stacks w) top share count c in

@@ -42,7 +42,7 @@ module _ (s : List ℕ) (at : ℕ) where
       let e : at + 3 + 1 ≡ at + 4 = omega arith in
       omega (arith, subst (λ (i : ℕ). 3 + word s i ≡ size t) e (k .length-is))
 
-  two : (t u : Term) → Stands s (at + 3) t → Stands s (at + 3 + size t) u → Two s at t u
+  pub two : (t u : Term) → Stands s (at + 3) t → Stands s (at + 3 + size t) u → Two s at t u
   two t u st st₂ =
       let k = known s (at + 3) t st in
       let e = second-place t k in
