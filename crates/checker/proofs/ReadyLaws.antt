@@ -9,7 +9,8 @@ use lib.ListN.{length, getD}
 use Rattle.words.specs.Word.{word}
 use Rattle.words.specs.Kept.{Kept}
 use Rattle.format.specs.declared.values.Label.{Label}
-use Rattle.format.specs.Terms.{Term, label, sequence, tensor, size}
+use Rattle.format.specs.Values.{ruleName}
+use Rattle.format.specs.Terms.{Term, atomic, label, sequence, tensor, size}
 use Rattle.format.specs.Standing.{Stands}
 use Rattle.format.proofs.ByTag.{Two, One, two, by-tag}
 use Rattle.hitac.specs.Hiproofs.{inputArity, atomics}
@@ -25,6 +26,10 @@ pub record Parts (s : List ℕ) (at : ℕ) (t u : Term) (w : List ℕ) (low top 
   pub right-below : slot (at + 3 + size t + size u) ≤ low
   pub own-below : slot at + 2 ≤ low
   pub room : low + 14 * (atomics t + atomics u) ≤ top
+
+-- the atomic of the name that stands in the file
+pub named : (s : List ℕ) (at v : ℕ) (P : Term → Type 0) → word s (at + 3) ≡ v → P (atomic (ruleName (word s (at + 3)))) → P (atomic (ruleName v))
+named s at v P e p = subst (λ (x : ℕ). P (atomic (ruleName x))) e p
 
 module _ (s : List ℕ) (at : ℕ) (w : List ℕ) (low top : ℕ) where
   abbrev R : Term → Type 0

@@ -3,6 +3,7 @@ pub mod StackLaws
 pub mod CellLaws
 pub mod WalkLaws
 pub mod PairLaws
+pub mod LabelLaws
 pub mod PrintLaws
 pub mod PassLaws
 pub mod GrowthLaws

@@ -1,37 +1,29 @@
 -- A sequence and a tensor over nodes: what their two terms are given, and what they come to together. The bytes of the one are kept by the other, as in the checker's walk.
 -- Assumes nothing.
-use mathlib.Core.Path.{_≡_, refl, sym, subst, ap, ap₂, _∙_}
-use mathlib.Core.List.{List, [], _∷_, _++_, map}
+use mathlib.Core.Path.{_≡_, sym, subst, ap, ap₂, _∙_}
+use mathlib.Core.List.{List, _++_, map}
 use Prim.Native.Nat.{ℕ, _+_, _*_, _-_, _≤_, _<_}
 use native.Mathlib.Omega.{arith}
 use lib.ListN.{length, getD, take, drop, length-drop}
 use lib.Seq.{paste, length-paste}
 use Rattle.words.specs.Word.{word}
 use Rattle.words.specs.Kept.{Kept}
-use Rattle.words.proofs.KeptLaws.{kept-copy, kept-same, kept-both}
+use Rattle.words.proofs.KeptLaws.{kept-copy, kept-both}
 use Rattle.format.specs.declared.values.RuleName.{RuleName}
-use Rattle.format.specs.declared.values.Label.{Label}
 use Rattle.format.specs.Values.{ruleName}
-use Rattle.format.specs.Terms.{Term, atomic, id, label, sequence, tensor, size}
-use Rattle.format.proofs.ByTag.{Two, One, by-tag}
+use Rattle.format.specs.Terms.{Term, atomic, id, sequence, tensor}
+use Rattle.format.proofs.ByTag.{by-tag}
 use Rattle.format.proofs.GoalsAt.{goals-paste}
 use Rattle.tables.specs.Tables.{Table}
 use Rattle.hitac.specs.Hiproofs.{inputArity, atomics}
 use Rattle.hitac.proofs.Nodes.{Cell, nodeWalk}
 use Rattle.checker.specs.Arities.{slot}
-use Rattle.checker.specs.Walks.{Ready}
-use Rattle.checker.proofs.ReadyLaws.{Parts, parts-of-sequence, parts-of-tensor, inner-of-label, ready-right}
+use Rattle.checker.proofs.ReadyLaws.{Parts, parts-of-sequence, parts-of-tensor, ready-right}
 use Rattle.flattener.specs.declared.walk.Given.{Given}
 use Rattle.flattener.specs.Space.{floor, cellBytes, stacks, cellsOf, nodeIn, nodesAt}
 use Rattle.flattener.specs.Walks.{Suits, NodesReady, NodesWalked}
 use Rattle.flattener.proofs.StackLaws.{length-nodes, take-nodes, drop-nodes, nodes-append, nodes-below, nodes-above, nodes-stacks, kept-stacks, same-cells}
 use Rattle.flattener.proofs.WalkLaws.{given}
-
--- the inner term of a label
-pub inside-label : (T : Table) (s : List ℕ) (at : ℕ) (l : Label) (t : Term) (w : List ℕ) (low top count next : ℕ) → One s at t → NodesReady T s at (label l t) w low top count next
-    → NodesReady T s (at + 5) t w low top count next
-unfolding Suits
-inside-label T s at l t w low top count next o q = record { ready = inner-of-label s at (stacks w) low top l t o (q .ready); suits = q .suits; within = q .within }
 
 -- ---- a sequence
 
@@ -48,9 +40,9 @@ module _ (T : Table) (s : List ℕ) (at : ℕ) (a b : Term) (w : List ℕ) (low 
     pub suits-right : Suits T b (nodeWalk T a A N .cells) (nodeWalk T a A N .nodes)
     pub within : floor + top + count * 2 ≤ length w
 
-  pub sequence-ready : Two s at a b → NodesReady T s at (sequence a b) w low top count next → SequenceReady
+  pub sequence-ready : NodesReady T s at (sequence a b) w low top count next → SequenceReady
   unfolding Suits
-  sequence-ready two q =
+  sequence-ready q =
       let p = parts-of-sequence s at (stacks w) low top a b (q .ready) in
       record { parts = p; left = record { ready = p .left; suits = q .suits .0; within = q .within }; suits-right = q .suits .1; within = q .within }
 
@@ -123,9 +115,9 @@ module _ (T : Table) (s : List ℕ) (at : ℕ) (a b : Term) (w : List ℕ) (low 
     pub within : floor + top + count * 2 ≤ length w
     pub share-is : share ≡ inputArity a
 
-  pub tensor-ready : (share : ℕ) → share ≡ word (stacks w) (slot at) → Two s at a b → NodesReady T s at (tensor a b) w low top count next → TensorReady share
+  pub tensor-ready : (share : ℕ) → share ≡ word (stacks w) (slot at) → NodesReady T s at (tensor a b) w low top count next → TensorReady share
   unfolding Suits
-  tensor-ready share e two q =
+  tensor-ready share e q =
       let p = parts-of-tensor s at (stacks w) low top a b (q .ready) in
       let i : inputArity a ≡ share = sym (e ∙ p .1) in
       let c : share ≤ count = omega (arith, q .suits .0, length-nodes (stacks w) top count) in
@@ -187,14 +179,11 @@ module _ (T : Table) (s : List ℕ) (at : ℕ) (t : Term) (w : List ℕ) (low to
   abbrev R : Term → Type 0
   R v = NodesReady T s at v w low top count next
 
-  pub some-label : getD s at 0 ≡ 18 → (a : Term) × One s at a × NodesReady T s (at + 5) a w low top count next
-  some-label e = by-tag s at (λ v. R v → (a : Term) × One s at a × NodesReady T s (at + 5) a w low top count next) 18 (λ l a o r. (a, o, inside-label T s at l a w low top count next o r)) e t (q .ready .stands) q
+  pub some-sequence : getD s at 0 ≡ 19 → (a : Term) × (b : Term) × R (sequence a b)
+  some-sequence e = by-tag s at (λ v. R v → (a : Term) × (b : Term) × R (sequence a b)) 19 (λ a b x r. (a, b, r)) e t (q .ready .stands) q
 
-  pub some-sequence : getD s at 0 ≡ 19 → (a : Term) × (b : Term) × SequenceReady T s at a b w low top count next
-  some-sequence e = by-tag s at (λ v. R v → (a : Term) × (b : Term) × SequenceReady T s at a b w low top count next) 19 (λ a b two r. (a, b, sequence-ready T s at a b w low top count next two r)) e t (q .ready .stands) q
-
-  pub some-tensor : (share : ℕ) → share ≡ word (stacks w) (slot at) → getD s at 0 ≡ 20 → (a : Term) × (b : Term) × TensorReady T s at a b w low top count next share
-  some-tensor share h e = by-tag s at (λ v. R v → (a : Term) × (b : Term) × TensorReady T s at a b w low top count next share) 20 (λ a b two r. (a, b, tensor-ready T s at a b w low top count next share h two r)) e t (q .ready .stands) q
+  pub some-tensor : getD s at 0 ≡ 20 → (a : Term) × (b : Term) × R (tensor a b)
+  some-tensor e = by-tag s at (λ v. R v → (a : Term) × (b : Term) × R (tensor a b)) 20 (λ a b x r. (a, b, r)) e t (q .ready .stands) q
 
 -- ---- an atomic and an id have one node
 

@@ -4,7 +4,7 @@ ghost use Prim.Native.Nat.{_+_, _*_, _≤_, _<_};
 ghost use lib.ListN.{length};
 ghost use Rattle.words.specs.Word.{word};
 ghost use Rattle.format.specs.Values.{ruleName};
-ghost use Rattle.format.specs.Terms.{Term, atomic, id};
+ghost use Rattle.format.specs.Terms.{Term, atomic, id, sequence, tensor};
 ghost use Rattle.format.specs.Goals.{goalsAt};
 ghost use Rattle.tables.specs.Tables.{Table};
 ghost use Rattle.tables.specs.Standing.{TableStands};
@@ -17,6 +17,7 @@ use crate::nodes::put_opens;
 use crate::nodes::put_range;
 use crate::nodes::put_use;
 use checker::arity::second_at;
+use checker::labels::unlabelled;
 use format::values::RuleName;
 use format::values::goal_at;
 use format::values::rule_name_at;
@@ -99,7 +100,74 @@ fn share_at(work: &[u8], at: usize) -> usize
     node_at(work, at / 3 * 2)
 }
 
-// The term at a place takes the nodes from `top` on, as many as count says, and puts those that it gives from `low` on; new nodes begin at `next`. The two stacks are kept apart as the checker's are.
+// A sequence: the nodes that its left term gives are moved to the end of the nodes taken, and the right term takes them there.
+fn walk_sequence(
+    table: &[u8],
+    first: usize,
+    proof: &[u8],
+    at: usize,
+    count: usize,
+    work: &mut [u8],
+    low: usize,
+    top: usize,
+    next: usize,
+) -> Given
+    requires { ⌜ ((T : Table) × (a : Term) × (b : Term) × TableStands (now table) first T × NodesReady T (now proof) at (sequence a b) (now work) low top count next) ⌝ }
+    ensures { λ r. ⌜ ((T : Table) (a b : Term) → TableStands (now (table .entry)) first T → NodesReady T (now (proof .entry)) at (sequence a b) (now (work .entry)) low top count next → NodesWalked T (sequence a b) (now (work .entry)) (now (work .exit)) low top count next r) ⌝ }
+{
+    let left = walk_nodes(table, first, proof, at + 3, count, work, low, top, next);
+    let second = second_at(proof, at);
+    let again = top + count * 2 - left.given * 2;
+    move_up(work, FLOOR + low, FLOOR + again, left.given * 2);
+    walk_nodes(
+        table,
+        first,
+        proof,
+        second,
+        left.given,
+        work,
+        low,
+        again,
+        left.next,
+    )
+}
+
+// A tensor: its left term takes as many nodes as its arity, which was noted, and the right term the others.
+fn walk_tensor(
+    table: &[u8],
+    first: usize,
+    proof: &[u8],
+    at: usize,
+    count: usize,
+    work: &mut [u8],
+    low: usize,
+    top: usize,
+    next: usize,
+) -> Given
+    requires { ⌜ ((T : Table) × (a : Term) × (b : Term) × TableStands (now table) first T × NodesReady T (now proof) at (tensor a b) (now work) low top count next) ⌝ }
+    ensures { λ r. ⌜ ((T : Table) (a b : Term) → TableStands (now (table .entry)) first T → NodesReady T (now (proof .entry)) at (tensor a b) (now (work .entry)) low top count next → NodesWalked T (tensor a b) (now (work .entry)) (now (work .exit)) low top count next r) ⌝ }
+{
+    let share = share_at(work, at);
+    let left = walk_nodes(table, first, proof, at + 3, share, work, low, top, next);
+    let second = second_at(proof, at);
+    let right = walk_nodes(
+        table,
+        first,
+        proof,
+        second,
+        count - share,
+        work,
+        low + left.given * 2,
+        top + share * 2,
+        left.next,
+    );
+    Given {
+        given: left.given + right.given,
+        next: right.next,
+    }
+}
+
+// The term at a place takes the nodes from `top` on, as many as count says, and puts those that it gives from `low` on; new nodes begin at `next`. The two stacks are kept apart as the checker's are, and labels are no level of the recursion.
 pub fn walk_nodes(
     table: &[u8],
     first: usize,
@@ -114,52 +182,19 @@ pub fn walk_nodes(
     requires { ⌜ ((T : Table) × (t : Term) × TableStands (now table) first T × NodesReady T (now proof) at t (now work) low top count next) ⌝ }
     ensures { λ r. ⌜ ((T : Table) (t : Term) → TableStands (now (table .entry)) first T → NodesReady T (now (proof .entry)) at t (now (work .entry)) low top count next → NodesWalked T t (now (work .entry)) (now (work .exit)) low top count next r) ⌝ }
 {
-    let tag = proof[at];
+    let start = unlabelled(proof, at);
+    let tag = proof[start];
     if tag == 16 {
-        return use_rule(table, first, proof, at, work, low, top, next);
+        return use_rule(table, first, proof, start, work, low, top, next);
     }
     if tag == 17 {
         return keep_node(work, low, top, next);
     }
-    if tag == 18 {
-        return walk_nodes(table, first, proof, at + 5, count, work, low, top, next);
-    }
     if tag == 19 {
-        let left = walk_nodes(table, first, proof, at + 3, count, work, low, top, next);
-        let second = second_at(proof, at);
-        let again = top + count * 2 - left.given * 2;
-        move_up(work, FLOOR + low, FLOOR + again, left.given * 2);
-        return walk_nodes(
-            table,
-            first,
-            proof,
-            second,
-            left.given,
-            work,
-            low,
-            again,
-            left.next,
-        );
+        return walk_sequence(table, first, proof, start, count, work, low, top, next);
     }
     if tag == 20 {
-        let share = share_at(work, at);
-        let left = walk_nodes(table, first, proof, at + 3, share, work, low, top, next);
-        let second = second_at(proof, at);
-        let right = walk_nodes(
-            table,
-            first,
-            proof,
-            second,
-            count - share,
-            work,
-            low + left.given * 2,
-            top + share * 2,
-            left.next,
-        );
-        return Given {
-            given: left.given + right.given,
-            next: right.next,
-        };
+        return walk_tensor(table, first, proof, start, count, work, low, top, next);
     }
     Given { given: 0, next }
 }

@@ -2,14 +2,12 @@
 -- Assumes nothing.
 use mathlib.Core.Path.{_≡_, sym, subst, _∙_}
 use mathlib.Core.List.{List}
-use Prim.Native.Nat.{ℕ, _+_, _≤_}
+use Prim.Native.Nat.{ℕ, _≤_}
 use native.Mathlib.Omega.{arith}
 use lib.ListN.{length, getD}
 use denote.Ref.{now}
 use borrow.Author.Needs.{needs}
-use Rattle.words.specs.Word.{word}
-use Rattle.format.specs.Values.{ruleName}
-use Rattle.format.specs.Terms.{Term, atomic}
+use Rattle.format.specs.Terms.{Term}
 use Rattle.format.proofs.StandsLaws.{Known, known}
 use Rattle.format.proofs.ByTag.{Case, by-tag}
 use Rattle.tables.specs.Tables.{Table}
@@ -17,17 +15,13 @@ use Rattle.checker.specs.declared.walk.Walked.{Walked}
 use Rattle.checker.specs.declared.walk.Walked.the-variants as W
 use Rattle.checker.specs.Labels.{bare}
 use Rattle.checker.specs.Walks.{Ready, Walks}
-use Rattle.checker.proofs.ReadyLaws.{some-sequence, some-tensor, some-atomic}
+use Rattle.checker.proofs.ReadyLaws.{named, some-sequence, some-tensor, some-atomic}
 use Rattle.checker.proofs.OtherTerms.{if-other}
 use Rattle.checker.proofs.LabelLaws.{bare-tag, bare-behind, bare-ready, bare-walk, label-refused}
 use Rattle.checker.proofs.WalkLaws.{other-alternation, other-assert, other-defined}
 use Rattle.checker.proofs.walk.walk.Reads as walk
 use Rattle.checker.proofs.walk.+walk+walk_sequence+walk_tensor.Lts-walk as lts
 use Rattle.checker.proofs.walk.+walk+walk_sequence+walk_tensor.Proof.Claims.{walk-at, walk-claims}
-
--- the atomic of the name that stands in the file
-named : (s : List ℕ) (at v : ℕ) (P : Term → Type 0) → word s (at + 3) ≡ v → P (atomic (ruleName (word s (at + 3)))) → P (atomic (ruleName v))
-named s at v P e p = subst (λ (x : ℕ). P (atomic (ruleName x))) e p
 
 module _ (t : ℕ) where
   abbrev Start : Type 0
