@@ -1,0 +1,96 @@
+//! A library with the five C functions over the second engine. The environment
+//! variable HITAC_STUB_FAULT makes it wrong in one way; without it, it is right.
+
+use second::Answer;
+use std::slice::{from_raw_parts, from_raw_parts_mut};
+
+fn fault() -> String {
+    std::env::var("HITAC_STUB_FAULT").unwrap_or_default()
+}
+
+/// What a wrong engine would do after a call.
+unsafe fn spoil(mut answer: Answer, work: *mut u8, work_length: usize, out: *mut u8, out_length: usize) -> Answer {
+    match fault().as_str() {
+        "place" => answer.place += 1,
+        "work" if answer.number != 29 => *work.add(work_length - 1) = 1,
+        "guard" => *work.add(work_length) ^= 1,
+        "refused output" if answer.number != 0 && out_length > 0 => *out ^= 1,
+        "output behind" if answer.number == 0 && (answer.length as usize) < out_length => {
+            *out.add(answer.length as usize) ^= 1
+        }
+        "crash" => std::process::abort(),
+        _ => {}
+    }
+    answer
+}
+
+type Space = *mut u8;
+
+macro_rules! checker {
+    ($name:ident, $second:path) => {
+        /// # Safety
+        /// Every pointer is good for its length.
+        #[no_mangle]
+        pub unsafe extern "C" fn $name(
+            table: *const u8,
+            table_length: usize,
+            other: *const u8,
+            other_length: usize,
+            work: Space,
+            work_length: usize,
+        ) -> Answer {
+            let (table, other) = (from_raw_parts(table, table_length), from_raw_parts(other, other_length));
+            let answer = $second(table, other, from_raw_parts_mut(work, work_length));
+            spoil(answer, work, work_length, work, 0)
+        }
+    };
+}
+
+macro_rules! writer {
+    ($name:ident, $second:path) => {
+        /// # Safety
+        /// Every pointer is good for its length.
+        #[no_mangle]
+        pub unsafe extern "C" fn $name(
+            table: *const u8,
+            table_length: usize,
+            other: *const u8,
+            other_length: usize,
+            work: Space,
+            work_length: usize,
+            out: Space,
+            out_length: usize,
+        ) -> Answer {
+            let (table, other) = (from_raw_parts(table, table_length), from_raw_parts(other, other_length));
+            let spaces = (from_raw_parts_mut(work, work_length), from_raw_parts_mut(out, out_length));
+            let answer = $second(table, other, spaces.0, spaces.1);
+            spoil(answer, work, work_length, out, out_length)
+        }
+    };
+}
+
+checker!(hitac_check, second::check);
+checker!(hitac_check_flat, second::check_flat);
+writer!(hitac_flatten, second::flatten);
+writer!(hitac_write_proof, second::write_proof);
+
+/// # Safety
+/// Every pointer is good for its length.
+#[no_mangle]
+#[allow(clippy::too_many_arguments)]
+pub unsafe extern "C" fn hitac_run(
+    table: *const u8,
+    table_length: usize,
+    job: *const u8,
+    job_length: usize,
+    budget: u32,
+    work: Space,
+    work_length: usize,
+    out: Space,
+    out_length: usize,
+) -> Answer {
+    let (table, job) = (from_raw_parts(table, table_length), from_raw_parts(job, job_length));
+    let spaces = (from_raw_parts_mut(work, work_length), from_raw_parts_mut(out, out_length));
+    let answer = second::run(table, job, budget, spaces.0, spaces.1);
+    spoil(answer, work, work_length, out, out_length)
+}

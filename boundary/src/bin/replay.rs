@@ -1,0 +1,205 @@
+//! Replays generated cases against the built library and the second engine.
+
+use boundary::compare::{name_of, Comparer, Comparison};
+use boundary::exact::compare_exactly;
+use boundary::lent::Poison;
+use boundary::library::Library;
+use boundary::mix::Mix;
+use boundary::options::Options;
+use boundary::record;
+use boundary::tally::{with_commas, Tally};
+use second::generate::case::Case;
+use std::fs::File;
+use std::os::unix::fs::FileExt;
+use std::os::unix::process::ExitStatusExt;
+use std::path::{Path, PathBuf};
+use std::process::{Command, ExitCode};
+use std::time::Instant;
+
+const HELP: &str = "\
+replay: the built engine against the second engine, through the C functions
+
+  replay [--cases N] [--seed S] [--library PATH] [--differences FOLDER] [--exact]
+  replay --file VECTORS [--library PATH]
+  replay --only NUMBER [--seed S] [--library PATH]
+
+  --cases N             how many generated cases (20,000)
+  --seed S              which ones (1)
+  --only NUMBER         the generated case of that number alone
+  --file VECTORS        the cases of a vector file, each with every poison
+  --library PATH        the library (target/library/libhitac.so)
+  --differences FOLDER  where cases that differ are written (target/differences)
+  --exact               heap blocks of exact size without contents, for a memory checker
+  --in-process          do not watch over the calls from a second process
+
+Exit status: 0 no difference; 1 a difference, or the library ended the process;
+2 the command is not understood; 3 a file cannot be read or written.
+";
+
+const VALUED: [&str; 6] = ["--cases", "--seed", "--only", "--file", "--library", "--differences"];
+const FLAGS: [&str; 3] = ["--exact", "--in-process", "--help"];
+
+/// Generated cases to be replayed.
+struct Job {
+    first: u64,
+    cases: u64,
+    seed: u64,
+    library: PathBuf,
+    differences: PathBuf,
+    exact: bool,
+}
+
+fn main() -> ExitCode {
+    let arguments: Vec<String> = std::env::args().skip(1).collect();
+    match Options::of(&arguments, &VALUED, &FLAGS) {
+        Ok(options) if options.has("--help") => {
+            print!("{HELP}");
+            ExitCode::SUCCESS
+        }
+        Ok(options) => perform(&options, &arguments).unwrap_or_else(|message| {
+            eprintln!("replay: {message}");
+            ExitCode::from(3)
+        }),
+        Err(message) => {
+            eprintln!("replay: {message}; --help lists the options");
+            ExitCode::from(2)
+        }
+    }
+}
+
+fn perform(options: &Options, arguments: &[String]) -> Result<ExitCode, String> {
+    let library = PathBuf::from(options.text("--library").unwrap_or("target/library/libhitac.so"));
+    if let Some(file) = options.text("--file") {
+        return replay_file(&Library::load(&library)?, Path::new(file));
+    }
+    let only = options.text("--only").is_some();
+    let job = Job {
+        first: options.number("--only", 0)?,
+        cases: if only { 1 } else { options.number("--cases", 20_000)? },
+        seed: options.number("--seed", 1)?,
+        library,
+        differences: PathBuf::from(options.text("--differences").unwrap_or("target/differences")),
+        exact: options.has("--exact"),
+    };
+    if options.has("--in-process") {
+        return replay_generated(&job);
+    }
+    watch_over(&job, arguments)
+}
+
+/// Makes the calls in a process of their own: if one of them ends it, its case
+/// is written down like any other difference.
+fn watch_over(job: &Job, arguments: &[String]) -> Result<ExitCode, String> {
+    let program = std::env::current_exe().map_err(|error| error.to_string())?;
+    let status = Command::new(program).args(arguments).arg("--in-process").status();
+    let status = status.map_err(|error| format!("the process of the calls cannot be started: {error}"))?;
+    let Some(signal) = status.signal() else {
+        return Ok(ExitCode::from(status.code().unwrap_or(3) as u8));
+    };
+    let number = present_case(&job.differences)?;
+    let (_, case) = Mix::new(job.seed).case(number);
+    let what = [format!("the call ended the process with signal {signal}")];
+    print!("{}", record::write(&job.differences, &record_name(job, number), &case, &what)?);
+    Ok(ExitCode::from(1))
+}
+
+fn record_name(job: &Job, number: u64) -> String {
+    format!("seed-{}-case-{number}", job.seed)
+}
+
+fn present_case(differences: &Path) -> Result<u64, String> {
+    let path = record::file_of_present_case(differences);
+    let bytes = std::fs::read(&path).map_err(|error| format!("cannot read {}: {error}", path.display()))?;
+    let number: [u8; 8] = bytes.try_into().map_err(|_| "the number of the present case is torn".to_string())?;
+    Ok(u64::from_be_bytes(number))
+}
+
+fn replay_generated(job: &Job) -> Result<ExitCode, String> {
+    let library = Library::load(&job.library)?;
+    let mut comparer = Comparer::new(library);
+    let mix = Mix::new(job.seed);
+    let present = open_present_case(&job.differences)?;
+    let mut tally = Tally::default();
+    let start = Instant::now();
+    for number in job.first..job.first + job.cases {
+        let (kind, case) = mix.case(number);
+        // A failure to write only makes a crash harder to find.
+        let _ = present.write_all_at(&number.to_be_bytes(), 0);
+        let comparison = if job.exact {
+            compare_exactly(&library, &case)
+        } else {
+            comparer.compare(&case, Poison::ALL[(number % 3) as usize])
+        };
+        tally.count(case.entry, comparison.expected, !comparison.differences.is_empty());
+        tally.count_kind(kind);
+        if !comparison.differences.is_empty() {
+            report(job, number, &case, &comparison, tally.differences)?;
+        }
+        show_progress(job, &tally, start);
+    }
+    Ok(conclude(job, &tally, start))
+}
+
+fn open_present_case(differences: &Path) -> Result<File, String> {
+    let path = record::file_of_present_case(differences);
+    let made = std::fs::create_dir_all(differences).and_then(|()| File::create(&path));
+    made.map_err(|error| format!("cannot write {}: {error}", path.display()))
+}
+
+fn report(job: &Job, number: u64, case: &Case, comparison: &Comparison, so_far: u64) -> Result<(), String> {
+    if so_far <= record::MOST_RECORDS {
+        let name = record_name(job, number);
+        print!("difference in {}", record::write(&job.differences, &name, case, &comparison.differences)?);
+    }
+    Ok(())
+}
+
+/// Long replays say twenty times how far they are.
+fn show_progress(job: &Job, tally: &Tally, start: Instant) {
+    let part = job.cases / 20;
+    if job.cases >= 50_000 && tally.cases.is_multiple_of(part) {
+        eprintln!(
+            "replay: {} of {} cases, {} differences, {} s",
+            with_commas(tally.cases),
+            with_commas(job.cases),
+            tally.differences,
+            start.elapsed().as_secs()
+        );
+    }
+}
+
+fn conclude(job: &Job, tally: &Tally, start: Instant) -> ExitCode {
+    println!("{}", tally.table());
+    println!("kinds: {}", tally.kinds_line());
+    println!(
+        "replay: seed {}, {} cases, {} differences, {:.1} s{}",
+        job.seed,
+        with_commas(tally.cases),
+        tally.differences,
+        start.elapsed().as_secs_f64(),
+        if job.exact { ", blocks of exact size" } else { "" }
+    );
+    ExitCode::from(u8::from(tally.differences > 0))
+}
+
+/// The cases of a vector file, each with every poison. The file's expectation is
+/// compared, too: the second engine may have changed since.
+fn replay_file(library: &Library, path: &Path) -> Result<ExitCode, String> {
+    let mut comparer = Comparer::new(*library);
+    let mut differences = 0;
+    for (number, expected) in record::read(path)?.iter().enumerate() {
+        let case = &expected.case;
+        let mut found = Vec::new();
+        for poison in Poison::ALL {
+            let comparison = comparer.compare(case, poison);
+            if comparison.expected != expected.answer {
+                found.push(format!("the file expects {:?}", expected.answer));
+            }
+            found.extend(comparison.differences.iter().map(|words| format!("{words} (poison {poison:?})")));
+        }
+        differences += u32::from(!found.is_empty());
+        println!("case {number}, {}: {}", name_of(case.entry), if found.is_empty() { "agrees" } else { "differs" });
+        found.iter().for_each(|words| println!("  {words}"));
+    }
+    Ok(ExitCode::from(u8::from(differences > 0)))
+}

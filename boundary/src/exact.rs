@@ -1,0 +1,81 @@
+//! One case in heap blocks of exactly the lengths that are lent, the spaces left
+//! without contents. A memory checker then sees every access beside a block, and
+//! every decision that depends on what a lent space held before the call.
+
+use crate::compare::Comparison;
+use crate::library::{Call, Library};
+use second::generate::case::Case;
+use std::ffi::c_void;
+
+extern "C" {
+    fn malloc(size: usize) -> *mut c_void;
+    fn free(block: *mut c_void);
+}
+
+/// A heap block of that length and no byte more.
+struct Block {
+    start: *mut u8,
+    length: usize,
+}
+
+impl Block {
+    fn without_contents(length: usize) -> Block {
+        // SAFETY: malloc takes any size; a block of no bytes is never read.
+        let start = unsafe { malloc(length) }.cast::<u8>();
+        assert!(length == 0 || !start.is_null(), "out of memory");
+        Block { start, length }
+    }
+
+    fn of_file(file: &[u8]) -> Block {
+        let block = Block::without_contents(file.len());
+        // SAFETY: the block was just made, with the file's length.
+        unsafe { std::ptr::copy_nonoverlapping(file.as_ptr(), block.start, file.len()) };
+        block
+    }
+
+    /// The first `length` bytes, which the caller knows to be written.
+    fn front(&self, length: usize) -> &[u8] {
+        // SAFETY: not past the block.
+        unsafe { std::slice::from_raw_parts(self.start, length.min(self.length)) }
+    }
+}
+
+impl Drop for Block {
+    fn drop(&mut self) {
+        // SAFETY: the block came from malloc and is given back once.
+        unsafe { free(self.start.cast()) };
+    }
+}
+
+/// Makes the call and compares what can be compared: after 29 the work space has
+/// no contents, and behind a result the output space has none.
+pub fn compare_exactly(library: &Library, case: &Case) -> Comparison {
+    let outcome = case.outcome();
+    let expected = outcome.answer;
+    let (table, other) = (Block::of_file(&case.table), Block::of_file(&case.other));
+    let work = Block::without_contents(case.work_length);
+    let output = Block::without_contents(case.output_length);
+    let call = Call {
+        entry: case.entry,
+        table: (table.start, table.length),
+        other: (other.start, other.length),
+        budget: case.budget,
+        work: (work.start, work.length),
+        output: (output.start, output.length),
+    };
+    // SAFETY: four blocks of their own, each as long as it is said.
+    let given = unsafe { library.call(&call) };
+    let mut differences = Vec::new();
+    if given != expected {
+        differences.push(format!("answer: {given:?} should be {expected:?}"));
+    } else {
+        let length = expected.length as usize;
+        if output.front(length) != &outcome.output[..length] {
+            differences.push("output space: the result differs".to_string());
+        }
+        if expected.number != 29 && work.front(work.length).iter().any(|&byte| byte != 0) {
+            differences.push("work space: not all zero".to_string());
+        }
+    }
+    Comparison { expected, given, differences }
+}

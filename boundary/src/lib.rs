@@ -1,0 +1,19 @@
+//! The built engine, called through its C functions, beside the second engine.
+//!
+//! - `library`: the shared library and its five functions;
+//! - `lent`: lent spaces with guard bytes, poisoned before a call, inspected after;
+//! - `compare`: one case through both engines, and every difference in words;
+//! - `exact`: one case in heap blocks of exact size, for a memory checker;
+//! - `mix`: generated cases of all kinds, each determined by seed and number;
+//! - `tally`: what was called and what was answered;
+//! - `record`: a case that differs, as a file that replays it;
+//! - `options`: command lines of name and value.
+
+pub mod compare;
+pub mod exact;
+pub mod lent;
+pub mod library;
+pub mod mix;
+pub mod options;
+pub mod record;
+pub mod tally;

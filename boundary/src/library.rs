@@ -1,0 +1,119 @@
+//! The shared library: its five C functions, loaded by path.
+
+use second::generate::case::Entry;
+use second::Answer;
+use std::ffi::{c_char, c_int, c_void, CStr, CString};
+use std::mem::transmute;
+use std::os::unix::ffi::OsStrExt;
+use std::path::Path;
+
+/// Pointer and length of a file, which the callee only reads.
+pub type File = (*const u8, usize);
+/// Pointer and length of a lent space.
+pub type Lent = (*mut u8, usize);
+
+pub type CheckFunction = unsafe extern "C" fn(*const u8, usize, *const u8, usize, *mut u8, usize) -> Answer;
+pub type WriteFunction =
+    unsafe extern "C" fn(*const u8, usize, *const u8, usize, *mut u8, usize, *mut u8, usize) -> Answer;
+pub type RunFunction =
+    unsafe extern "C" fn(*const u8, usize, *const u8, usize, u32, *mut u8, usize, *mut u8, usize) -> Answer;
+
+/// The five functions. `Answer` of the second engine has the layout of the C
+/// struct: eight u32 in the order of docs/ENTRIES.md.
+#[derive(Clone, Copy)]
+pub struct Library {
+    pub check: CheckFunction,
+    pub run: RunFunction,
+    pub flatten: WriteFunction,
+    pub check_flat: CheckFunction,
+    pub write_proof: WriteFunction,
+}
+
+/// What one call is given.
+pub struct Call {
+    pub entry: Entry,
+    pub table: File,
+    pub other: File,
+    pub budget: u32,
+    pub work: Lent,
+    pub output: Lent,
+}
+
+extern "C" {
+    fn dlopen(path: *const c_char, flags: c_int) -> *mut c_void;
+    fn dlsym(library: *mut c_void, name: *const c_char) -> *mut c_void;
+    fn dlerror() -> *const c_char;
+}
+
+/// Every symbol is looked up at once, so that a missing one is reported here and
+/// not in the middle of a call.
+const RTLD_NOW: c_int = 2;
+
+impl Library {
+    /// Loads the library; it stays loaded until the program ends.
+    pub fn load(path: &Path) -> Result<Library, String> {
+        let name = CString::new(path.as_os_str().as_bytes()).map_err(|_| "the path holds a zero byte".to_string())?;
+        // SAFETY: the name ends with a zero byte; running a library's
+        // initialisers is what loading it means.
+        let handle = unsafe { dlopen(name.as_ptr(), RTLD_NOW) };
+        if handle.is_null() {
+            return Err(loader_message());
+        }
+        // SAFETY: include/hitac.h declares the functions with these types.
+        unsafe {
+            Ok(Library {
+                check: transmute::<*mut c_void, CheckFunction>(symbol(handle, c"hitac_check")?),
+                run: transmute::<*mut c_void, RunFunction>(symbol(handle, c"hitac_run")?),
+                flatten: transmute::<*mut c_void, WriteFunction>(symbol(handle, c"hitac_flatten")?),
+                check_flat: transmute::<*mut c_void, CheckFunction>(symbol(handle, c"hitac_check_flat")?),
+                write_proof: transmute::<*mut c_void, WriteFunction>(symbol(handle, c"hitac_write_proof")?),
+            })
+        }
+    }
+
+    /// Makes one call.
+    ///
+    /// # Safety
+    /// Every pointer is good for its length, and no two regions overlap.
+    pub unsafe fn call(&self, call: &Call) -> Answer {
+        let Call { entry, table, other, budget, work, output } = *call;
+        match entry {
+            Entry::Check => (self.check)(table.0, table.1, other.0, other.1, work.0, work.1),
+            Entry::CheckFlat => (self.check_flat)(table.0, table.1, other.0, other.1, work.0, work.1),
+            Entry::Flatten => (self.flatten)(table.0, table.1, other.0, other.1, work.0, work.1, output.0, output.1),
+            Entry::WriteProof => {
+                (self.write_proof)(table.0, table.1, other.0, other.1, work.0, work.1, output.0, output.1)
+            }
+            Entry::Run => (self.run)(table.0, table.1, other.0, other.1, budget, work.0, work.1, output.0, output.1),
+        }
+    }
+}
+
+unsafe fn symbol(handle: *mut c_void, name: &CStr) -> Result<*mut c_void, String> {
+    let address = dlsym(handle, name.as_ptr());
+    if address.is_null() {
+        return Err(loader_message());
+    }
+    Ok(address)
+}
+
+/// What the loader says about its last failure.
+fn loader_message() -> String {
+    // SAFETY: dlerror gives null or a string that ends with a zero byte.
+    let message = unsafe { dlerror() };
+    if message.is_null() {
+        return "the library cannot be loaded".to_string();
+    }
+    unsafe { CStr::from_ptr(message) }.to_string_lossy().into_owned()
+}
+
+#[cfg(test)]
+mod tests {
+    use super::*;
+
+    #[test]
+    fn a_missing_library_is_an_error_in_words() {
+        let message = Library::load(Path::new("no/such/library.so")).err().unwrap();
+        assert!(message.contains("no/such/library.so"), "{message}");
+    }
+}

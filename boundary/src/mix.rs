@@ -1,0 +1,236 @@
+//! Generated cases of all kinds. Seed and number determine a case, so any one of
+//! a million can be made again by itself.
+
+use second::generate::case::{Case, Entry};
+use second::generate::damage::damage;
+use second::generate::random::Random;
+use second::generate::random_table::{RandomTable, Size};
+use second::generate::{other_file, vary_lent_spaces, vector_set};
+
+/// How a case came about.
+#[derive(Clone, Copy, PartialEq, Eq, Debug)]
+pub enum Kind {
+    /// Files that fit each other, but for mistakes that the maker of random
+    /// files makes on purpose.
+    Fitting,
+    /// The same with thousands of fields.
+    Large,
+    /// One to three pieces of damage in one of the files.
+    Mutated,
+    /// A file cut short, a piece cut out, or two halves of different files.
+    Torn,
+    /// A table of another maker, or one that is nearly the right one; files of
+    /// the wrong kind.
+    Foreign,
+    /// A table with one to three faults for 6 to 9.
+    FaultyTable,
+    /// A file of the fixed vectors that is near a limit.
+    AtALimit,
+    /// Any other case of the fixed vectors, lent other spaces.
+    Known,
+}
+
+impl Kind {
+    pub const ALL: [Kind; 8] = [
+        Kind::Fitting,
+        Kind::Large,
+        Kind::Mutated,
+        Kind::Torn,
+        Kind::Foreign,
+        Kind::FaultyTable,
+        Kind::AtALimit,
+        Kind::Known,
+    ];
+
+    pub fn name(self) -> &'static str {
+        match self {
+            Kind::Fitting => "fitting",
+            Kind::Large => "large",
+            Kind::Mutated => "mutated",
+            Kind::Torn => "torn",
+            Kind::Foreign => "foreign",
+            Kind::FaultyTable => "faulty table",
+            Kind::AtALimit => "at a limit",
+            Kind::Known => "known",
+        }
+    }
+
+    /// Large files cost a hundred times what small ones do, so they are few.
+    fn at_random(random: &mut Random) -> Kind {
+        match random.below(100) {
+            0..=39 => Kind::Fitting,
+            40..=42 => Kind::Large,
+            43..=62 => Kind::Mutated,
+            63..=74 => Kind::Torn,
+            75..=84 => Kind::Foreign,
+            85..=89 => Kind::FaultyTable,
+            90..=93 => Kind::AtALimit,
+            _ => Kind::Known,
+        }
+    }
+}
+
+/// A file with more bytes than this makes a fixed case one at a limit.
+const NEAR_A_LIMIT: usize = 3_000;
+
+/// The maker of cases. It holds the fixed vectors, which take a while to make.
+pub struct Mix {
+    seed: u64,
+    at_limits: Vec<Case>,
+    known: Vec<Case>,
+}
+
+impl Mix {
+    pub fn new(seed: u64) -> Mix {
+        let all = vector_set().into_iter().flat_map(|(_, cases)| cases);
+        let (at_limits, known) =
+            all.partition(|case| case.table.len() > NEAR_A_LIMIT || case.other.len() > NEAR_A_LIMIT);
+        Mix { seed, at_limits, known }
+    }
+
+    /// The case of that number.
+    pub fn case(&self, number: u64) -> (Kind, Case) {
+        let random = &mut Random::new(self.seed.wrapping_mul(0xD134_2543_DE82_EF95).wrapping_add(number));
+        let entry = *random.pick(&Entry::ALL);
+        let kind = Kind::at_random(random);
+        let case = match kind {
+            Kind::Fitting => fitting(entry, Size::Small, random).1,
+            Kind::Large => fitting(entry, Size::Large, random).1,
+            Kind::Mutated => mutated(entry, random),
+            Kind::Torn => torn(entry, random),
+            Kind::Foreign => foreign(entry, random),
+            Kind::FaultyTable => faulty_table(entry, random),
+            Kind::AtALimit => random.pick(&self.at_limits).clone(),
+            Kind::Known => random.pick(&self.known).clone(),
+        };
+        (kind, vary_lent_spaces(random, case))
+    }
+}
+
+/// A table and a case over it.
+fn fitting(entry: Entry, size: Size, random: &mut Random) -> (RandomTable, Case) {
+    let table = RandomTable::make(random, size);
+    let other = other_file(entry, random, &table);
+    let case = bare_case(entry, table.bytes(), other);
+    (table, case)
+}
+
+/// A case whose spaces are still to be lent; `Case::new` would run it first.
+fn bare_case(entry: Entry, table: Vec<u8>, other: Vec<u8>) -> Case {
+    Case { entry, table, other, budget: 0, work_length: entry.work_size(), output_length: 0 }
+}
+
+/// One of the two files of a case; the other file twice as often as the table.
+fn some_file<'a>(random: &mut Random, case: &'a mut Case) -> &'a mut Vec<u8> {
+    if random.chance(33) {
+        &mut case.table
+    } else {
+        &mut case.other
+    }
+}
+
+fn mutated(entry: Entry, random: &mut Random) -> Case {
+    let (_, mut case) = fitting(entry, Size::Small, random);
+    let times = *random.pick(&[1, 1, 1, 2, 3]);
+    let mut made = Random::new(random.number());
+    let file = some_file(random, &mut case);
+    for _ in 0..times {
+        *file = damage(&mut made, file);
+    }
+    case
+}
+
+fn torn(entry: Entry, random: &mut Random) -> Case {
+    let (_, mut case) = fitting(entry, Size::Small, random);
+    let (_, another) = fitting(entry, Size::Small, random);
+    let way = random.below(4);
+    let (first, second) = (random.number() as usize, random.number() as usize);
+    let is_table = random.chance(33);
+    let (file, stranger) = if is_table { (&mut case.table, another.table) } else { (&mut case.other, another.other) };
+    // A cut may fall before the first byte and behind the last.
+    let cut = first % (file.len() + 1);
+    match way {
+        0 => file.truncate(cut),
+        1 => drop(file.drain(..cut)),
+        2 => drop(file.drain(cut..cut + second % (file.len() - cut + 1))),
+        _ => {
+            file.truncate(cut);
+            file.extend(&stranger[second % (stranger.len() + 1)..]);
+        }
+    }
+    case
+}
+
+fn foreign(entry: Entry, random: &mut Random) -> Case {
+    let (mut table, mut case) = fitting(entry, Size::Small, random);
+    let stranger = RandomTable::make(random, Size::Small);
+    match random.below(7) {
+        0 => case.table = stranger.bytes(),
+        1 => case.table = std::mem::take(&mut case.other),
+        2 => case.other = case.table.clone(),
+        3 => {
+            let kind_of_file = *random.pick(&Entry::ALL);
+            case.other = other_file(kind_of_file, random, &table);
+        }
+        4 => case.other = (0..random.below(40)).map(|_| random.byte() % 36).collect(),
+        _ => {
+            nearly_the_right_one(random, &mut table);
+            case.table = table.bytes();
+        }
+    }
+    case
+}
+
+/// The table of another release: one rule is missing, or has other premises or
+/// another order of them, or one definition is missing.
+fn nearly_the_right_one(random: &mut Random, table: &mut RandomTable) {
+    let at = random.below(table.rules.len());
+    match random.below(4) {
+        0 if !table.rules.is_empty() => drop(table.rules.remove(at)),
+        1 if !table.rules.is_empty() => table.rules[at].premises.reverse(),
+        2 if !table.rules.is_empty() => {
+            let goal = *random.pick(&table.goals);
+            if let Some(premise) = table.rules[at].premises.first_mut() {
+                *premise = goal;
+            }
+        }
+        _ => {
+            let last = random.below(table.definitions.len() + 1);
+            table.definitions.truncate(last);
+        }
+    }
+}
+
+fn faulty_table(entry: Entry, random: &mut Random) -> Case {
+    let (mut table, mut case) = fitting(entry, Size::Small, random);
+    for _ in 0..1 + random.below(3) {
+        table.add_fault(random);
+    }
+    case.table = table.bytes();
+    case
+}
+
+#[cfg(test)]
+mod tests {
+    use super::*;
+
+    #[test]
+    fn seed_and_number_determine_a_case() {
+        let (first, second) = (Mix::new(7), Mix::new(7));
+        for number in 0..200 {
+            assert_eq!(first.case(number), second.case(number));
+        }
+        assert!((0..200).any(|number| first.case(number) != Mix::new(8).case(number)));
+    }
+
+    #[test]
+    fn every_kind_and_every_entry_comes() {
+        let mix = Mix::new(1);
+        let cases: Vec<(Kind, Case)> = (0..2_000).map(|number| mix.case(number)).collect();
+        for kind in Kind::ALL {
+            for entry in Entry::ALL {
+                assert!(cases.iter().any(|(its, case)| *its == kind && case.entry == entry), "{kind:?} {entry:?}");
+            }
+        }
+    }
+}
