@@ -1,0 +1,127 @@
+//! Line 1: torn files and foreign tables, every refusal with its place.
+
+use crate::inspector::Inspector;
+use boundary::tally::with_commas;
+use second::generate::case::{Case, Entry};
+use second::generate::random::Random;
+use second::generate::random_table::{RandomTable, Size};
+use second::generate::{build, examples, limit_files, other_file, reading};
+use second::Reason;
+
+pub fn inspect(inspector: &mut Inspector) -> Result<String, String> {
+    for entry in Entry::ALL {
+        damaged_files(inspector, entry);
+        torn_files(inspector, entry);
+        foreign_tables(inspector, entry);
+        lent_spaces(inspector, entry);
+    }
+    refusals_of_the_walk(inspector);
+    let refusals = inspector.tally.refusals().len();
+    if refusals < Reason::ALL.len() {
+        return Err(format!("only {refusals} of {} refusals occurred", Reason::ALL.len()));
+    }
+    Ok(format!(
+        "{} calls, all {refusals} refusals at {} different places",
+        with_commas(inspector.tally.cases),
+        with_commas(inspector.tally.distinct_places() as u64)
+    ))
+}
+
+/// A small file with every sort of field for the entry.
+fn good_file(entry: Entry) -> Vec<u8> {
+    match entry {
+        Entry::Check | Entry::Flatten => reading::proof_with_every_term(),
+        Entry::Run => reading::job_with_tactic_terms(),
+        Entry::CheckFlat | Entry::WriteProof => reading::flat_with_every_entry(),
+    }
+}
+
+/// Every truncation, every tag and many lengths in the place of every field's,
+/// in both files; the faults of 1 to 9 in their orders.
+fn damaged_files(inspector: &mut Inspector, entry: Entry) {
+    let (table, other) = (reading::table_with_every_field(), good_file(entry));
+    for changed in reading::systematic_damage(&table).iter().chain(&reading::refused_tables()) {
+        inspector.call_with_room(entry, changed, &other);
+    }
+    for changed in reading::systematic_damage(&other).iter().chain(&reading::refused_others()) {
+        inspector.call_with_room(entry, &table, changed);
+    }
+}
+
+/// Every truncation of both files of random pairs, and every piece that is lost
+/// in front. A run is lent so much that fewer pairs must do.
+fn torn_files(inspector: &mut Inspector, entry: Entry) {
+    let random = &mut Random::new(100 + u64::from(entry.code()));
+    for _ in 0..if entry == Entry::Run { 4 } else { 12 } {
+        let table = RandomTable::make(random, Size::Small);
+        let (bytes, other) = (table.bytes(), other_file(entry, random, &table));
+        for cut in 0..bytes.len() {
+            inspector.call_with_room(entry, &bytes[..cut], &other);
+        }
+        for cut in 0..other.len() {
+            inspector.call_with_room(entry, &bytes, &other[..cut]);
+            inspector.call_with_room(entry, &bytes, &other[cut..]);
+        }
+    }
+}
+
+/// Each of some files with the table of each other one, and every file in the
+/// place of every other kind.
+fn foreign_tables(inspector: &mut Inspector, entry: Entry) {
+    let random = &mut Random::new(200 + u64::from(entry.code()));
+    let tables: Vec<RandomTable> = (0..12).map(|_| RandomTable::make(random, Size::Small)).collect();
+    for owner in &tables {
+        let other = other_file(entry, random, owner);
+        for table in &tables {
+            inspector.call_with_room(entry, &table.bytes(), &other);
+        }
+        for kind in Entry::ALL {
+            let of_another_kind = other_file(kind, random, owner);
+            inspector.call_with_room(entry, &owner.bytes(), &of_another_kind);
+            inspector.call_with_room(entry, &of_another_kind, &other);
+        }
+    }
+}
+
+/// 29, 25 and 26 with spaces and budgets around their borders.
+fn lent_spaces(inspector: &mut Inspector, entry: Entry) {
+    let (table, other) = (reading::table_with_every_field(), good_file(entry));
+    let good = Case::new(entry, &table, &other);
+    let size = entry.work_size();
+    for work in [0, 1, size / 2, size - 1, size, size + 1, size + 4_096] {
+        inspector.call(&good.clone().with_work(work));
+    }
+    if let Some(result) = good.result() {
+        for output in 0..=result.len() + 3 {
+            inspector.call(&good.clone().with_output(output));
+        }
+    }
+    if entry == Entry::Run {
+        for budget in [0, 1, 2, 4_095, 4_096, 4_097, 65_536, u32::MAX] {
+            inspector.call(&good.clone().with_budget(budget));
+        }
+    }
+}
+
+/// The refusals that only larger files bring about: 22 and 28.
+fn refusals_of_the_walk(inspector: &mut Inspector) {
+    let eights = examples::table_of_eight();
+    let side_by_side = |count: usize| build::tensor_of(&vec![build::atomic(4); count]);
+    for count in [32, 33] {
+        let job = build::job(&vec![40; count], &side_by_side(count));
+        inspector.call_with_room(Entry::Check, &eights, &examples::eights(count));
+        inspector.call_with_room(Entry::Flatten, &eights, &examples::eights(count));
+        inspector.call_with_room(Entry::Run, &eights, &job);
+    }
+    for (entry, files, table) in [
+        (Entry::Check, limit_files::proofs(), eights.clone()),
+        (Entry::Flatten, limit_files::proofs(), eights),
+        (Entry::CheckFlat, limit_files::flats(), limit_files::chain_table()),
+        (Entry::WriteProof, limit_files::flats(), limit_files::chain_table()),
+        (Entry::Run, limit_files::jobs(), examples::table_a()),
+    ] {
+        for file in &files {
+            inspector.call_with_room(entry, &table, file);
+        }
+    }
+}
