@@ -6,10 +6,14 @@ use crate::inspector::Inspector;
 use crate::tree::{label, Parts, Tree};
 use boundary::tally::with_commas;
 use second::generate::case::{Case, Entry};
-use second::generate::examples;
 use second::generate::random::Random;
 use second::generate::random_file::random_job;
 use second::generate::random_table::{RandomTable, Size};
+use second::generate::{build, examples};
+use std::cell::Cell;
+
+/// Long proofs are changed at their first positions only.
+const MOST_POSITIONS: usize = 40;
 
 /// How many labels were put in and taken out.
 #[derive(Default)]
@@ -24,6 +28,7 @@ pub fn inspect(inspector: &mut Inspector) -> Result<String, String> {
     for (table, proof) in &proofs {
         labels_of_proof(inspector, table, proof, &mut count);
     }
+    deepest_labels(inspector, &mut count);
     let jobs = jobs();
     for (table, job) in &jobs {
         labels_of_job(inspector, table, job, &mut count);
@@ -41,34 +46,48 @@ pub fn inspect(inspector: &mut Inspector) -> Result<String, String> {
     ))
 }
 
+/// Labels are taken out of the proof, put in at every position alone and at all
+/// of them together, and taken out one by one.
 fn labels_of_proof(inspector: &mut Inspector, table: &[u8], proof: &[u8], count: &mut Count) {
     let parts = Parts::of(proof);
     let plain = parts.with(parts.term.without_labels());
-    count.removed += parts.term.labels() as u64;
     let (_, flat) = inspector.call_with_room(Entry::Flatten, table, proof);
+    count.removed += parts.term.labels() as u64;
     same_but_for_labels(inspector, table, &plain, &flat);
-    for number in 0..plain.term.fields().min(40) {
-        // A label takes one goal; round any other term it is refused.
-        let takes_one_goal = std::cell::Cell::new(false);
-        let term = plain.term.changed_at(number, |inner| {
-            takes_one_goal.set(inner.arity() == 1);
-            label(number as u16, label(65_535, inner))
-        });
-        let labelled = plain.with(term);
-        if takes_one_goal.get() {
-            count.added += 2;
-            same_but_for_labels(inspector, table, &labelled, &flat);
-        } else {
-            let case = Case::new(Entry::Check, table, &labelled.proof());
-            let (answer, _) = inspector.call(&case);
-            inspector.demand(answer.number == 20, &case, "a label round a term that does not take one goal");
-        }
+    for number in 0..plain.term.fields().min(MOST_POSITIONS) {
+        label_at(inspector, table, &plain, number, &flat, count);
     }
     let everywhere = plain.term.rebuilt(&mut labelled_if_one_goal);
-    if everywhere.fields() <= 4_096 {
-        count.added += everywhere.labels() as u64;
-        same_but_for_labels(inspector, table, &plain.with(everywhere), &flat);
+    if everywhere.fields() > 4_096 {
+        return;
     }
+    count.added += everywhere.labels() as u64;
+    same_but_for_labels(inspector, table, &plain.with(everywhere.clone()), &flat);
+    for number in 0..everywhere.fields().min(MOST_POSITIONS) {
+        let fewer = everywhere.changed_at(number, without_label);
+        if fewer.labels() < everywhere.labels() {
+            count.removed += 1;
+            same_but_for_labels(inspector, table, &plain.with(fewer), &flat);
+        }
+    }
+}
+
+/// Two labels round the subterm of that number. A label takes one goal; round a
+/// term that takes more or none it is refused.
+fn label_at(inspector: &mut Inspector, table: &[u8], plain: &Parts, number: usize, flat: &[u8], count: &mut Count) {
+    let takes_one_goal = Cell::new(false);
+    let term = plain.term.changed_at(number, |inner| {
+        takes_one_goal.set(inner.arity() == 1);
+        label(number as u16, label(65_535, inner))
+    });
+    let labelled = plain.with(term);
+    if takes_one_goal.get() {
+        count.added += 2;
+        return same_but_for_labels(inspector, table, &labelled, flat);
+    }
+    let case = Case::new(Entry::Check, table, &labelled.proof());
+    let (answer, _) = inspector.call(&case);
+    inspector.demand(answer.number == 20, &case, "a label was accepted round a term that does not take one goal");
 }
 
 fn labelled_if_one_goal(term: Tree) -> Tree {
@@ -76,6 +95,20 @@ fn labelled_if_one_goal(term: Tree) -> Tree {
         return label(3, term);
     }
     term
+}
+
+fn without_label(term: Tree) -> Tree {
+    match term {
+        Tree::Label(_, inner) => *inner,
+        other => other,
+    }
+}
+
+/// 4,095 labels round an id, the most that a file holds, and none.
+fn deepest_labels(inspector: &mut Inspector, count: &mut Count) {
+    let table = examples::table_a();
+    let proof = build::proof(&[10], &build::labels_around(4_095, &build::id()), &[10]);
+    labels_of_proof(inspector, &table, &proof, count);
 }
 
 /// The proof is accepted, with its own count of fields, and its flat form is the

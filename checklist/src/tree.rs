@@ -192,7 +192,7 @@ mod tests {
         let fields = parts.term.fields();
         assert_eq!((fields, parts.term.labels()), (11, 2));
         for number in 0..fields {
-            assert_eq!(parts.term.changed_at(number, |_| Empty).labels() <= 2, true);
+            assert!(parts.term.changed_at(number, |_| Empty).labels() <= 2);
             assert_ne!(parts.term.changed_at(number, |inner| label(9, inner)), parts.term);
         }
         assert_eq!(parts.term.changed_at(fields, |_| Empty), parts.term);
