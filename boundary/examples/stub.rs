@@ -3,6 +3,7 @@
 
 use second::Answer;
 use std::slice::{from_raw_parts, from_raw_parts_mut};
+use std::sync::atomic::{AtomicU32, Ordering::Relaxed};
 
 fn fault() -> String {
     std::env::var("HITAC_STUB_FAULT").unwrap_or_default()
@@ -12,6 +13,7 @@ fn fault() -> String {
 unsafe fn spoil(mut answer: Answer, work: *mut u8, work_length: usize, out: *mut u8, out_length: usize) -> Answer {
     match fault().as_str() {
         "place" => answer.place += 1,
+        "earlier contents" => answer.place += EARLIER.load(Relaxed),
         "work" if answer.number != 29 => *work.add(work_length - 1) = 1,
         "guard" => *work.add(work_length) ^= 1,
         "refused output" if answer.number != 0 && out_length > 0 => *out ^= 1,
@@ -26,6 +28,16 @@ unsafe fn spoil(mut answer: Answer, work: *mut u8, work_length: usize, out: *mut
 
 type Space = *mut u8;
 
+/// Whether the work space began with 255 before the call.
+static EARLIER: AtomicU32 = AtomicU32::new(0);
+
+unsafe fn look_at(work: Space, work_length: usize) {
+    if fault() == "earlier contents" {
+        let begins_with_255 = work_length > 0 && *work == 255;
+        EARLIER.store(u32::from(begins_with_255), Relaxed);
+    }
+}
+
 macro_rules! checker {
     ($name:ident, $second:path) => {
         /// # Safety
@@ -39,6 +51,7 @@ macro_rules! checker {
             work: Space,
             work_length: usize,
         ) -> Answer {
+            look_at(work, work_length);
             let (table, other) = (from_raw_parts(table, table_length), from_raw_parts(other, other_length));
             let answer = $second(table, other, from_raw_parts_mut(work, work_length));
             spoil(answer, work, work_length, work, 0)
@@ -61,6 +74,7 @@ macro_rules! writer {
             out: Space,
             out_length: usize,
         ) -> Answer {
+            look_at(work, work_length);
             let (table, other) = (from_raw_parts(table, table_length), from_raw_parts(other, other_length));
             let spaces = (from_raw_parts_mut(work, work_length), from_raw_parts_mut(out, out_length));
             let answer = $second(table, other, spaces.0, spaces.1);
@@ -89,6 +103,7 @@ pub unsafe extern "C" fn hitac_run(
     out: Space,
     out_length: usize,
 ) -> Answer {
+    look_at(work, work_length);
     let (table, job) = (from_raw_parts(table, table_length), from_raw_parts(job, job_length));
     let spaces = (from_raw_parts_mut(work, work_length), from_raw_parts_mut(out, out_length));
     let answer = second::run(table, job, budget, spaces.0, spaces.1);

@@ -46,7 +46,7 @@ fn a_right_library_has_no_difference() {
 
 #[test]
 fn every_fault_is_reported_with_a_file_that_replays_it() {
-    for fault in ["place", "work", "guard", "refused output", "output behind", "crash"] {
+    for fault in ["place", "work", "guard", "refused output", "output behind", "earlier contents", "crash"] {
         let output = generated(fault, fault);
         assert_eq!(output.status.code(), Some(1), "{fault}");
         let files = vector_files(fault);
