@@ -116,11 +116,18 @@ fn median(mut values: Vec<f64>) -> f64 {
     values[values.len() / 2]
 }
 
+/// Callgrind counts a repeated string instruction once for each byte, though it
+/// moves many at a time; this keeps the C library from using them to clear and
+/// copy blocks, so that counts stay near to times.
+const NO_STRING_INSTRUCTIONS: &str =
+    "glibc.cpu.x86_rep_movsb_threshold=4294967295:glibc.cpu.x86_rep_stosb_threshold=4294967295";
+
 /// Instructions of one call, counted by callgrind in a process of its own.
 pub fn instructions(library: &Path, family: &Family, size: usize, engine: Engine) -> Result<u64, String> {
     let program = std::env::current_exe().map_err(|error| error.to_string())?;
     let counts = std::env::temp_dir().join(format!("hitac-bench-{}.callgrind", std::process::id()));
     let output = Command::new("valgrind")
+        .env("GLIBC_TUNABLES", NO_STRING_INSTRUCTIONS)
         .args(["--tool=callgrind", "--toggle-collect=hitac_bench_call", "--main-stacksize=16777216"])
         .arg(format!("--callgrind-out-file={}", counts.display()))
         .arg(program)

@@ -67,8 +67,9 @@ impl Scale {
 fn panel(row: &Row) -> String {
     let scale = Scale::of(&row.counts);
     let mut svg = String::new();
-    let _ = writeln!(svg, "<text x=\"14\" y=\"20\" font-weight=\"bold\">{}</text>", name_of(row.family.entry));
-    let _ = writeln!(svg, "<text x=\"14\" y=\"34\">{} (ratio {:.2})</text>", row.family.title, row.ratio());
+    let entry = name_of(row.family.entry);
+    let _ = writeln!(svg, "<text x=\"14\" y=\"20\" font-weight=\"bold\">{entry}, ratio {:.2}</text>", row.ratio());
+    let _ = writeln!(svg, "<text x=\"14\" y=\"34\">{}</text>", row.family.title);
     axes(&mut svg, row, &scale);
     line(&mut svg, &row.counts, &scale, |counts| counts.ours, OURS, "none");
     line(&mut svg, &row.counts, &scale, |counts| counts.seconds, SECONDS, "4 3");

@@ -30,6 +30,19 @@ impl Tally {
         *self.kinds.entry(kind.name()).or_default() += 1;
     }
 
+    /// Adds what another thread has counted.
+    pub fn add(&mut self, other: Tally) {
+        self.cases += other.cases;
+        self.differences += other.differences;
+        for (key, count) in other.answers {
+            *self.answers.entry(key).or_default() += count;
+        }
+        for (kind, count) in other.kinds {
+            *self.kinds.entry(kind).or_default() += count;
+        }
+        self.places.extend(other.places);
+    }
+
     /// How many cases got that answer, over all entries.
     pub fn answered(&self, number: u32) -> u64 {
         self.answers.iter().filter(|((its, _), _)| *its == number).map(|(_, count)| count).sum()

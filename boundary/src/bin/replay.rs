@@ -14,12 +14,15 @@ use std::os::unix::fs::FileExt;
 use std::os::unix::process::ExitStatusExt;
 use std::path::{Path, PathBuf};
 use std::process::{Command, ExitCode};
+use std::sync::atomic::{AtomicU64, Ordering::Relaxed};
+use std::thread::Builder;
 use std::time::Instant;
 
 const HELP: &str = "\
 replay: the built engine against the second engine, through the C functions
 
-  replay [--cases N] [--seed S] [--library PATH] [--differences FOLDER] [--exact]
+  replay [--cases N] [--seed S] [--library PATH] [--differences FOLDER]
+         [--threads N] [--exact]
   replay --file VECTORS [--library PATH]
   replay --only NUMBER [--seed S] [--library PATH]
 
@@ -29,6 +32,7 @@ replay: the built engine against the second engine, through the C functions
   --file VECTORS        the cases of a vector file, each with every poison
   --library PATH        the library (target/library/libhitac.so)
   --differences FOLDER  where cases that differ are written (target/differences)
+  --threads N           threads that call at the same time (1)
   --exact               heap blocks of exact size without contents, for a memory checker
   --in-process          do not watch over the calls from a second process
 
@@ -36,7 +40,7 @@ Exit status: 0 no difference; 1 a difference, or the library ended the process;
 2 the command is not understood; 3 a file cannot be read or written.
 ";
 
-const VALUED: [&str; 6] = ["--cases", "--seed", "--only", "--file", "--library", "--differences"];
+const VALUED: [&str; 7] = ["--cases", "--seed", "--only", "--file", "--library", "--differences", "--threads"];
 const FLAGS: [&str; 3] = ["--exact", "--in-process", "--help"];
 
 /// Generated cases to be replayed.
@@ -47,6 +51,7 @@ struct Job {
     library: PathBuf,
     differences: PathBuf,
     exact: bool,
+    threads: u64,
 }
 
 fn main() -> ExitCode {
@@ -80,6 +85,7 @@ fn perform(options: &Options, arguments: &[String]) -> Result<ExitCode, String> 
         library,
         differences: PathBuf::from(options.text("--differences").unwrap_or("target/differences")),
         exact: options.has("--exact"),
+        threads: options.number("--threads", 1)?.max(1),
     };
     if options.has("--in-process") {
         return replay_generated(&job);
@@ -114,30 +120,90 @@ fn present_case(differences: &Path) -> Result<u64, String> {
     Ok(u64::from_be_bytes(number))
 }
 
+/// What the threads of a replay share.
+struct Shared<'a> {
+    job: &'a Job,
+    library: Library,
+    mix: Mix,
+    present_case: File,
+    start: Instant,
+    done: AtomicU64,
+    differences: AtomicU64,
+}
+
+/// As much stack as a main thread has: a term may be 4,096 fields deep.
+const STACK: usize = 8 << 20;
+
 fn replay_generated(job: &Job) -> Result<ExitCode, String> {
-    let library = Library::load(&job.library)?;
-    let mut comparer = Comparer::new(library);
-    let mix = Mix::new(job.seed);
-    let present = open_present_case(&job.differences)?;
+    let shared = &Shared {
+        job,
+        library: Library::load(&job.library)?,
+        mix: Mix::new(job.seed),
+        present_case: open_present_case(&job.differences)?,
+        start: Instant::now(),
+        done: AtomicU64::new(0),
+        differences: AtomicU64::new(0),
+    };
+    let tallies: Result<Vec<Tally>, String> = std::thread::scope(|scope| {
+        let spawn = |thread| Builder::new().stack_size(STACK).spawn_scoped(scope, move || shared.replay_part(thread));
+        let threads: Vec<_> = (0..job.threads).map(spawn).collect();
+        threads.into_iter().map(|thread| thread.map_err(|error| error.to_string())?.join().expect("no panic")).collect()
+    });
     let mut tally = Tally::default();
-    let start = Instant::now();
-    for number in job.first..job.first + job.cases {
-        let (kind, case) = mix.case(number);
-        // A failure to write only makes a crash harder to find.
-        let _ = present.write_all_at(&number.to_be_bytes(), 0);
-        let comparison = if job.exact {
-            compare_exactly(&library, &case)
-        } else {
-            comparer.compare(&case, Poison::ALL[(number % 3) as usize])
-        };
-        tally.count(case.entry, comparison.expected, !comparison.differences.is_empty());
-        tally.count_kind(kind);
-        if !comparison.differences.is_empty() {
-            report(job, number, &case, &comparison, tally.differences)?;
+    tallies?.into_iter().for_each(|part| tally.add(part));
+    Ok(conclude(job, &tally, shared.start))
+}
+
+impl Shared<'_> {
+    /// Every case whose number falls to that thread.
+    fn replay_part(&self, thread: u64) -> Result<Tally, String> {
+        let job = self.job;
+        let mut comparer = Comparer::new(self.library);
+        let mut tally = Tally::default();
+        let mut number = job.first + thread;
+        while number < job.first + job.cases {
+            let (kind, case) = self.mix.case(number);
+            // A failure to write only makes a crash harder to find.
+            let _ = self.present_case.write_all_at(&number.to_be_bytes(), 0);
+            let comparison = if job.exact {
+                compare_exactly(&self.library, &case)
+            } else {
+                comparer.compare(&case, Poison::ALL[(number % 3) as usize])
+            };
+            tally.count(case.entry, comparison.expected, !comparison.differences.is_empty());
+            tally.count_kind(kind);
+            if !comparison.differences.is_empty() {
+                self.report(number, &case, &comparison)?;
+            }
+            self.show_progress();
+            number += job.threads;
         }
-        show_progress(job, &tally, start);
+        Ok(tally)
     }
-    Ok(conclude(job, &tally, start))
+
+    fn report(&self, number: u64, case: &Case, comparison: &Comparison) -> Result<(), String> {
+        let so_far = self.differences.fetch_add(1, Relaxed);
+        if so_far < record::MOST_RECORDS {
+            let name = record_name(self.job, number);
+            print!("difference in {}", record::write(&self.job.differences, &name, case, &comparison.differences)?);
+        }
+        Ok(())
+    }
+
+    /// Long replays say twenty times how far they are.
+    fn show_progress(&self) {
+        let done = 1 + self.done.fetch_add(1, Relaxed);
+        let cases = self.job.cases;
+        if cases >= 50_000 && done.is_multiple_of(cases / 20) {
+            eprintln!(
+                "replay: {} of {} cases, {} differences, {} s",
+                with_commas(done),
+                with_commas(cases),
+                self.differences.load(Relaxed),
+                self.start.elapsed().as_secs()
+            );
+        }
+    }
 }
 
 fn open_present_case(differences: &Path) -> Result<File, String> {
@@ -146,37 +212,17 @@ fn open_present_case(differences: &Path) -> Result<File, String> {
     made.map_err(|error| format!("cannot write {}: {error}", path.display()))
 }
 
-fn report(job: &Job, number: u64, case: &Case, comparison: &Comparison, so_far: u64) -> Result<(), String> {
-    if so_far <= record::MOST_RECORDS {
-        let name = record_name(job, number);
-        print!("difference in {}", record::write(&job.differences, &name, case, &comparison.differences)?);
-    }
-    Ok(())
-}
-
-/// Long replays say twenty times how far they are.
-fn show_progress(job: &Job, tally: &Tally, start: Instant) {
-    let part = job.cases / 20;
-    if job.cases >= 50_000 && tally.cases.is_multiple_of(part) {
-        eprintln!(
-            "replay: {} of {} cases, {} differences, {} s",
-            with_commas(tally.cases),
-            with_commas(job.cases),
-            tally.differences,
-            start.elapsed().as_secs()
-        );
-    }
-}
-
 fn conclude(job: &Job, tally: &Tally, start: Instant) -> ExitCode {
     println!("{}", tally.table());
     println!("kinds: {}", tally.kinds_line());
     println!(
-        "replay: seed {}, {} cases, {} differences, {:.1} s{}",
+        "replay: seed {}, {} cases, {} differences, {:.1} s, {} {}{}",
         job.seed,
         with_commas(tally.cases),
         tally.differences,
         start.elapsed().as_secs_f64(),
+        job.threads,
+        if job.threads == 1 { "thread" } else { "threads" },
         if job.exact { ", blocks of exact size" } else { "" }
     );
     ExitCode::from(u8::from(tally.differences > 0))
