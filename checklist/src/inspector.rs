@@ -60,3 +60,81 @@ impl Inspector {
         }
     }
 }
+
+#[cfg(test)]
+mod tests {
+    use super::*;
+    use second::generate::examples;
+    use std::slice::{from_raw_parts, from_raw_parts_mut};
+
+    unsafe extern "C" fn check(
+        table: *const u8,
+        table_length: usize,
+        proof: *const u8,
+        proof_length: usize,
+        work: *mut u8,
+        work_length: usize,
+    ) -> Answer {
+        let (table, proof) = (from_raw_parts(table, table_length), from_raw_parts(proof, proof_length));
+        second::check(table, proof, from_raw_parts_mut(work, work_length))
+    }
+
+    /// Counts one use too many.
+    unsafe extern "C" fn wrong_check(
+        table: *const u8,
+        table_length: usize,
+        proof: *const u8,
+        proof_length: usize,
+        work: *mut u8,
+        work_length: usize,
+    ) -> Answer {
+        let answer = check(table, table_length, proof, proof_length, work, work_length);
+        Answer { uses: answer.uses + 1, ..answer }
+    }
+
+    unsafe extern "C" fn no_run(
+        _: *const u8,
+        _: usize,
+        _: *const u8,
+        _: usize,
+        _: u32,
+        _: *mut u8,
+        _: usize,
+        _: *mut u8,
+        _: usize,
+    ) -> Answer {
+        Answer::default()
+    }
+
+    unsafe extern "C" fn no_write(
+        _: *const u8,
+        _: usize,
+        _: *const u8,
+        _: usize,
+        _: *mut u8,
+        _: usize,
+        _: *mut u8,
+        _: usize,
+    ) -> Answer {
+        Answer::default()
+    }
+
+    /// A library of which the tests call check alone.
+    fn inspector(check: boundary::library::CheckFunction, folder: &str) -> Inspector {
+        let library = Library { check, run: no_run, flatten: no_write, check_flat: check, write_proof: no_write };
+        Inspector::new(library, 1, &std::env::temp_dir().join(folder))
+    }
+
+    #[test]
+    fn a_right_answer_is_no_difference_and_a_wrong_one_is() {
+        let case = Case::new(Entry::Check, &examples::table_a(), &examples::first_proof());
+        let mut right = inspector(check, "hitac-checklist-right");
+        assert_eq!(right.call(&case).0.uses, 3);
+        assert_eq!(right.differences, 0);
+        right.demand(false, &case, "a demand that does not hold");
+        assert_eq!(right.differences, 1);
+        let mut wrong = inspector(wrong_check, "hitac-checklist-wrong");
+        assert_eq!(wrong.call(&case).0.uses, 4);
+        assert_eq!((wrong.differences, wrong.tally.differences), (1, 1));
+    }
+}
