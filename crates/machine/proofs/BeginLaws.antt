@@ -21,16 +21,16 @@ use Rattle.hitac.specs.Outcomes as outcome
 use Rattle.hitac.specs.Outcomes.{proved, onOne, oneGoal, noGoal, assertGives, finished}
 use Rattle.hitac.specs.Machine as M
 use Rattle.hitac.specs.Machine.{labelled, sequenceLeft, alternationLeft}
-use Rattle.frames.specs.declared.Frame.{Frame}
-use Rattle.machine.specs.declared.state.State.{State}
 use Rattle.arities.specs.Layout.{framesEnd}
+use Rattle.frames.specs.declared.Frame.{Frame}
 use Rattle.frames.specs.Memory.{Only}
 use Rattle.frames.specs.Frames.{frameAt, putFrame, putHeader}
+use Rattle.frames.proofs.MemoryLaws.{only-then, only-wider, only-word, same-word}
+use Rattle.frames.proofs.FrameLaws.{only-frame, frame-same, only-header, header-tag, header-head}
+use Rattle.machine.specs.declared.state.State.{State}
 use Rattle.machine.specs.Shows.{source, GoalsIs, FrameIs, FramesAt, frameAside, setAside, Sizes, Runs, Ends, Config, next, done, Holds}
 use Rattle.machine.specs.Begun.{enter, Room, Begins, failed, kept, entered, idNext, emptyNext, assertNext, sequenceNext, alternationNext, labelNext, sequenceFrame, alternationFrame, labelFrame}
 use Rattle.machine.specs.Step.{Grown}
-use Rattle.frames.proofs.MemoryLaws.{only-then, only-wider, only-word, same-word}
-use Rattle.frames.proofs.FrameLaws.{only-frame, frame-same, only-header, header-tag, header-head}
 use Rattle.machine.proofs.KeepLaws.{kept-output, kept-behind, goals-kept, frames-kept}
 
 -- what the forms on one goal and on none give for the goals in bytes

@@ -30,16 +30,16 @@ use Rattle.tables.specs.Found.{ruleFound, FindsRule, FoundInside, BodyStands, F
 use Rattle.hitac.specs.Outcomes.{Split, splitAt, splitBy, finished, foundPremises, ruleGives}
 use Rattle.hitac.specs.Machine as M
 use Rattle.hitac.specs.Machine.{tensorLeft}
-use Rattle.machine.specs.declared.state.State.{State}
 use Rattle.arities.specs.Layout.{outputEnd, framesEnd}
+use Rattle.arities.specs.Arities.{arityCode}
 use Rattle.frames.specs.Memory.{Same, Only}
 use Rattle.frames.specs.Frames.{putFrame, putHeader}
-use Rattle.machine.specs.Shows.{source, GoalsIs, FrameIs, Runs, Ends, Config, next, done, Holds}
-use Rattle.arities.specs.Arities.{arityCode}
-use Rattle.machine.specs.Begun.{enter, Room, Begins, BeginsIn, failed, entered, tensorNext, tensorFrame, atomicNext, ruleNext, used, definedNext, unfolded}
-use Rattle.machine.specs.Step.{Grown}
 use Rattle.frames.proofs.MemoryLaws.{only-then, only-wider, only-word, only-copy, same-word, same-head}
 use Rattle.frames.proofs.FrameLaws.{only-header, header-tag, header-head}
+use Rattle.machine.specs.declared.state.State.{State}
+use Rattle.machine.specs.Shows.{source, GoalsIs, FrameIs, Runs, Ends, Config, next, done, Holds}
+use Rattle.machine.specs.Begun.{enter, Room, Begins, BeginsIn, failed, entered, tensorNext, tensorFrame, atomicNext, ruleNext, used, definedNext, unfolded}
+use Rattle.machine.specs.Step.{Grown}
 use Rattle.machine.proofs.KeepLaws.{kept-behind, frames-kept}
 use Rattle.machine.proofs.BeginLaws.{one-at, not-one-at, fail-holds, fail-begins, fail-grown, by-none, goals-stay, frames-stay, beyond-output, only-push, goals-under, push-here, enter-grown, enter-sizes}
 

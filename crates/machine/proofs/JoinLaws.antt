@@ -17,14 +17,14 @@ use Rattle.format.proofs.GoalsLaws.{length-goalsAt}
 use Rattle.hitac.specs.Outcomes.{Ending, proved, ended, joinedFits, besideLeft}
 use Rattle.hitac.specs.Machine as M
 use Rattle.hitac.specs.Machine.{tensorRight}
-use Rattle.frames.specs.declared.Frame.{Frame}
-use Rattle.machine.specs.declared.state.State.{State}
 use Rattle.arities.specs.Layout.{outputEnd, goalsEnd, framesEnd}
+use Rattle.frames.specs.declared.Frame.{Frame}
 use Rattle.frames.specs.Memory.{Only}
 use Rattle.frames.specs.Frames.{frameAt}
+use Rattle.frames.proofs.MemoryLaws.{only-word, same-term, same-goals}
+use Rattle.machine.specs.declared.state.State.{State}
 use Rattle.machine.specs.Shows.{GoalsIs, FrameIs, FramesAt, setAside, Sizes, Proved, Ends, Holds}
 use Rattle.machine.specs.Popping.{pop, Fits, Smaller, Waiting, Popped, joined, overflowed, Gathered}
-use Rattle.frames.proofs.MemoryLaws.{only-word, same-term, same-goals}
 use Rattle.machine.proofs.KeepLaws.{kept-output, kept-behind, goals-kept, frames-kept}
 use Rattle.machine.proofs.WaitingLaws.{by-kind, if-proved, waiting-fits, waiting-top, innermost}
 

@@ -11,12 +11,12 @@ use Rattle.format.specs.Terms.{Term}
 use Rattle.format.specs.Standing.{Stands}
 use Rattle.hitac.specs.Machine as M
 use Rattle.hitac.specs.Machine.{labelled, sequenceLeft, sequenceRight, tensorLeft, tensorRight, alternationLeft}
-use Rattle.frames.specs.declared.Frame.{Frame}
 use Rattle.arities.specs.Layout.{outputEnd, framesEnd}
+use Rattle.frames.specs.declared.Frame.{Frame}
 use Rattle.frames.specs.Memory.{Same, Only}
 use Rattle.frames.specs.Frames.{long, frameAt}
-use Rattle.machine.specs.Shows.{GoalsIs, FrameIs, FramesAt}
 use Rattle.frames.proofs.MemoryLaws.{same-word, same-goals, same-term}
+use Rattle.machine.specs.Shows.{GoalsIs, FrameIs, FramesAt}
 
 -- what a write leaves: the output before o, the goals before arena, the frames from top on
 pub record Kept (o arena top : ℕ) (w v : List ℕ) : Type 0 where

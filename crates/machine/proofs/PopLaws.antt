@@ -16,12 +16,12 @@ use Rattle.hitac.specs.Outcomes.{Ending, proved, failed, ended}
 use Rattle.hitac.specs.Machine as M
 use Rattle.hitac.specs.Machine.{labelled, sequenceLeft, sequenceRight, tensorLeft, tensorRight, alternationLeft, unwind}
 use Rattle.frames.specs.declared.Frame.{Frame}
-use Rattle.machine.specs.declared.state.State.{State}
 use Rattle.frames.specs.Memory.{Same, Only}
 use Rattle.frames.specs.Frames.{frameAt}
+use Rattle.frames.proofs.MemoryLaws.{only-word, same-word, same-term}
+use Rattle.machine.specs.declared.state.State.{State}
 use Rattle.machine.specs.Shows.{GoalsIs, FrameIs, FramesAt, setAside, Runs, Proved, Lost, Overflowed, Ends, Config, next, done, Holds}
 use Rattle.machine.specs.Popping.{pop, settle, Fits, Smaller, Waiting, Popped, leave, resume}
-use Rattle.frames.proofs.MemoryLaws.{only-word, same-word, same-term}
 use Rattle.machine.proofs.KeepLaws.{kept-output, goals-kept, frames-kept, frame-mark}
 use Rattle.machine.proofs.WaitingLaws.{by-kind, kindOf, if-proved, if-failed, if-ended, waiting-fits, waiting-top, Innermost, innermost}
 

@@ -20,21 +20,21 @@ use Rattle.format.proofs.StandsLaws.{tagOf, known}
 use Rattle.format.proofs.ByTag.{by-tag}
 use Rattle.tables.specs.Tables.{Table}
 use Rattle.tables.specs.Standing.{TableStands}
+use Rattle.tables.specs.Lookup.{findBody}
 use Rattle.hitac.specs.TacticArity.{arityIn, tacticArity}
 use Rattle.hitac.specs.Outcomes.{oneGoal, splitBy}
-use Rattle.tables.specs.Lookup.{findBody}
 use Rattle.hitac.specs.Machine as M
 use Rattle.hitac.specs.Machine.{enterOrFail, unwind}
-use Rattle.machine.specs.declared.state.State.{State}
 use Rattle.arities.specs.Layout.{outputEnd, goalsEnd, framesEnd, spaceEnd}
+use Rattle.arities.specs.Arities.{arityCode, ArityTable, arities, Pair}
+use Rattle.arities.proofs.ArityLaws.{Inner, pair-of}
+use Rattle.machine.specs.declared.state.State.{State}
 use Rattle.machine.specs.Shows.{source, GoalsIs, Runs, Ends, Config, next, done, Holds, Shows, setAside}
 use Rattle.machine.specs.Popping.{settle, Fewer, Unwinding, Unwound}
-use Rattle.arities.specs.Arities.{arityCode, ArityTable, arities, Pair}
 use Rattle.machine.specs.Begun.{enter, begun, Room, Begins, BeginsIn, idNext, emptyNext, assertNext, sequenceNext, alternationNext, labelNext, tensorNext, ruleNext, definedNext}
 use Rattle.machine.specs.Step.{Grown, Given, BeginsAny, PairStands, BeginsPair, Stepped}
 use Rattle.machine.proofs.KeepLaws.{frames-top}
 use Rattle.machine.proofs.UnwindLaws.{after-done, after-next}
-use Rattle.arities.proofs.ArityLaws.{Inner, pair-of}
 
 -- a term begun, then unwound, is the machine's step
 settle-enter : {A : Type 0} (o : Option A) (k : List M.Frame) (f : A → Config) → settle (enter o k f) ≡ enterOrFail o k (λ a. settle (f a))

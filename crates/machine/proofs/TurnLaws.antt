@@ -11,15 +11,15 @@ use Rattle.format.specs.Standing.{Stands}
 use Rattle.hitac.specs.Outcomes.{proved}
 use Rattle.hitac.specs.Machine as M
 use Rattle.hitac.specs.Machine.{sequenceRight, tensorRight}
-use Rattle.frames.specs.declared.Frame.{Frame}
-use Rattle.machine.specs.declared.state.State.{State}
 use Rattle.arities.specs.Layout.{outputEnd, goalsEnd}
+use Rattle.frames.specs.declared.Frame.{Frame}
 use Rattle.frames.specs.Memory.{Only}
 use Rattle.frames.specs.Frames.{frameAt, putFrame}
-use Rattle.machine.specs.Shows.{GoalsIs, FrameIs, FramesAt, setAside, Proved, Ends, Holds}
-use Rattle.machine.specs.Popping.{pop, Fits, Smaller, Waiting, Popped, turn, turned, beside}
 use Rattle.frames.proofs.MemoryLaws.{same-term}
 use Rattle.frames.proofs.FrameLaws.{only-frame, frame-same}
+use Rattle.machine.specs.declared.state.State.{State}
+use Rattle.machine.specs.Shows.{GoalsIs, FrameIs, FramesAt, setAside, Proved, Ends, Holds}
+use Rattle.machine.specs.Popping.{pop, Fits, Smaller, Waiting, Popped, turn, turned, beside}
 use Rattle.machine.proofs.KeepLaws.{kept-behind, goals-kept, frames-kept}
 use Rattle.machine.proofs.WaitingLaws.{by-kind, if-proved, waiting-fits, waiting-top, innermost}
 

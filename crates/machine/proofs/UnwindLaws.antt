@@ -8,8 +8,8 @@ use lib.ListN.{length}
 use Rattle.hitac.specs.Outcomes.{Ending, proved, failed, ended}
 use Rattle.hitac.specs.Machine as M
 use Rattle.hitac.specs.Machine.{unwind}
-use Rattle.machine.specs.declared.state.State.{State}
 use Rattle.arities.specs.Layout.{framesEnd}
+use Rattle.machine.specs.declared.state.State.{State}
 use Rattle.machine.specs.Shows.{FramesAt, Ends, Config, next, done, Holds, Shows}
 use Rattle.machine.specs.Popping.{pop, settle, Smaller, Fewer, Waiting, Popped, Unwinding, Unwound}
 use Rattle.machine.proofs.KeepLaws.{frame-top}

@@ -16,10 +16,10 @@ use Rattle.format.specs.Terms.{Term}
 use Rattle.hitac.specs.Outcomes.{Ending, proved, failed, ended}
 use Rattle.hitac.specs.Machine as M
 use Rattle.hitac.specs.Machine.{labelled, sequenceLeft, sequenceRight, tensorLeft, tensorRight, alternationLeft}
-use Rattle.machine.specs.declared.state.State.{State}
-use Rattle.frames.specs.declared.Frame.{Frame}
 use Rattle.arities.specs.Layout.{spaceEnd, framesEnd}
+use Rattle.frames.specs.declared.Frame.{Frame}
 use Rattle.frames.specs.Frames.{frameAt}
+use Rattle.machine.specs.declared.state.State.{State}
 use Rattle.machine.specs.Shows.{FrameIs, FramesAt, setAside, Sizes, Proved, Lost, Overflowed, Ends}
 use Rattle.machine.specs.Popping.{Fits, Waiting, Unwinding}
 use Rattle.machine.proofs.KeepLaws.{frames-top, frame-mark}

@@ -16,9 +16,9 @@ use Rattle.hitac.specs.Outcomes as outcome
 use Rattle.hitac.specs.Outcomes.{ruleGives, oneGoal, noGoal, assertGives, splitBy, finished}
 use Rattle.hitac.specs.Machine as M
 use Rattle.hitac.specs.Machine.{labelled, sequenceLeft, tensorLeft, alternationLeft}
-use Rattle.machine.specs.declared.state.State.{State}
-use Rattle.frames.specs.declared.Frame.{Frame}
 use Rattle.arities.specs.Layout.{outputEnd, goalsEnd, framesEnd, spaceEnd}
+use Rattle.frames.specs.declared.Frame.{Frame}
+use Rattle.machine.specs.declared.state.State.{State}
 use Rattle.machine.specs.Shows.{Config, next, done, Runs, Holds}
 
 -- fail, or go on

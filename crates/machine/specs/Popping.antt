@@ -8,10 +8,10 @@ use Rattle.format.specs.Goals.{goalsAt}
 use Rattle.hitac.specs.Outcomes.{Ending, proved, failed, ended, inLabel, afterLeft, besideLeft}
 use Rattle.hitac.specs.Machine as M
 use Rattle.hitac.specs.Machine.{labelled, sequenceLeft, sequenceRight, tensorLeft, tensorRight, alternationLeft, running, unwind}
-use Rattle.machine.specs.declared.state.State.{State}
-use Rattle.frames.specs.declared.Frame.{Frame}
 use Rattle.arities.specs.Layout.{outputEnd, goalsEnd, framesEnd, spaceEnd}
+use Rattle.frames.specs.declared.Frame.{Frame}
 use Rattle.frames.specs.Memory.{Only}
+use Rattle.machine.specs.declared.state.State.{State}
 use Rattle.machine.specs.Shows.{Config, next, done, Ends, Holds, Shows}
 
 -- one frame taken off

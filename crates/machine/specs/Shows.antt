@@ -14,10 +14,10 @@ use Rattle.format.specs.Standing.{Stands}
 use Rattle.hitac.specs.Outcomes.{Ending, proved, failed, ended}
 use Rattle.hitac.specs.Machine as M
 use Rattle.hitac.specs.Machine.{labelled, sequenceLeft, sequenceRight, tensorLeft, tensorRight, alternationLeft, running, stopped}
-use Rattle.machine.specs.declared.state.State.{State}
-use Rattle.frames.specs.declared.Frame.{Frame}
 use Rattle.arities.specs.Layout.{outputEnd, framesEnd}
+use Rattle.frames.specs.declared.Frame.{Frame}
 use Rattle.frames.specs.Frames.{frameAt}
+use Rattle.machine.specs.declared.state.State.{State}
 
 -- the file that a term stands in
 abbrev pub source : (table job : List ℕ) → (file : ℕ) → List ℕ

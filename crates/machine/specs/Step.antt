@@ -9,11 +9,11 @@ use Rattle.format.specs.Terms.{Term}
 use Rattle.tables.specs.Tables.{Table}
 use Rattle.tables.specs.Standing.{TableStands}
 use Rattle.hitac.specs.Machine as M
-use Rattle.machine.specs.declared.state.State.{State}
 use Rattle.arities.specs.Layout.{framesEnd, spaceEnd}
+use Rattle.arities.specs.Arities.{ArityTable, arities}
+use Rattle.machine.specs.declared.state.State.{State}
 use Rattle.machine.specs.Shows.{source, Runs, Holds, Shows}
 use Rattle.machine.specs.Begun.{begun, Room}
-use Rattle.arities.specs.Arities.{ArityTable, arities}
 
 -- after a term was begun: the arities are the same, and one step was counted
 pub record Grown (w : List ℕ) (s : State) (v : List ℕ) (r : State) : Type 0 where

@@ -21,8 +21,8 @@ use Rattle.files.specs.Proofs.{proofBytes}
 use Rattle.files.specs.Jobs.{Job}
 use Rattle.files.specs.Counts.{jobTermPlace}
 use Rattle.files.specs.Standing.{JobStands}
-use Rattle.machine.specs.declared.state.State.{State}
 use Rattle.frames.specs.Frames.{putHeader}
+use Rattle.machine.specs.declared.state.State.{State}
 use Rattle.machine.specs.Shows.{FramesAt, Proved}
 
 -- so much has been written at the beginning of a list

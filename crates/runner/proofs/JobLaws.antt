@@ -31,17 +31,17 @@ use Rattle.answers.specs.Answers as said
 use Rattle.entries.specs.Outcomes.{success, refusal}
 use Rattle.entries.specs.LentSpace.{cleared, Written, writeOut}
 use Rattle.entries.specs.Run.{runEnd, runResult}
-use Rattle.machine.specs.declared.state.State.{State}
 use Rattle.arities.specs.Layout.{outputEnd, framesEnd}
-use Rattle.frames.specs.Memory.{Only}
-use Rattle.frames.specs.Frames.{putHeader}
-use Rattle.machine.specs.Shows.{FramesAt, setAside, Proved}
 use Rattle.arities.specs.Arities.{ArityTable, arities}
 use Rattle.arities.specs.Rounds.{FillGiven, Filled}
+use Rattle.frames.specs.Memory.{Only}
+use Rattle.frames.specs.Frames.{putHeader}
+use Rattle.frames.proofs.MemoryLaws.{only-copy}
+use Rattle.machine.specs.declared.state.State.{State}
+use Rattle.machine.specs.Shows.{FramesAt, setAside, Proved}
+use Rattle.machine.proofs.WaitingLaws.{if-proved, if-failed, if-ended}
 use Rattle.runner.specs.Run.{ShowsState, Started, Ran}
 use Rattle.runner.specs.Jobs.{StartGiven, Starts, FileGiven, FileWritten, FinishGiven, Leaves, Finishes, JobGiven, JobRan}
-use Rattle.frames.proofs.MemoryLaws.{only-copy}
-use Rattle.machine.proofs.WaitingLaws.{if-proved, if-failed, if-ended}
 use Rattle.runner.proofs.RunLaws.{known-same, if-running, if-stopped}
 use Rattle.runner.proofs.FileLaws.{file-size, file-written}
 

@@ -17,14 +17,14 @@ use Rattle.hitac.specs.Outcomes.{Ending}
 use Rattle.hitac.specs.Machine as M
 use Rattle.hitac.specs.Machine.{Control, running, stopped, after, stepFrom, step, run}
 use Rattle.hitac.proofs.RunLaws.{run-stopped}
-use Rattle.machine.specs.declared.state.State.{State}
 use Rattle.arities.specs.Layout.{framesEnd}
-use Rattle.machine.specs.Shows.{source, Runs, Ends, Shows}
 use Rattle.arities.specs.Arities.{ArityTable, arities}
-use Rattle.machine.specs.Step.{Grown, Given, Stepped}
-use Rattle.runner.specs.Run.{ShowsState, Started, Ran}
 use Rattle.frames.proofs.MemoryLaws.{same-word}
+use Rattle.machine.specs.declared.state.State.{State}
+use Rattle.machine.specs.Shows.{source, Runs, Ends, Shows}
+use Rattle.machine.specs.Step.{Grown, Given, Stepped}
 use Rattle.machine.proofs.UnwindLaws.{not-running}
+use Rattle.runner.specs.Run.{ShowsState, Started, Ran}
 
 -- what is left of the run comes to the same
 pub record Onward (bytes job w : List ℕ) (s : State) (T : Table) (left : ℕ) (end : M.State) : Type 0 where

@@ -19,8 +19,8 @@ use Rattle.answers.specs.declared.Answer.{Answer}
 use Rattle.entries.specs.Outcomes.{Outcome}
 use Rattle.entries.specs.LentSpace.{writeOut}
 use Rattle.entries.specs.Run.{runEnd, runResult}
-use Rattle.machine.specs.declared.state.State.{State}
 use Rattle.arities.specs.Layout.{framesEnd, spaceEnd}
+use Rattle.machine.specs.declared.state.State.{State}
 use Rattle.machine.specs.Shows.{Runs, Proved, Shows}
 
 -- the first state

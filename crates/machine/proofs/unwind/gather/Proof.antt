@@ -1,6 +1,7 @@
 -- `unwind::gather` meets its contract: two moves, the second behind the first.
 -- Assumes nothing.
 use Rattle.machine.proofs.GatherLaws.{gathered}
+use native.Mathlib.Omega.{arith}
 use borrow.Author.Needs.{needs}
 use Rattle.machine.proofs.unwind.gather.Statement.{statement}
 use Rattle.machine.proofs.unwind.gather.Tie as tie
@@ -9,19 +10,19 @@ use Rattle.machine.proofs.unwind.gather.Lts as lts
 use Rattle.words.proofs.move_up.Reads as move-up-reads
 
 mul-move-up : tie.Need-mul-move-up
-mul-move-up c = search needs
+mul-move-up c = omega (arith, c .before .before .pre)
 
 move-up-requires : tie.Need-move-up-requires
 move-up-requires c κs = search needs
 
 mul-move-up-2 : tie.Need-mul-move-up-2
-mul-move-up-2 c = search needs
+mul-move-up-2 c = omega (arith, c .before .before .before .before .before .before .pre)
 
 add-move-up : tie.Need-add-move-up
-add-move-up c = search needs
+add-move-up c = omega (arith, c .before .before .before .before .before .before .pre)
 
 mul-move-up-3 : tie.Need-mul-move-up-3
-mul-move-up-3 c = search needs
+mul-move-up-3 c = omega (arith, c .before .before .before .before .before .before .pre)
 
 move-up-requires-2 : tie.Need-move-up-requires-2
 move-up-requires-2 c κs = search needs

@@ -1,6 +1,7 @@
 -- `begin_alternation` meets its contract: a frame.
 -- Assumes nothing.
 use Rattle.machine.proofs.BeginLaws.{alternation-end}
+use native.Mathlib.Omega.{arith}
 use borrow.Author.Needs.{needs}
 use Rattle.machine.proofs.state.State.begin_alternation.Statement.{statement}
 use Rattle.machine.proofs.state.State.begin_alternation.Tie as tie
@@ -9,22 +10,22 @@ use Rattle.machine.proofs.state.State.begin_alternation.Lts as lts
 use Rattle.frames.proofs.store_frame.Reads as store-frame-reads
 
 sub-top : tie.Need-sub-top
-sub-top c = search needs
+sub-top c = omega (arith, c .before .before .pre)
 
 cast-t10 : tie.Need-cast-t10
-cast-t10 c = search needs
+cast-t10 c = omega (arith, c .before .before .pre)
 
 cast-t11 : tie.Need-cast-t11
-cast-t11 c = search needs
+cast-t11 c = omega (arith, c .before .before .pre)
 
 store-frame-requires : tie.Need-store-frame-requires
 store-frame-requires c κs = search needs
 
 add-t15 : tie.Need-add-t15
-add-t15 c = search needs
+add-t15 c = omega (arith, c .before .before .before .before .before .before .before .pre)
 
 add-t16 : tie.Need-add-t16
-add-t16 c = search needs
+add-t16 c = omega (arith, c .before .before .before .before .before .before .before .before .pre)
 
 same-length : tie.Need-same-length
 same-length c = search needs

@@ -1,6 +1,7 @@
 -- `begin_defined` meets its contract: by what the look-up found.
 -- Assumes nothing.
 use Rattle.machine.proofs.FormLaws.{body-missing, body-found}
+use native.Mathlib.Omega.{arith}
 use borrow.Author.Needs.{needs}
 use Rattle.machine.proofs.state.State.begin_defined.Statement.{statement}
 use Rattle.machine.proofs.state.State.begin_defined.Tie as tie
@@ -22,7 +23,7 @@ enum-known-found : tie.Need-enum-known-found
 enum-known-found c = search needs
 
 add-t9 : tie.Need-add-t9
-add-t9 c = search needs
+add-t9 c = omega (arith, c .before .before .before .before .before .before .before .pre)
 
 returns : tie.Need-returns
 returns c =

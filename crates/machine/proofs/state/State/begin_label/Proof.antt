@@ -7,6 +7,7 @@ use Rattle.words.specs.Word.{putWord}
 use Rattle.frames.specs.Frames.{putFrame}
 use Rattle.machine.specs.Begun.{labelFrame}
 use Rattle.machine.proofs.BeginLaws.{label-fails, label-end}
+use native.Mathlib.Omega.{arith}
 use borrow.Author.Needs.{needs}
 use Rattle.machine.proofs.state.State.begin_label.Statement.{statement}
 use Rattle.machine.proofs.state.State.begin_label.Tie as tie
@@ -27,31 +28,31 @@ returns c =
     label-fails (a .work .now) (a .self) (p .0) (a .name .0) _ (c .before .if1 .taken) (c .fail .ensures)
 
 sub-top : tie.Need-sub-top
-sub-top c = search needs
+sub-top c = omega (arith, c .before .before .before .before .pre)
 
 put-header-requires : tie.Need-put-header-requires
 put-header-requires c κs = search needs
 
 add-store16 : tie.Need-add-store16
-add-store16 c = search needs
+add-store16 c = omega (arith, c .before .before .before .before .before .before .before .before .before .pre)
 
 store16-requires : tie.Need-store16-requires
 store16-requires c κs = search needs
 
 cast-t15 : tie.Need-cast-t15
-cast-t15 c = search needs
+cast-t15 c = omega (arith, c .before .before .before .before .before .before .before .before .before .before .before .before .pre)
 
 store-frame-requires : tie.Need-store-frame-requires
 store-frame-requires c κs = search needs
 
 add-t14 : tie.Need-add-t14
-add-t14 c = search needs
+add-t14 c = omega (arith, c .before .before .before .before .before .before .before .before .before .before .before .before .before .before .before .before .before .pre)
 
 add-t18 : tie.Need-add-t18
-add-t18 c = search needs
+add-t18 c = omega (arith, c .before .before .before .before .before .before .before .before .before .before .before .before .before .before .before .before .before .pre)
 
 add-t19 : tie.Need-add-t19
-add-t19 c = search needs
+add-t19 c = omega (arith, c .before .before .before .before .before .before .before .before .before .before .before .before .before .before .before .before .before .before .pre)
 
 same-length : tie.Need-same-length
 same-length c = search needs

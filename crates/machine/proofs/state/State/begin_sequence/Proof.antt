@@ -6,6 +6,7 @@ use Prim.Native.Nat.{ℕ, _-_}
 use Rattle.frames.specs.Frames.{putFrame}
 use Rattle.machine.specs.Begun.{sequenceFrame}
 use Rattle.machine.proofs.BeginLaws.{sequence-end}
+use native.Mathlib.Omega.{arith}
 use borrow.Author.Needs.{needs}
 use Rattle.machine.proofs.state.State.begin_sequence.Statement.{statement}
 use Rattle.machine.proofs.state.State.begin_sequence.Tie as tie
@@ -15,25 +16,25 @@ use Rattle.frames.proofs.put_header.Reads as put-header-reads
 use Rattle.frames.proofs.store_frame.Reads as store-frame-reads
 
 sub-top : tie.Need-sub-top
-sub-top c = search needs
+sub-top c = omega (arith, c .before .before .pre)
 
 put-header-requires : tie.Need-put-header-requires
 put-header-requires c κs = search needs
 
 cast-t11 : tie.Need-cast-t11
-cast-t11 c = search needs
+cast-t11 c = omega (arith, c .before .before .before .before .before .before .pre)
 
 store-frame-requires : tie.Need-store-frame-requires
 store-frame-requires c κs = search needs
 
 add-t14 : tie.Need-add-t14
-add-t14 c = search needs
+add-t14 c = omega (arith, c .before .before .before .before .before .before .before .before .before .before .before .pre)
 
 add-t15 : tie.Need-add-t15
-add-t15 c = search needs
+add-t15 c = omega (arith, c .before .before .before .before .before .before .before .before .before .before .before .pre)
 
 add-t16 : tie.Need-add-t16
-add-t16 c = search needs
+add-t16 c = omega (arith, c .before .before .before .before .before .before .before .before .before .before .before .before .pre)
 
 same-length : tie.Need-same-length
 same-length c = search needs

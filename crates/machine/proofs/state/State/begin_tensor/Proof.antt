@@ -1,6 +1,7 @@
 -- `begin_tensor` meets its contract: by the arity, then by the number of goals.
 -- Assumes nothing.
 use Rattle.machine.proofs.FormLaws.{tensor-without, tensor-short, tensor-split}
+use native.Mathlib.Omega.{arith}
 use borrow.Author.Needs.{needs}
 use Rattle.machine.proofs.state.State.begin_tensor.Statement.{statement}
 use Rattle.machine.proofs.state.State.begin_tensor.Tie as tie
@@ -19,10 +20,10 @@ returns c =
     tensor-without (a .work .now) (a .self) (p .0) (a .right) (a .arity) _ (c .before .if1 .taken) (c .fail .ensures)
 
 sub-left : tie.Need-sub-left
-sub-left c = search needs
+sub-left c = omega (arith, c .before .before .pre)
 
 cast-left : tie.Need-cast-left
-cast-left c = search needs
+cast-left c = omega (arith, c .before .before .pre)
 
 fail-requires-2 : tie.Need-fail-requires-2
 fail-requires-2 c κs = search needs

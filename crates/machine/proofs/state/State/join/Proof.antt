@@ -13,10 +13,10 @@ use Rattle.machine.proofs.unwind.gather.Reads as gather-reads
 use Rattle.words.proofs.store16.Reads as store16-reads
 
 cast-left : tie.Need-cast-left
-cast-left c = search needs
+cast-left c = omega (arith, c .before .before .pre)
 
 cast-mark : tie.Need-cast-mark
-cast-mark c = search needs
+cast-mark c = omega (arith, c .before .before .before .pre)
 
 add-if1 : tie.Need-add-if1
 add-if1 c =
@@ -49,7 +49,7 @@ gather-requires c κs =
     (j .left-high, j .right-high, c .before .if1 .left, omega (arith, j .room, c .before .if1 .left, f .space), omega (arith, j .room))
 
 add-store16 : tie.Need-add-store16
-add-store16 c = search needs
+add-store16 c = omega (arith, c .before .before .before .before .before .before .before .before .before .pre)
 
 sub-store16 : tie.Need-sub-store16
 sub-store16 c =

@@ -3,7 +3,6 @@
 use native.Mathlib.Omega.{arith}
 use Rattle.machine.proofs.WaitingLaws.{waiting-top, waiting-fits}
 use Rattle.machine.proofs.PopLaws.{failed-end, resume-end}
-use borrow.Author.Needs.{needs}
 use Rattle.machine.proofs.state.State.pop_failed.Statement.{statement}
 use Rattle.machine.proofs.state.State.pop_failed.Tie as tie
 use Rattle.machine.proofs.state.State.pop_failed.Reads as reads
@@ -18,7 +17,7 @@ load-frame-requires c κs =
     omega (arith, waiting-top (a .work .now) (a .self) (p .1), p .1 .space)
 
 cast-mark : tie.Need-cast-mark
-cast-mark c = search needs
+cast-mark c = omega (arith, c .before .before .before .pre)
 
 leave-requires : tie.Need-leave-requires
 leave-requires c κs =
@@ -33,10 +32,10 @@ returns c =
     failed-end (a .work .now) (a .self) (c .before .before .before .before .load-frame .result) (c .before .before .before .before .load-frame .ensures) _ (p .0) (c .before .if1 .taken) (c .leave .ensures)
 
 cast-t7 : tie.Need-cast-t7
-cast-t7 c = search needs
+cast-t7 c = omega (arith, c .before .before .before .before .before .before .pre)
 
 cast-t8 : tie.Need-cast-t8
-cast-t8 c = search needs
+cast-t8 c = omega (arith, c .before .before .before .before .before .before .before .pre)
 
 add-t9 : tie.Need-add-t9
 add-t9 c =

@@ -64,10 +64,10 @@ returns-4 c =
     chosen-end (a .work .now) (a .self) (c .before .before .before .before .before .load-frame .result) (c .before .before .before .before .before .load-frame .ensures) _ (p .0) (c .before .if4 .taken) (c .leave .ensures)
 
 cast-mark : tie.Need-cast-mark
-cast-mark c = search needs
+cast-mark c = omega (arith, c .before .before .before .before .before .before .before .before .pre)
 
 add-store16 : tie.Need-add-store16
-add-store16 c = search needs
+add-store16 c = omega (arith, c .before .before .before .before .before .before .before .before .before .pre)
 
 sub-store16 : tie.Need-sub-store16
 sub-store16 c =

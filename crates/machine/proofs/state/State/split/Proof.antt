@@ -6,6 +6,7 @@ use Prim.Native.Nat.{ℕ, _-_}
 use Rattle.frames.specs.Frames.{putFrame}
 use Rattle.machine.specs.Begun.{tensorFrame}
 use Rattle.machine.proofs.FormLaws.{split-end}
+use native.Mathlib.Omega.{arith}
 use borrow.Author.Needs.{needs}
 use Rattle.machine.proofs.state.State.split.Statement.{statement}
 use Rattle.machine.proofs.state.State.split.Tie as tie
@@ -15,37 +16,37 @@ use Rattle.frames.proofs.put_header.Reads as put-header-reads
 use Rattle.frames.proofs.store_frame.Reads as store-frame-reads
 
 sub-top : tie.Need-sub-top
-sub-top c = search needs
+sub-top c = omega (arith, c .before .before .pre)
 
 put-header-requires : tie.Need-put-header-requires
 put-header-requires c κs = search needs
 
 sub-t13 : tie.Need-sub-t13
-sub-t13 c = search needs
+sub-t13 c = omega (arith, c .before .before .before .before .before .before .before .pre)
 
 cast-t14 : tie.Need-cast-t14
-cast-t14 c = search needs
+cast-t14 c = omega (arith, c .before .before .before .before .before .before .before .pre)
 
 mul-t15 : tie.Need-mul-t15
-mul-t15 c = search needs
+mul-t15 c = omega (arith, c .before .before .before .before .before .before .before .pre)
 
 add-t16 : tie.Need-add-t16
-add-t16 c = search needs
+add-t16 c = omega (arith, c .before .before .before .before .before .before .before .pre)
 
 cast-t17 : tie.Need-cast-t17
-cast-t17 c = search needs
+cast-t17 c = omega (arith, c .before .before .before .before .before .before .before .pre)
 
 store-frame-requires : tie.Need-store-frame-requires
 store-frame-requires c κs = search needs
 
 add-t13 : tie.Need-add-t13
-add-t13 c = search needs
+add-t13 c = omega (arith, c .before .before .before .before .before .before .before .before .before .before .before .before .pre)
 
 add-t15 : tie.Need-add-t15
-add-t15 c = search needs
+add-t15 c = omega (arith, c .before .before .before .before .before .before .before .before .before .before .before .before .pre)
 
 add-t16-2 : tie.Need-add-t16-2
-add-t16-2 c = search needs
+add-t16-2 c = omega (arith, c .before .before .before .before .before .before .before .before .before .before .before .before .before .pre)
 
 same-length : tie.Need-same-length
 same-length c = search needs

@@ -23,7 +23,7 @@ store-frame-requires c κs =
     (omega (arith, waiting-top (a .work .now) (a .self) (p .3), p .3 .space), omega (arith, given-small (a .work .now) (a .self) (p .3) (p .0)))
 
 cast-t14 : tie.Need-cast-t14
-cast-t14 c = search needs
+cast-t14 c = omega (arith, c .before .before .before .before .before .pre)
 
 same-length : tie.Need-same-length
 same-length c = search needs

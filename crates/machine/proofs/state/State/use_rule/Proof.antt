@@ -15,28 +15,28 @@ put-header-requires : tie.Need-put-header-requires
 put-header-requires c κs = search needs
 
 add-store16 : tie.Need-add-store16
-add-store16 c = search needs
+add-store16 c = omega (arith, c .before .before .before .before .before .before .before .pre)
 
 store16-requires : tie.Need-store16-requires
 store16-requires c κs = search needs
 
 mul-copy-in : tie.Need-mul-copy-in
-mul-copy-in c = search needs
+mul-copy-in c = omega (arith, c .before .before .before .before .before .before .before .before .before .before .before .pre)
 
 copy-in-requires : tie.Need-copy-in-requires
 copy-in-requires c κs = search needs
 
 mul-t14 : tie.Need-mul-t14
-mul-t14 c = search needs
+mul-t14 c = omega (arith, c .before .before .before .before .before .before .before .before .before .before .before .before .before .before .pre)
 
 add-t17 : tie.Need-add-t17
-add-t17 c = search needs
+add-t17 c = omega (arith, c .before .before .before .before .before .before .before .before .before .before .before .before .before .before .pre)
 
 add-t18 : tie.Need-add-t18
-add-t18 c = search needs
+add-t18 c = omega (arith, c .before .before .before .before .before .before .before .before .before .before .before .before .before .before .pre)
 
 add-t19 : tie.Need-add-t19
-add-t19 c = search needs
+add-t19 c = omega (arith, c .before .before .before .before .before .before .before .before .before .before .before .before .before .before .before .pre)
 
 same-length : tie.Need-same-length
 same-length c = search needs
