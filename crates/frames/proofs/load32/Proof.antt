@@ -1,6 +1,7 @@
 -- `load32` meets its contract: two values of 16 bits are one of 32.
 -- Assumes nothing.
 use Rattle.frames.specs.Frames.{long}
+use native.Mathlib.Omega.{arith}
 use borrow.Author.Needs.{needs}
 use Rattle.frames.proofs.load32.Statement.{statement}
 use Rattle.frames.proofs.load32.Tie as tie
@@ -12,22 +13,22 @@ load16-requires : tie.Need-load16-requires
 load16-requires c κs = search needs
 
 cast-result : tie.Need-cast-result
-cast-result c = search needs
+cast-result c = omega (arith, c .before .before .pre)
 
 mul-result : tie.Need-mul-result
-mul-result c = search needs
+mul-result c = omega (arith, c .before .before .pre)
 
 add-load16 : tie.Need-add-load16
-add-load16 c = search needs
+add-load16 c = omega (arith, c .before .before .pre)
 
 load16-requires-2 : tie.Need-load16-requires-2
 load16-requires-2 c κs = search needs
 
 cast-result-2 : tie.Need-cast-result-2
-cast-result-2 c = search needs
+cast-result-2 c = omega (arith, c .before .before .before .pre)
 
 add-result : tie.Need-add-result
-add-result c = search needs
+add-result c = omega (arith, c .before .before .before .pre)
 
 returns : tie.Need-returns
 unfolding long

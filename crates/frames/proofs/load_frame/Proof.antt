@@ -1,6 +1,7 @@
 -- `load_frame` meets its contract: each value is loaded from its place.
 -- Assumes nothing.
 use Rattle.frames.specs.Frames.{frameAt}
+use native.Mathlib.Omega.{arith}
 use borrow.Author.Needs.{needs}
 use Rattle.frames.proofs.load_frame.Statement.{statement}
 use Rattle.frames.proofs.load_frame.Tie as tie
@@ -13,31 +14,31 @@ load16-requires : tie.Need-load16-requires
 load16-requires c κs = search needs
 
 add-load16 : tie.Need-add-load16
-add-load16 c = search needs
+add-load16 c = omega (arith, c .before .before .pre)
 
 load16-requires-2 : tie.Need-load16-requires-2
 load16-requires-2 c κs = search needs
 
 add-load16-2 : tie.Need-add-load16-2
-add-load16-2 c = search needs
+add-load16-2 c = omega (arith, c .before .before .before .pre)
 
 load16-requires-3 : tie.Need-load16-requires-3
 load16-requires-3 c κs = search needs
 
 add-load16-3 : tie.Need-add-load16-3
-add-load16-3 c = search needs
+add-load16-3 c = omega (arith, c .before .before .before .before .pre)
 
 load16-requires-4 : tie.Need-load16-requires-4
 load16-requires-4 c κs = search needs
 
 add-load32 : tie.Need-add-load32
-add-load32 c = search needs
+add-load32 c = omega (arith, c .before .before .before .before .before .pre)
 
 load32-requires : tie.Need-load32-requires
 load32-requires c κs = search needs
 
 add-load16-4 : tie.Need-add-load16-4
-add-load16-4 c = search needs
+add-load16-4 c = omega (arith, c .before .before .before .before .before .before .pre)
 
 load16-requires-5 : tie.Need-load16-requires-5
 load16-requires-5 c κs = search needs

@@ -1,6 +1,7 @@
 -- `put_header` meets its contract: length, then tag.
 -- Assumes nothing.
 use Rattle.frames.specs.Frames.{putHeader}
+use native.Mathlib.Omega.{arith}
 use borrow.Author.Needs.{needs}
 use Rattle.frames.proofs.put_header.Statement.{statement}
 use Rattle.frames.proofs.put_header.Tie as tie
@@ -9,7 +10,7 @@ use Rattle.frames.proofs.put_header.Lts as lts
 use Rattle.words.proofs.store16.Reads as store16-reads
 
 add-store16 : tie.Need-add-store16
-add-store16 c = search needs
+add-store16 c = omega (arith, c .before .before .pre)
 
 store16-requires : tie.Need-store16-requires
 store16-requires c κs = search needs

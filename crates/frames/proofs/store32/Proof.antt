@@ -1,6 +1,7 @@
 -- `store32` meets its contract: the high and the low half are stored.
 -- Assumes nothing.
 use Rattle.frames.specs.Frames.{putLong}
+use native.Mathlib.Omega.{arith}
 use borrow.Author.Needs.{needs}
 use Rattle.frames.proofs.store32.Statement.{statement}
 use Rattle.frames.proofs.store32.Tie as tie
@@ -9,16 +10,16 @@ use Rattle.frames.proofs.store32.Lts as lts
 use Rattle.words.proofs.store16.Reads as store16-reads
 
 cast-store16 : tie.Need-cast-store16
-cast-store16 c = search needs
+cast-store16 c = omega (arith, c .before .before .pre)
 
 store16-requires : tie.Need-store16-requires
 store16-requires c κs = search needs
 
 add-store16 : tie.Need-add-store16
-add-store16 c = search needs
+add-store16 c = omega (arith, c .before .before .before .before .before .before .pre)
 
 cast-store16-2 : tie.Need-cast-store16-2
-cast-store16-2 c = search needs
+cast-store16-2 c = omega (arith, c .before .before .before .before .before .before .pre)
 
 store16-requires-2 : tie.Need-store16-requires-2
 store16-requires-2 c κs = search needs

@@ -1,6 +1,7 @@
 -- `store_frame` meets its contract: each value is stored at its place.
 -- Assumes nothing.
 use Rattle.frames.specs.Frames.{putFrame}
+use native.Mathlib.Omega.{arith}
 use borrow.Author.Needs.{needs}
 use Rattle.frames.proofs.store_frame.Statement.{statement}
 use Rattle.frames.proofs.store_frame.Tie as tie
@@ -13,31 +14,31 @@ store16-requires : tie.Need-store16-requires
 store16-requires c κs = search needs
 
 add-store16 : tie.Need-add-store16
-add-store16 c = search needs
+add-store16 c = omega (arith, c .before .before .before .before .before .before .pre)
 
 store16-requires-2 : tie.Need-store16-requires-2
 store16-requires-2 c κs = search needs
 
 add-store16-2 : tie.Need-add-store16-2
-add-store16-2 c = search needs
+add-store16-2 c = omega (arith, c .before .before .before .before .before .before .before .before .before .before .pre)
 
 store16-requires-3 : tie.Need-store16-requires-3
 store16-requires-3 c κs = search needs
 
 add-store16-3 : tie.Need-add-store16-3
-add-store16-3 c = search needs
+add-store16-3 c = omega (arith, c .before .before .before .before .before .before .before .before .before .before .before .before .before .before .pre)
 
 store16-requires-4 : tie.Need-store16-requires-4
 store16-requires-4 c κs = search needs
 
 add-store32 : tie.Need-add-store32
-add-store32 c = search needs
+add-store32 c = omega (arith, c .before .before .before .before .before .before .before .before .before .before .before .before .before .before .before .before .before .before .pre)
 
 store32-requires : tie.Need-store32-requires
 store32-requires c κs = search needs
 
 add-store16-4 : tie.Need-add-store16-4
-add-store16-4 c = search needs
+add-store16-4 c = omega (arith, c .before .before .before .before .before .before .before .before .before .before .before .before .before .before .before .before .before .before .before .before .before .before .pre)
 
 store16-requires-5 : tie.Need-store16-requires-5
 store16-requires-5 c κs = search needs
