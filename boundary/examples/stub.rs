@@ -21,6 +21,7 @@ unsafe fn spoil(mut answer: Answer, work: *mut u8, work_length: usize, out: *mut
             *out.add(answer.length as usize) ^= 1
         }
         "crash" => std::process::abort(),
+        "crash at 22" if answer.number == 22 => std::process::abort(),
         _ => {}
     }
     answer

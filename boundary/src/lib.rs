@@ -7,6 +7,7 @@
 //! - `mix`: generated cases of all kinds, each determined by seed and number;
 //! - `tally`: what was called and what was answered;
 //! - `record`: a case that differs, as a file that replays it;
+//! - `watch`: the calls in a process of their own;
 //! - `options`: command lines of name and value.
 
 pub mod compare;
@@ -17,3 +18,4 @@ pub mod mix;
 pub mod options;
 pub mod record;
 pub mod tally;
+pub mod watch;

@@ -5,7 +5,7 @@ use crate::compare::name_of;
 use second::generate::case::Case;
 use second::vectors;
 use std::fmt::Write;
-use std::path::{Path, PathBuf};
+use std::path::Path;
 
 /// Only so many differences are written as files; the rest is counted. A library
 /// that is wrong everywhere must not fill the disk.
@@ -48,10 +48,4 @@ fn describe(case: &Case, differences: &[String], vector: &Path) -> String {
 pub fn read(path: &Path) -> Result<Vec<vectors::Expected>, String> {
     let bytes = std::fs::read(path).map_err(|error| format!("cannot read {}: {error}", path.display()))?;
     vectors::read(&bytes).ok_or_else(|| format!("{} is not a vector file, or is damaged", path.display()))
-}
-
-/// The file in which a replay keeps the number of the case it is at, so that a
-/// case that ends the whole process can be told.
-pub fn file_of_present_case(directory: &Path) -> PathBuf {
-    directory.join("present-case")
 }

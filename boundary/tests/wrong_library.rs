@@ -28,7 +28,8 @@ fn replay(fault: &str, arguments: &[&str]) -> Output {
 fn generated(fault: &str, name: &str) -> Output {
     let folder = folder(name);
     let _ = std::fs::remove_dir_all(&folder);
-    replay(fault, &["--cases", "300", "--differences", folder.to_str().unwrap()])
+    // The number of cases is such that every fault has its occasion.
+    replay(fault, &["--cases", "700", "--differences", folder.to_str().unwrap()])
 }
 
 fn vector_files(fault: &str) -> Vec<PathBuf> {
@@ -41,12 +42,14 @@ fn a_right_library_has_no_difference() {
     let output = generated("", "right");
     let text = String::from_utf8_lossy(&output.stdout);
     assert_eq!(output.status.code(), Some(0), "{text}");
-    assert!(text.contains("300 cases, 0 differences"), "{text}");
+    assert!(text.contains("700 cases, 0 differences"), "{text}");
 }
 
 #[test]
 fn every_fault_is_reported_with_a_file_that_replays_it() {
-    for fault in ["place", "work", "guard", "refused output", "output behind", "earlier contents", "crash"] {
+    for fault in
+        ["place", "work", "guard", "refused output", "output behind", "earlier contents", "crash", "crash at 22"]
+    {
         let output = generated(fault, fault);
         assert_eq!(output.status.code(), Some(1), "{fault}");
         let files = vector_files(fault);

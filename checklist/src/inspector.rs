@@ -5,12 +5,13 @@ use boundary::lent::Poison;
 use boundary::library::Library;
 use boundary::record;
 use boundary::tally::Tally;
+use boundary::watch::PresentCall;
 use second::generate::case::{Case, Entry};
 use second::Answer;
 use std::path::{Path, PathBuf};
 
 pub struct Inspector {
-    comparer: Comparer,
+    calls: Calls,
     line: u32,
     folder: PathBuf,
     pub tally: Tally,
@@ -18,22 +19,64 @@ pub struct Inspector {
     pub differences: u64,
 }
 
+/// Who is called.
+enum Calls {
+    /// The library; the file holds the present line and call.
+    Library(Box<Comparer>, PresentCall),
+    /// The second engine alone, up to the call that is to be written down: the
+    /// one at which the library ended the process.
+    Second { ended_at: u64 },
+}
+
 impl Inspector {
-    pub fn new(library: Library, line: u32, folder: &Path) -> Inspector {
-        let comparer = Comparer::new(library);
-        Inspector { comparer, line, folder: folder.to_path_buf(), tally: Tally::default(), differences: 0 }
+    pub fn new(library: Library, line: u32, folder: &Path) -> Result<Inspector, String> {
+        let calls = Calls::Library(Box::new(Comparer::new(library)), PresentCall::open(folder)?);
+        Ok(Inspector::with(calls, line, folder))
+    }
+
+    /// Goes over a line again to write down the call that ended the process.
+    pub fn of_ended_process(line: u32, call: u64, folder: &Path) -> Inspector {
+        Inspector::with(Calls::Second { ended_at: call }, line, folder)
+    }
+
+    fn with(calls: Calls, line: u32, folder: &Path) -> Inspector {
+        Inspector { calls, line, folder: folder.to_path_buf(), tally: Tally::default(), differences: 0 }
+    }
+
+    /// The line and call at which a process ended.
+    pub fn ended_at(folder: &Path) -> Result<(u32, u64), String> {
+        let number = PresentCall::read(folder)?;
+        Ok(((number >> 32) as u32, number & 0xFFFF_FFFF))
     }
 
     /// Makes the call with poisoned spaces, compares it with the second engine,
     /// and gives the library's own answer and result.
     pub fn call(&mut self, case: &Case) -> (Answer, Vec<u8>) {
-        let poison = Poison::ALL[(self.tally.cases % 3) as usize];
-        let comparison = self.comparer.compare(case, poison);
+        let number = self.tally.cases;
+        let (comparer, present) = match &mut self.calls {
+            Calls::Library(comparer, present) => (comparer, present),
+            Calls::Second { ended_at } => {
+                let ended_here = *ended_at == number;
+                return self.call_of_second(case, ended_here);
+            }
+        };
+        present.set(u64::from(self.line) << 32 | number);
+        let comparison = comparer.compare(case, Poison::ALL[(number % 3) as usize]);
+        let result = comparer.result(comparison.given);
         self.tally.count(case.entry, comparison.expected, !comparison.differences.is_empty());
         if !comparison.differences.is_empty() {
             self.report(case, &comparison.differences);
         }
-        (comparison.given, self.comparer.result(comparison.given))
+        (comparison.given, result)
+    }
+
+    fn call_of_second(&mut self, case: &Case, ended_here: bool) -> (Answer, Vec<u8>) {
+        if ended_here {
+            self.report(case, &["the call ended the process".to_string()]);
+        }
+        let outcome = case.outcome();
+        self.tally.count(case.entry, outcome.answer, ended_here);
+        (outcome.answer, outcome.output[..outcome.answer.length as usize].to_vec())
     }
 
     /// A call with spaces that suffice.
@@ -122,7 +165,7 @@ mod tests {
     /// A library of which the tests call check alone.
     fn inspector(check: boundary::library::CheckFunction, folder: &str) -> Inspector {
         let library = Library { check, run: no_run, flatten: no_write, check_flat: check, write_proof: no_write };
-        Inspector::new(library, 1, &std::env::temp_dir().join(folder))
+        Inspector::new(library, 1, &std::env::temp_dir().join(folder)).unwrap()
     }
 
     #[test]

@@ -8,12 +8,10 @@ use boundary::mix::Mix;
 use boundary::options::Options;
 use boundary::record;
 use boundary::tally::{with_commas, Tally};
+use boundary::watch::{run_watched, Ended, PresentCall, IN_PROCESS};
 use second::generate::case::Case;
-use std::fs::File;
-use std::os::unix::fs::FileExt;
-use std::os::unix::process::ExitStatusExt;
 use std::path::{Path, PathBuf};
-use std::process::{Command, ExitCode};
+use std::process::ExitCode;
 use std::sync::atomic::{AtomicU64, Ordering::Relaxed};
 use std::thread::Builder;
 use std::time::Instant;
@@ -41,7 +39,7 @@ Exit status: 0 no difference; 1 a difference, or the library ended the process;
 ";
 
 const VALUED: [&str; 7] = ["--cases", "--seed", "--only", "--file", "--library", "--differences", "--threads"];
-const FLAGS: [&str; 3] = ["--exact", "--in-process", "--help"];
+const FLAGS: [&str; 3] = ["--exact", IN_PROCESS, "--help"];
 
 /// Generated cases to be replayed.
 struct Job {
@@ -87,7 +85,7 @@ fn perform(options: &Options, arguments: &[String]) -> Result<ExitCode, String> 
         exact: options.has("--exact"),
         threads: options.number("--threads", 1)?.max(1),
     };
-    if options.has("--in-process") {
+    if options.has(IN_PROCESS) {
         return replay_generated(&job);
     }
     watch_over(&job, arguments)
@@ -96,13 +94,11 @@ fn perform(options: &Options, arguments: &[String]) -> Result<ExitCode, String> 
 /// Makes the calls in a process of their own: if one of them ends it, its case
 /// is written down like any other difference.
 fn watch_over(job: &Job, arguments: &[String]) -> Result<ExitCode, String> {
-    let program = std::env::current_exe().map_err(|error| error.to_string())?;
-    let status = Command::new(program).args(arguments).arg("--in-process").status();
-    let status = status.map_err(|error| format!("the process of the calls cannot be started: {error}"))?;
-    let Some(signal) = status.signal() else {
-        return Ok(ExitCode::from(status.code().unwrap_or(3) as u8));
+    let signal = match run_watched(arguments)? {
+        Ended::Status(status) => return Ok(ExitCode::from(status)),
+        Ended::Signal(signal) => signal,
     };
-    let number = present_case(&job.differences)?;
+    let number = PresentCall::read(&job.differences)?;
     let (_, case) = Mix::new(job.seed).case(number);
     let what = [format!("the call ended the process with signal {signal}")];
     print!("{}", record::write(&job.differences, &record_name(job, number), &case, &what)?);
@@ -113,19 +109,12 @@ fn record_name(job: &Job, number: u64) -> String {
     format!("seed-{}-case-{number}", job.seed)
 }
 
-fn present_case(differences: &Path) -> Result<u64, String> {
-    let path = record::file_of_present_case(differences);
-    let bytes = std::fs::read(&path).map_err(|error| format!("cannot read {}: {error}", path.display()))?;
-    let number: [u8; 8] = bytes.try_into().map_err(|_| "the number of the present case is torn".to_string())?;
-    Ok(u64::from_be_bytes(number))
-}
-
 /// What the threads of a replay share.
 struct Shared<'a> {
     job: &'a Job,
     library: Library,
     mix: Mix,
-    present_case: File,
+    present_call: PresentCall,
     start: Instant,
     done: AtomicU64,
     differences: AtomicU64,
@@ -139,7 +128,7 @@ fn replay_generated(job: &Job) -> Result<ExitCode, String> {
         job,
         library: Library::load(&job.library)?,
         mix: Mix::new(job.seed),
-        present_case: open_present_case(&job.differences)?,
+        present_call: PresentCall::open(&job.differences)?,
         start: Instant::now(),
         done: AtomicU64::new(0),
         differences: AtomicU64::new(0),
@@ -163,8 +152,7 @@ impl Shared<'_> {
         let mut number = job.first + thread;
         while number < job.first + job.cases {
             let (kind, case) = self.mix.case(number);
-            // A failure to write only makes a crash harder to find.
-            let _ = self.present_case.write_all_at(&number.to_be_bytes(), 0);
+            self.present_call.set(number);
             let comparison = if job.exact {
                 compare_exactly(&self.library, &case)
             } else {
@@ -204,12 +192,6 @@ impl Shared<'_> {
             );
         }
     }
-}
-
-fn open_present_case(differences: &Path) -> Result<File, String> {
-    let path = record::file_of_present_case(differences);
-    let made = std::fs::create_dir_all(differences).and_then(|()| File::create(&path));
-    made.map_err(|error| format!("cannot write {}: {error}", path.display()))
 }
 
 fn conclude(job: &Job, tally: &Tally, start: Instant) -> ExitCode {
