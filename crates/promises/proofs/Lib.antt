@@ -8,3 +8,4 @@ pub mod FlattenedWithin
 pub mod FlattenPromises
 pub mod RunWithin
 pub mod RunPromises
+pub mod RunMeaning

@@ -54,7 +54,7 @@ module _ (t f : List ℕ) (b : ℕ) (T : Table) (j : Job) (l : b ≤ mostSteps) 
   definitions : UniqueDefinitions T
   definitions = reads-unique-definitions t T e
 
-  outcome : runOutcome t f b ≡ runResult j σ
+  pub outcome : runOutcome t f b ≡ runResult j σ
   unfolding runOutcome
   outcome = rw (le-ltb mostSteps b l, e, g)
 
@@ -64,7 +64,7 @@ module _ (t f : List ℕ) (b : ℕ) (T : Table) (j : Job) (l : b ≤ mostSteps) 
   ended-so n x d h = outcome ∙ ap (runResult j) (run↔ends T rules definitions (j .term) (j .goals) b n x .1 (d, h))
 
   -- and of one that has not
-  still-running : (κ : Control) → Running κ → (n : ℕ) → runEnd j n κ ≡ refusal budgetSpent 0 0 n
+  pub still-running : (κ : Control) → Running κ → (n : ℕ) → runEnd j n κ ≡ refusal budgetSpent 0 0 n
   unfolding runEnd
   still-running (running u h w) r n = refl
 
@@ -74,7 +74,7 @@ module _ (t f : List ℕ) (b : ℕ) (T : Table) (j : Job) (l : b ≤ mostSteps) 
       let r = running↔no-end T rules definitions (j .term) (j .goals) b .1 none in
       outcome ∙ still-running (σ .control) r (σ .steps) ∙ ap (λ (n : ℕ). refusal budgetSpent 0 0 n) (spent-steps T b (j .term) (j .goals) r)
 
-  answer-of : (w o : List ℕ) → runWork ≤ length w → (c : Cause) (n : ℕ) → runOutcome t f b ≡ refusal c 0 0 n → runTactic t f b w o .answer ≡ answer.refusal (number c) 0 0 n
+  pub answer-of : (w o : List ℕ) → runWork ≤ length w → (c : Cause) (n : ℕ) → runOutcome t f b ≡ refusal c 0 0 n → runTactic t f b w o .answer ≡ answer.refusal (number c) 0 0 n
   unfolding runTactic writeIn writeOut
   answer-of w o h c n q = rw (le-ltb (length w) runWork h, q)
 
@@ -173,11 +173,11 @@ module _ (t f : List ℕ) (b : ℕ) where
   unfolding runOutcome
   over-budget h = rw (lt-ltb mostSteps b h)
 
-  table-refused : b ≤ mostSteps → (c : Cause) (q : ℕ) → readTable t ≡ refused c q → runOutcome t f b ≡ refusal c 1 q 0
+  pub table-refused : b ≤ mostSteps → (c : Cause) (q : ℕ) → readTable t ≡ refused c q → runOutcome t f b ≡ refusal c 1 q 0
   unfolding runOutcome
   table-refused h c q e = rw (le-ltb mostSteps b h, e)
 
-  job-refused : b ≤ mostSteps → (T : Table) (c : Cause) (q : ℕ) → readTable t ≡ gives T → readJob f ≡ refused c q → runOutcome t f b ≡ refusal c 2 q 0
+  pub job-refused : b ≤ mostSteps → (T : Table) (c : Cause) (q : ℕ) → readTable t ≡ gives T → readJob f ≡ refused c q → runOutcome t f b ≡ refusal c 2 q 0
   unfolding runOutcome
   job-refused h T c q e g = rw (le-ltb mostSteps b h, e, g)
 

@@ -6,3 +6,4 @@ pub mod CheckFlatPromises
 pub mod WriteProofPromises
 pub mod FlattenPromises
 pub mod RunPromises
+pub mod RunMeaning
