@@ -6,5 +6,5 @@ pub mod LabelLaws
 pub mod SequenceLaws
 pub mod TensorLaws
 pub mod SameGoals
+pub mod DecideLaws
 pub mod CheckLaws
-pub mod PartsLaws

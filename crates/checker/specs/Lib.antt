@@ -1,4 +1,5 @@
 pub mod Arities
 pub mod Labels
 pub mod Walks
+pub mod Decides
 pub mod Checks

@@ -1,20 +1,18 @@
 // The entry check: table, proof and work space in, one answer out.
 ghost use mathlib.Core.Path.{_≡_};
-ghost use Prim.Native.Nat.{_+_, _*_, _≤_};
+ghost use Prim.Native.Nat.{_≤_};
 ghost use lib.ListN.{length};
-ghost use Rattle.format.specs.Goals.{goalsAt};
 ghost use Rattle.format.specs.Results.{gives};
 ghost use Rattle.tables.specs.Tables.{Table};
 ghost use Rattle.tables.specs.Standing.{TableStands};
 ghost use Rattle.files.specs.Proofs.{Proof, readProof};
 ghost use Rattle.files.specs.Shapes.{partsOf};
 ghost use Rattle.entries.specs.LentSpace.{countedAnswer};
-ghost use Rattle.entries.specs.Check.{sameGoals, proofCounts, onProof};
+ghost use Rattle.entries.specs.Check.{proofCounts, onProof};
 ghost use Rattle.entries.specs.Check as entry;
 ghost use Rattle.checker.specs.Checks.{checkedAnswer};
-use crate::arity::note_arities;
-use crate::walk::Walked;
-use crate::walk::walk;
+use crate::decide::Decided;
+use crate::decide::decide;
 use answers::Answer;
 use answers::counted;
 use answers::refusal;
@@ -24,42 +22,11 @@ use files::proofs::read_proof;
 use tables::fields::TableRead;
 use tables::table::read_table;
 use words::clear;
-use words::copy_in;
-use words::load16;
 
-// The work space: arities are noted below STACKS; the goals given grow up from there, the goals to take lie at the end.
+// The size of the work space that is named for this entry.
 const WORK: usize = 65536;
 
-const STACKS: usize = 16384;
-
-// Whether the goals from a place of the work space on are those from a place of the proof on.
-pub fn same_goals(
-    work: &[u8],
-    at: usize,
-    given: usize,
-    proof: &[u8],
-    from: usize,
-    stated: usize,
-) -> bool
-    requires { ⌜ (at + given * 2 ≤ length (now work)) × (from + stated * 2 ≤ length (now proof)) ⌝ }
-    ensures { λ r. ⌜ r ≡ sameGoals (goalsAt (now (work .entry)) at given) (goalsAt (now (proof .entry)) from stated) ⌝ }
-{
-    if given != stated {
-        return false;
-    }
-    let mut i: usize = 0;
-    while i < given {
-        let mine = load16(work, at + i * 2);
-        let other = load16(proof, from + i * 2);
-        if mine != other {
-            return false;
-        }
-        i += 1;
-    }
-    true
-}
-
-// The walk of a proof that was read, and whether it gives the stated remaining goals.
+// A proof that was read: its refusal, or its counts.
 fn check_parts(
     table: &[u8],
     first: usize,
@@ -70,29 +37,10 @@ fn check_parts(
     requires { ⌜ ((T : Table) × TableStands (now table) first T) × ((p : Proof) × (readProof (now proof) ≡ gives p) × (partsOf p ≡ parts)) × (65536 ≤ length (now work)) ⌝ }
     ensures { λ r. ⌜ ((T : Table) (p : Proof) → TableStands (now (table .entry)) first T → readProof (now (proof .entry)) ≡ gives p → r ≡ checkedAnswer T p) ⌝ }
 {
-    note_arities(proof, parts.term, work);
-    let top = WORK - parts.goals * 2;
-    copy_in(work, top, proof, 3, parts.goals * 2);
-    let walked = walk(
-        table,
-        first,
-        proof,
-        parts.term,
-        parts.goals,
-        work,
-        STACKS,
-        top,
-    );
-    match walked {
-        Walked::Refused(number, place) => refusal(number, 2, place, 0),
-        Walked::Gives(given, uses) => {
-            let rest = parts.rest;
-            let same = same_goals(work, STACKS, given, proof, rest + 3, parts.remaining);
-            if same {
-                return counted(parts.fields, uses, parts.remaining);
-            }
-            refusal(21, 2, rest, 0)
-        }
+    let decided = decide(table, first, proof, work, parts);
+    match decided {
+        Decided::Refused(number, place) => refusal(number, 2, place, 0),
+        Decided::Accepted(uses) => counted(parts.fields, uses, parts.remaining),
     }
 }
 

@@ -10,10 +10,9 @@ use lib.Dec.{ltb}
 use lib.ListN.{length, take, drop, replicate, length-append, length-drop, drop-of-length-le}
 use lib.Seq.{sets, sets-eq, length-sets, take-all, drop-at, length-take-le}
 use borrow.Rule.Slice.PartMut.{putMid}
-use borrow.Author.Tests.{lt-ltb, le-ltb, eq-eqb}
-use Rattle.format.specs.declared.values.Goal.{Goal}
+use borrow.Author.Tests.{lt-ltb, le-ltb}
 use Rattle.format.specs.Refusals.{Cause, number, outputTooShort}
-use Rattle.format.specs.Results.{Result, gives, refused, andThen}
+use Rattle.format.specs.Results.{Result, gives, refused}
 use Rattle.format.specs.Goals.{goalsAt}
 use Rattle.format.specs.Encoding.{goalListBytes}
 use Rattle.tables.specs.Tables.{Table}
@@ -34,17 +33,17 @@ use Rattle.hitac.proofs.Nodes.{Cell, range, nodeEntries}
 use Rattle.hitac.proofs.NodeForest.{nodes-flatten}
 use Rattle.answers.specs.declared.Answer.{Answer}
 use Rattle.answers.specs.Answers as answer
-use Rattle.entries.specs.Outcomes.{Outcome, success, refusal, inFile, done, tableFile, otherFile, noFile}
+use Rattle.entries.specs.Outcomes.{Outcome, success, refusal, inFile, done, otherFile, noFile}
 use Rattle.entries.specs.LentSpace.{Written, writeOut, writeIn, cleared}
-use Rattle.entries.specs.Check.{sameGoals, remainingAre, checked, onProof, forestFile, flatten}
+use Rattle.entries.specs.Check.{onProof, proofCounts, forestFile, flatten}
 use Rattle.checker.specs.Arities.{AritiesNoted}
-use Rattle.flattener.specs.declared.decide.Decided.the-variants as D
-use Rattle.flattener.specs.Decides.{Decides}
-use Rattle.flattener.specs.Space.{mostNodes, floor, cellBytes, stacks, cellsOf}
-use Rattle.flattener.specs.Prints.{stackEnd, Closed, forestEntries, Printable}
+use Rattle.checker.specs.Decides.{stackEnd, Decides}
+use Rattle.checker.specs.declared.decide.Decided.the-variants as D
+use Rattle.checker.proofs.DecideLaws.{refused-whatever, accepted-whatever, standing, small, small-term}
+use Rattle.flattener.specs.Space.{floor, stacks}
+use Rattle.flattener.specs.Prints.{Closed, forestEntries, Printable}
 use Rattle.flattener.specs.Forests.{Accepted, forestCells, Planted, written, flattened, Counted}
 use Rattle.flattener.proofs.PrintLaws.{sets-append}
-use Rattle.flattener.proofs.DecideLaws.{standing, small, small-term}
 use Rattle.flattener.proofs.PlantLaws.{forest-nodes, forest-few, forest-closed, forest-longer}
 
 -- ---- sizes
@@ -152,19 +151,14 @@ module _ (T : Table) (p : Proof) (table : List ℕ) (first : ℕ) (s w : List �
 
 -- ---- what was decided
 
-pub same-self : (g : List Goal) → sameGoals g g ≡ true
-unfolding sameGoals
-same-self [] = refl
-same-self (γ ∷ g) = rw (eq-eqb (γ .0) (γ .0) refl) (same-self g)
-
 module _ (T : Table) (p : Proof) (w out : List ℕ) where
   pub decided-refused : (k q : ℕ) → Decides T p w (D.Refused k q) → (flattened T p out ≡ outcomeOf (answer.refusal k 2 q 0) out) × (q ≤ 65535)
   unfolding Decides writeOut
-  decided-refused k q d = (ap (λ (y : Result (List ℕ)). writeOut [] out (inFile otherFile y done)) (d .2) ∙ ap (λ (n : ℕ). outcomeOf (answer.refusal n 2 q 0) out) (d .1), d .3)
+  decided-refused k q d = (ap (λ (y : Result (List ℕ)). writeOut [] out (inFile otherFile y done)) (refused-whatever T p (proofCounts T p) (forestFile T p) (d .0) q (d .2)) ∙ ap (λ (n : ℕ). outcomeOf (answer.refusal n 2 q 0) out) (d .1), d .3)
 
   pub decided-accepted : (u : ℕ) → Decides T p w (D.Accepted u) → flattened T p out ≡ written T p out
-  unfolding Decides checked andThen remainingAre
-  decided-accepted u d = rw (d .0, same-self (p .remaining))
+  unfolding Decides
+  decided-accepted u d = rw (accepted-whatever T p (forestFile T p) (d .0))
 
 pub counted-of : (T : Table) (p : Proof) (table : List ℕ) (first : ℕ) (s w l : List ℕ) (parts : ProofParts) (u : ℕ) → TableStands table first T → readProof s ≡ gives p → partsOf p ≡ parts
     → Decides T p l (D.Accepted u) → stacks w ≡ l → floor + stackEnd ≤ length w → Counted T p table first s w parts u

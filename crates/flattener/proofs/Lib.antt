@@ -7,6 +7,5 @@ pub mod LabelLaws
 pub mod PrintLaws
 pub mod PassLaws
 pub mod GrowthLaws
-pub mod DecideLaws
 pub mod PlantLaws
 pub mod FlattenLaws

@@ -14,9 +14,10 @@ use Rattle.format.specs.declared.values.RuleName.{RuleName}
 use Rattle.format.specs.Goals.{goalsAt}
 use Rattle.files.specs.Derivations.{Entry, entryBytes, entriesBytes}
 use Rattle.hitac.proofs.Nodes.{Cell, openCell, useCell, noCell, cellAt, entryOf, premiseNodes, range, nodeEntries}
+use Rattle.checker.specs.Decides.{stackEnd}
 use Rattle.flattener.specs.declared.print.Printed.{Printed}
 use Rattle.flattener.specs.Space.{mostNodes, floor, cellBytes, stacks, cellIn, cellsOf, nodesAt, putRange}
-use Rattle.flattener.specs.Prints.{stackEnd, topCell, firstPremise, cellEntry, Closed, forestEntries, PrintReady, NodePrinted, Printable}
+use Rattle.flattener.specs.Prints.{topCell, firstPremise, cellEntry, Closed, forestEntries, PrintReady, NodePrinted, Printable}
 use Rattle.flattener.proofs.StackLaws.{length-nodes, nodes-stacks, same-cells, length-range, kept-range, nodes-range}
 use Rattle.flattener.proofs.CellLaws.{length-cells, cell-of, cells-inside}
 use Rattle.flattener.proofs.PrintLaws.{range-length, sets-append}

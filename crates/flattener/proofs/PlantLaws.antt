@@ -2,14 +2,12 @@
 -- Assumes nothing.
 use mathlib.Core.Path.{_≡_, refl, sym, subst, ap, ap₂, _∙_}
 use mathlib.Core.Logic.{inl}
-use mathlib.Core.List.{List, [], _∷_, _++_, map}
-use Prim.Native.Nat.{ℕ, _+_, _*_, _≤_, _<_}
+use mathlib.Core.List.{List, [], map}
+use Prim.Native.Nat.{ℕ, _+_, _*_, _≤_}
 use native.Mathlib.Omega.{arith}
 use lib.ListN.{length, length-map}
 use Rattle.words.specs.Kept.{Kept}
-use Rattle.format.specs.declared.values.Goal.{Goal}
 use Rattle.format.specs.Results.{gives}
-use Rattle.format.specs.Terms.{Term, size}
 use Rattle.format.specs.Goals.{goalsAt}
 use Rattle.format.proofs.GoalsLaws.{length-goalsAt}
 use Rattle.tables.specs.Tables.{Table}
@@ -19,19 +17,19 @@ use Rattle.hitac.specs.Hiproofs.{atomics}
 use Rattle.hitac.specs.Walk.{walk}
 use Rattle.hitac.proofs.WalkValidates.{Finds, finds-agrees, walk→validates}
 use Rattle.hitac.proofs.Nodes.{Cell, openCell, range, nodeWalk}
-use Rattle.checker.specs.Arities.{slot, AritiesNoted}
-use Rattle.checker.specs.Walks.{Ready}
+use Rattle.checker.specs.Arities.{AritiesNoted}
 use Rattle.checker.proofs.ArityLaws.{arities-kept}
+use Rattle.checker.specs.Decides.{stackEnd}
+use Rattle.checker.proofs.DecideLaws.{Small, SmallTerm, standing, small, small-term}
 use Rattle.flattener.specs.declared.walk.Given.{Given}
 use Rattle.flattener.specs.Space.{mostNodes, floor, cellBytes, stacks, cellsFrom, cellsOf, nodesAt, putOpens, putRange}
 use Rattle.flattener.specs.Walks.{Suits, NodesReady, NodesWalked}
-use Rattle.flattener.specs.Prints.{stackEnd, Closed}
+use Rattle.flattener.specs.Prints.{Closed}
 use Rattle.flattener.specs.Forests.{Accepted, forestCells, Planted}
 use Rattle.flattener.proofs.StackLaws.{nodes-stacks, kept-stacks, same-cells, same-stacks, length-range, kept-range, nodes-range}
 use Rattle.flattener.proofs.CellLaws.{length-cells, cells-inside, length-opens, kept-opens, cells-opens}
 use Rattle.flattener.proofs.PrintLaws.{range-length}
 use Rattle.flattener.proofs.GrowthLaws.{Grows, carry-new, grows, closed-opens}
-use Rattle.flattener.proofs.DecideLaws.{Small, SmallTerm, standing, small, small-term}
 
 -- what the walk over nodes leaves of an accepted proof
 module _ (T : Table) (p : Proof) (s : List ℕ) (reads : readProof s ≡ gives p) (walks : walk T (p .term) (termPlace p) (p .goals) ≡ gives (p .remaining)) where

@@ -15,8 +15,8 @@ use Rattle.entries.specs.Outcomes.{inFile, done, otherFile}
 use Rattle.entries.specs.LentSpace.{Written, writeOut}
 use Rattle.entries.specs.Check.{checked, forestFile}
 use Rattle.checker.specs.Arities.{AritiesNoted}
+use Rattle.checker.specs.Decides.{stackEnd}
 use Rattle.flattener.specs.Space.{floor, cellBytes, stacks, cellsOf}
-use Rattle.flattener.specs.Prints.{stackEnd}
 
 -- An accepted proof: both files read, the walk gives the remaining goals, and the arities are noted.
 pub record Accepted (T : Table) (p : Proof) (table : List ℕ) (first : ℕ) (s w : List ℕ) (term goals : ℕ) : Type 0 where

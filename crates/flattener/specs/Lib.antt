@@ -1,5 +1,4 @@
 pub mod Space
 pub mod Walks
 pub mod Prints
-pub mod Decides
 pub mod Forests

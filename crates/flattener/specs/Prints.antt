@@ -7,6 +7,7 @@ use lib.Seq.{sets}
 use Rattle.words.specs.Word.{word}
 use Rattle.files.specs.Derivations.{Entry, entryBytes, entriesBytes}
 use Rattle.hitac.proofs.Nodes.{Cell, openCell, useCell, entryOf, premiseNodes, range, nodeEntries}
+use Rattle.checker.specs.Decides.{stackEnd}
 use Rattle.flattener.specs.declared.print.Printed.{Printed}
 use Rattle.flattener.specs.Space.{mostNodes, floor, cellBytes, stacks, cellIn, cellsOf, nodesAt}
 
@@ -36,10 +37,6 @@ pub record NodePrinted (w w′ : List ℕ) (top at : ℕ) (o o′ : List ℕ) (r
   pub cells-same : cellBytes w′ ≡ cellBytes w
   pub top-is : r .top + length (premiseNodes (topCell w top)) * 2 ≡ top + 2
   pub pending : (m : ℕ) → nodesAt (stacks w′) (r .top) (length (premiseNodes (topCell w top)) + m) ≡ premiseNodes (topCell w top) ++ nodesAt (stacks w) (top + 2) m
-
--- where the stacks end: room for the arities of a file, for 256 goals and for seven more of each of 2,048 atomics
-abbrev pub stackEnd : ℕ
-stackEnd = 47104
 
 -- the premises of every use are among so many nodes
 unfoldable pub Closed : (nodes : ℕ) → List Cell → Type 0

@@ -5,12 +5,12 @@ ghost use lib.ListN.{length};
 ghost use Rattle.tables.specs.Tables.{Table};
 ghost use Rattle.files.specs.Proofs.{Proof};
 ghost use Rattle.flattener.specs.Forests.{Accepted, Planted};
-use crate::decide::STACKS;
 use crate::nodes::FLOOR;
 use crate::nodes::put_opens;
 use crate::nodes::put_range;
-use crate::print::STACK_END;
 use crate::walk::walk_nodes;
+use checker::decide::STACK_END;
+use checker::decide::STACKS;
 
 // Makes all nodes, and gives their number.
 pub fn plant(

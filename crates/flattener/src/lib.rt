@@ -1,5 +1,4 @@
 // The flattener: the walk of a proof over nodes, and the flat file of the forest that they show.
-pub mod decide;
 pub mod flatten;
 pub mod forest;
 pub mod nodes;

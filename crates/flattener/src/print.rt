@@ -11,15 +11,13 @@ ghost use Rattle.flattener.specs.Prints.{PrintReady, NodePrinted, forest
 use crate::nodes::FLOOR;
 use crate::nodes::node_at;
 use crate::nodes::put_range;
+use checker::decide::STACK_END;
 use format::values::Goal;
 use format::values::RuleName;
 use format::values::goal_at;
 use format::values::rule_name_at;
 use words::load16;
 use words::store16;
-
-// Where the stacks end, from their floor on.
-pub const STACK_END: usize = 47104;
 
 // The place of the next node on the stack, and that of the next entry.
 pub struct Printed {

@@ -3,17 +3,15 @@
 use Prim.Native.Nat.{ℕ, _+_, _≤_, _<_}
 use native.Mathlib.Omega.{arith}
 use mathlib.Core.Path.{_≡_, refl, sym, subst, ap, _∙_}
-use mathlib.Core.Bool.{Bool, true, false, cond, _&&_, false≢true}
+use mathlib.Core.Bool.{Bool, true, false, false≢true}
 use mathlib.Core.Logic.{_⊎_, inl, inr, _↔_}
-use mathlib.Core.List.{List, [], _∷_}
-use lib.Dec.{eqb}
+use mathlib.Core.List.{List}
 use lib.ListN.{length}
-use borrow.Author.Tests.{eqb-true, eq-eqb}
 use Rattle.format.specs.declared.values.Goal.{Goal}
 use Rattle.format.specs.Refusals.{Cause, number, remainingDiffer}
 use Rattle.format.specs.Results.{Result, gives, refused, andThen}
 use Rattle.format.specs.Terms.{size, fields, Hiproof}
-use Rattle.format.proofs.ResultLaws.{number-positive, same-place, same-cause, never-gives, same-value}
+use Rattle.format.proofs.ResultLaws.{number-positive, same-place, same-cause, never-gives}
 use Rattle.tables.specs.Tables.{Table, HasRule, UniqueRules}
 use Rattle.tables.specs.ReadTables.{readTable}
 use Rattle.tables.proofs.ReadsTable.{reads-unique-rules}
@@ -29,35 +27,14 @@ use Rattle.hitac.proofs.WalkStops.{walk↔stops}
 use Rattle.hitac.proofs.StopPlaces.{walk-number, walk-place}
 use Rattle.answers.specs.declared.Answer.{Answer}
 use Rattle.answers.specs.Answers as answer
-use Rattle.entries.specs.Outcomes.{Outcome, inFile, done, tableFile, otherFile}
 use Rattle.entries.specs.LentSpace.{countedAnswer}
 use Rattle.entries.specs.Check.{sameGoals, remainingAre, checked, onProof, proofCounts, checkWork, check}
+use Rattle.entries.proofs.SameGoals.{same-equal, equal-same}
 use Rattle.promises.specs.Accepted.{Accepted}
 use Rattle.promises.specs.CheckPromises.{Check-accepts, Check-counts, Refuses, Check-refuses, CheckRefuses, Check-ends}
 use Rattle.promises.proofs.LentLaws as lent
 use Rattle.promises.proofs.LentLaws.{ends-checked}
 use Rattle.promises.proofs.OutcomeLaws.{Comes, comes, counted-ends}
-
--- the comparison of goals is equality
-both-true : (b c : Bool) → (b && c) ≡ true → (b ≡ true) × (c ≡ true)
-both-true true c e = (refl, e)
-both-true false c e = absurd (false≢true e)
-
-same-equal : (g h : List Goal) → sameGoals g h ≡ true → g ≡ h
-unfolding sameGoals
-same-equal [] [] e = refl
-same-equal [] (δ ∷ h) e = absurd (false≢true e)
-same-equal (γ ∷ g) [] e = absurd (false≢true e)
-same-equal (γ ∷ g) (δ ∷ h) e =
-    let b = both-true (eqb (γ .0) (δ .0)) (sameGoals g h) e in
-    let n = eqb-true (γ .0) (δ .0) (b .0) in
-    let r = same-equal g h (b .1) in
-    λ i. record { 0 = n i } ∷ r i
-
-pub equal-same : (g : List Goal) → sameGoals g g ≡ true
-unfolding sameGoals
-equal-same [] = refl
-equal-same (γ ∷ g) = rw (eq-eqb (γ .0) (γ .0) refl, equal-same g)
 
 -- the answer, once the work space is long enough
 answered : (t p w : List ℕ) → checkWork ≤ length w → check t p w .answer ≡ countedAnswer (onProof proofCounts t p)

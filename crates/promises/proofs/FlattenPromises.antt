@@ -32,6 +32,7 @@ use Rattle.hitac.proofs.WalkValidates.{walk↔validates}
 use Rattle.entries.specs.Outcomes.{done}
 use Rattle.entries.specs.LentSpace.{writeOut, writeIn}
 use Rattle.entries.specs.Check.{remainingAre, checked, onProof, forestFile, flattenWork, flatten}
+use Rattle.entries.proofs.SameGoals.{equal-same}
 use Rattle.promises.specs.Accepted.{Accepted}
 use Rattle.promises.specs.Right.{Right}
 use Rattle.promises.specs.Ended.{InOther}
@@ -40,7 +41,7 @@ use Rattle.promises.specs.WriteProofPromises.{wrote}
 use Rattle.promises.specs.FlattenPromises.{derivationOf, plain, FlattensRight, Flattens-right, Flatten-ends}
 use Rattle.promises.proofs.LentLaws.{ends-written}
 use Rattle.promises.proofs.OutcomeLaws.{written-ends}
-use Rattle.promises.proofs.CheckPromises.{equal-same, proof-comes}
+use Rattle.promises.proofs.CheckPromises.{proof-comes}
 use Rattle.promises.proofs.FlattenedWithin.{derived-values, plain-values}
 
 -- a call on a proof that is accepted writes the file of its forest

@@ -41,6 +41,7 @@ use Rattle.entries.specs.Outcomes.{done}
 use Rattle.entries.specs.LentSpace.{writeOut, writeIn}
 use Rattle.entries.specs.Check.{remainingAre, checked, onProof, forestFile, flattenWork, flatten}
 use Rattle.entries.specs.CheckFlat.{nonePending, right, writtenProof, writtenFile, writeOutcome, writeProofWork, writeProof}
+use Rattle.entries.proofs.SameGoals.{equal-same}
 use Rattle.promises.specs.Accepted.{Accepted}
 use Rattle.promises.specs.Right.{Right}
 use Rattle.promises.specs.Ended.{InOther}
@@ -48,7 +49,6 @@ use Rattle.promises.specs.WriteProofPromises.{wrote, proofOf, WritesBack
 use Rattle.promises.proofs.WrittenWithin.{written-values, leaf-values}
 use Rattle.promises.proofs.LentLaws.{ends-written}
 use Rattle.promises.proofs.OutcomeLaws.{comes, written-ends}
-use Rattle.promises.proofs.CheckPromises.{equal-same}
 use Rattle.promises.proofs.CheckFlatPromises.{right-refuses}
 
 module _ (t f : List ℕ) (bytes : Bytes f) (r : Right t f) (few : length (r .the-derivation .entries) ≤ 2048) where

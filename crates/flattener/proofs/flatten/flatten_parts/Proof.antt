@@ -16,9 +16,9 @@ use Rattle.files.specs.declared.proofs.ProofParts.{ProofParts}
 use Rattle.files.specs.Proofs.{Proof, readProof}
 use Rattle.files.specs.Shapes.{partsOf}
 use Rattle.entries.specs.LentSpace.{Written}
-use Rattle.flattener.specs.declared.decide.Decided.the-variants as D
+use Rattle.checker.specs.Decides.{Decides}
+use Rattle.checker.specs.declared.decide.Decided.the-variants as D
 use Rattle.flattener.specs.Space.{floor, stacks}
-use Rattle.flattener.specs.Decides.{Decides}
 use Rattle.flattener.specs.Forests.{Counted}
 use Rattle.flattener.proofs.FlattenLaws.{decided-refused, decided-accepted, counted-of, part-length, part-back}
 use Rattle.flattener.proofs.flatten.flatten_parts.Statement.{statement}

@@ -8,7 +8,7 @@ use denote.Ref.{now}
 use borrow.Author.Needs.{needs}
 use Rattle.tables.specs.Tables.{Table}
 use Rattle.files.specs.Proofs.{Proof}
-use Rattle.flattener.specs.Prints.{stackEnd}
+use Rattle.checker.specs.Decides.{stackEnd}
 use Rattle.flattener.specs.Forests.{Accepted}
 use Rattle.flattener.proofs.PlantLaws.{goals-few, goals-inside, plant-ready, planted}
 use Rattle.flattener.proofs.forest.plant.Statement.{statement}

@@ -10,8 +10,9 @@ use denote.Ref.{now}
 use borrow.Author.Needs.{needs}
 use Rattle.files.specs.Derivations.{entriesBytes}
 use Rattle.hitac.proofs.Nodes.{range, nodeEntries}
+use Rattle.checker.specs.Decides.{stackEnd}
 use Rattle.flattener.specs.Space.{cellsOf}
-use Rattle.flattener.specs.Prints.{stackEnd, Printable}
+use Rattle.flattener.specs.Prints.{Printable}
 use Rattle.flattener.proofs.PassLaws.{Running, pushed-cells, pushed-roots, printable-still, pass-begins, node-ready, pass-goes-on, pass-ends}
 use Rattle.flattener.proofs.print.print_forest.Statement.{statement}
 use Rattle.flattener.proofs.print.print_forest.Tie as tie

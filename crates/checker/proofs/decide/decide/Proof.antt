@@ -12,13 +12,12 @@ use Rattle.format.proofs.ResultLaws.{same-value}
 use Rattle.tables.specs.Tables.{Table}
 use Rattle.tables.specs.Standing.{TableStands}
 use Rattle.files.specs.Proofs.{Proof, readProof}
 use Rattle.checker.specs.Walks.{Ready}
-use Rattle.flattener.specs.declared.decide.Decided.{Decided}
-use Rattle.flattener.specs.Decides.{Decides}
-use Rattle.flattener.specs.Prints.{stackEnd}
-use Rattle.flattener.proofs.DecideLaws.{Small, SmallTerm, small, small-term, Walking, walk-ready, decides-refused, decides-bound, decides-accepted, decides-other}
-use Rattle.flattener.proofs.decide.decide.Statement.{statement}
-use Rattle.flattener.proofs.decide.decide.Tie as tie
+use Rattle.checker.specs.declared.decide.Decided.{Decided}
+use Rattle.checker.specs.Decides.{stackEnd, Decides}
+use Rattle.checker.proofs.DecideLaws.{Small, SmallTerm, small, small-term, Walking, walk-ready, decides-refused, decides-bound, decides-accepted, decides-other}
+use Rattle.checker.proofs.decide.decide.Statement.{statement}
+use Rattle.checker.proofs.decide.decide.Tie as tie
 
 abbrev proof : tie.Start → Proof
 proof i = i .pre .1 .0

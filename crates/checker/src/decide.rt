@@ -1,29 +1,59 @@
-// The checker's part: the walk over goals, and whether it gives the stated remaining ones.
+// What is decided of a proof that was read: the walk over its goals, and whether it gives the stated remaining ones. The entry flatten begins with it too.
 ghost use mathlib.Core.Path.{_≡_};
-ghost use Prim.Native.Nat.{_≤_};
+ghost use Prim.Native.Nat.{_+_, _*_, _≤_};
 ghost use lib.ListN.{length};
+ghost use Rattle.format.specs.Goals.{goalsAt};
 ghost use Rattle.format.specs.Results.{gives};
 ghost use Rattle.tables.specs.Tables.{Table};
 ghost use Rattle.tables.specs.Standing.{TableStands};
 ghost use Rattle.files.specs.Proofs.{Proof, readProof};
 ghost use Rattle.files.specs.Shapes.{partsOf};
-ghost use Rattle.flattener.specs.Decides.{Decides};
-ghost use Rattle.flattener.specs.Prints.{stackEnd};
-use crate::print::STACK_END;
-use checker::arity::note_arities;
-use checker::check::same_goals;
-use checker::walk::Walked;
-use checker::walk::walk;
+ghost use Rattle.entries.specs.Check.{sameGoals};
+ghost use Rattle.checker.specs.Decides.{stackEnd, Decides};
+use crate::arity::note_arities;
+use crate::walk::Walked;
+use crate::walk::walk;
 use files::proofs::ProofParts;
 use words::copy_in;
+use words::load16;
 
-// Arities are noted below this place; the goals and nodes given grow up from there.
+// Arities are noted below this place; what is given grows up from there.
 pub const STACKS: usize = 16384;
+
+// What is to be taken lies below this place.
+pub const STACK_END: usize = 47104;
 
 // What is decided: the refusal's number and place, or the number of uses.
 pub enum Decided {
     Refused(u8, usize),
     Accepted(usize),
+}
+
+// Whether the goals from a place of the space on are those from a place of the proof on.
+fn same_goals(
+    space: &[u8],
+    at: usize,
+    given: usize,
+    proof: &[u8],
+    from: usize,
+    stated: usize,
+) -> bool
+    requires { ⌜ (at + given * 2 ≤ length (now space)) × (from + stated * 2 ≤ length (now proof)) ⌝ }
+    ensures { λ r. ⌜ r ≡ sameGoals (goalsAt (now (space .entry)) at given) (goalsAt (now (proof .entry)) from stated) ⌝ }
+{
+    if given != stated {
+        return false;
+    }
+    let mut i: usize = 0;
+    while i < given {
+        let mine = load16(space, at + i * 2);
+        let other = load16(proof, from + i * 2);
+        if mine != other {
+            return false;
+        }
+        i += 1;
+    }
+    true
 }
 
 // The walk of a proof that was read, and whether it gives the stated remaining goals. The arities that it notes stay.

@@ -1,15 +1,13 @@
--- One law for each ending of the checker's part: what the walk came to, and whether its goals are those stated, say what is decided.
+-- One law for each ending of decide: what the walk came to, and whether its goals are those stated, say what is decided of a proof.
 -- Assumes nothing.
 use mathlib.Core.Path.{_≡_, refl, sym, subst, ap, _∙_}
-use mathlib.Core.Bool.{Bool, true, false, cond, _&&_}
+use mathlib.Core.Bool.{Bool, true, false, cond}
 use mathlib.Core.Logic.{inl}
-use mathlib.Core.List.{List, [], _∷_}
-use Prim.Native.Nat.{ℕ, _+_, _*_, _-_, _≤_, _<_}
+use mathlib.Core.List.{List}
+use Prim.Native.Nat.{ℕ, _+_, _*_, _-_, _≤_}
 use native.Mathlib.Omega.{arith}
-use lib.Dec.{eqb}
 use lib.ListN.{length, drop}
 use lib.Seq.{paste}
-use borrow.Author.Tests.{eqb-true}
 use Rattle.words.specs.Kept.{Kept}
 use Rattle.words.proofs.KeptLaws.{kept-copy}
 use Rattle.format.specs.declared.values.Goal.{Goal}
@@ -18,6 +16,7 @@ use Rattle.format.specs.Results.{Result, gives, refused, andThen}
 use Rattle.format.specs.Terms.{Term, size, fields}
 use Rattle.format.specs.Goals.{goalsAt}
 use Rattle.format.specs.Standing.{Stands}
+use Rattle.format.proofs.ResultLaws.{never-gives, same-place, same-cause}
 use Rattle.format.proofs.GoalsAt.{goals-paste}
 use Rattle.tables.specs.Tables.{Table}
 use Rattle.files.specs.declared.proofs.ProofParts.{ProofParts}
@@ -29,31 +28,37 @@ use Rattle.files.proofs.Sizes.{proof-size}
 use Rattle.hitac.specs.Hiproofs.{atomics}
 use Rattle.hitac.specs.Walk.{walk}
 use Rattle.hitac.proofs.TermBounds.{atomics-fields}
-use Rattle.entries.specs.Check.{sameGoals, remainingAre, checked, forestFile}
+use Rattle.entries.specs.Check.{sameGoals, remainingAre, checked, proofCounts}
+use Rattle.entries.proofs.SameGoals.{same-equal, equal-same}
 use Rattle.checker.specs.declared.walk.Walked.{Walked}
 use Rattle.checker.specs.declared.walk.Walked.the-variants as W
-use Rattle.checker.specs.Arities.{slot, AritiesNoted, Noted}
+use Rattle.checker.specs.Arities.{slot, Noted}
 use Rattle.checker.specs.Walks.{Ready, Comes, Leaves, Walks}
-use Rattle.checker.proofs.ArityLaws.{slot-rises, arities-kept}
+use Rattle.checker.proofs.ArityLaws.{arities-kept}
 use Rattle.checker.proofs.WalkLaws.{gives-bound}
-use Rattle.flattener.specs.declared.decide.Decided.the-variants as D
-use Rattle.flattener.specs.Decides.{Decides}
-use Rattle.flattener.specs.Prints.{stackEnd}
+use Rattle.checker.specs.declared.decide.Decided.the-variants as D
+use Rattle.checker.specs.Decides.{stackEnd, Decides}
 
-both-true : (a b : Bool) → (a && b) ≡ true → (a ≡ true) × (b ≡ true)
-both-true true b e = (refl, e)
-both-true false b e = absurd (let z : _≡_ {A = ℕ} 0 1 = cc in omega arith)
+-- ---- a proof is refused or accepted whatever it is checked for
 
--- goals that compare as the same are the same
-pub same-goals-equal : (g h : List Goal) → sameGoals g h ≡ true → g ≡ h
-unfolding sameGoals
-same-goals-equal [] [] e = refl
-same-goals-equal [] (δ ∷ h) e = absurd (let z : _≡_ {A = ℕ} 0 1 = cc in omega arith)
-same-goals-equal (γ ∷ g) [] e = absurd (let z : _≡_ {A = ℕ} 0 1 = cc in omega arith)
-same-goals-equal (γ ∷ g) (δ ∷ h) e =
-    let b = both-true (eqb (γ .0) (δ .0)) (sameGoals g h) e in
-    let n = eqb-true (γ .0) (δ .0) (b .0) in
-    λ i. record { 0 = n i } ∷ same-goals-equal g h (b .1) i
+module _ {A B : Type 0} (T : Table) (p : Proof) (a : A) (b : B) where
+  refused-by : (h : List Goal) (t : Bool) (c : Cause) (q : ℕ) → sameGoals h (p .remaining) ≡ t → cond t (gives a) (refused remainingDiffer (remainingPlace p)) ≡ refused c q → remainingAre p b h ≡ refused c q
+  unfolding remainingAre
+  refused-by h true c q f e = never-gives (sym e)
+  refused-by h false c q f e = rw (f, same-cause e, same-place e)
+
+  refused-after : (x : Result (List Goal)) (c : Cause) (q : ℕ) → andThen x (remainingAre p a) ≡ refused c q → andThen x (remainingAre p b) ≡ refused c q
+  unfolding andThen remainingAre
+  refused-after (gives h) c q e = refused-by h (sameGoals h (p .remaining)) c q refl e
+  refused-after (refused d r) c q e = rw (same-cause e, same-place e)
+
+  pub refused-whatever : (c : Cause) (q : ℕ) → checked T p a ≡ refused c q → checked T p b ≡ refused c q
+  unfolding checked
+  refused-whatever c q e = refused-after (walk T (p .term) (termPlace p) (p .goals)) c q e
+
+pub accepted-whatever : {A : Type 0} (T : Table) (p : Proof) (a : A) → walk T (p .term) (termPlace p) (p .goals) ≡ gives (p .remaining) → checked T p a ≡ gives a
+unfolding checked andThen remainingAre
+accepted-whatever T p a e = rw (e, equal-same (p .remaining))
 
 -- ---- what is known of the sizes of a proof that reads
 
@@ -63,6 +68,7 @@ pub record Small (s : List ℕ) (q : ProofParts) : Type 0 where
   pub remaining : q .remaining ≤ 256
   pub remaining-inside : q .rest + 3 + q .remaining * 2 ≤ length s
   pub file : length s ≤ 21510
+  pub term-fields : q .fields ≤ 4096
 
 pub record SmallTerm (s : List ℕ) (at : ℕ) (t : Term) : Type 0 where
   pub stands : Stands s at t
@@ -84,6 +90,7 @@ module _ (s : List ℕ) (p : Proof) (e : readProof s ≡ gives p) where
         remaining = st .remaining-stand .few;
         remaining-inside = omega (arith, st .end-is);
         file = proof-size s p e;
+        term-fields = st .few-fields;
       }
 
   term-of : SmallTerm s (termPlace p) (p .term)
@@ -145,7 +152,7 @@ module _ (T : Table) (s : List ℕ) (p : Proof) (e : readProof s ≡ gives p) (w
     refused-of k q t =
         let o = subst (Comes w₃ 16384 (walk T (p .term) (termPlace p) (p .goals))) t outcome in
         let l : q ≤ length s = subst (Leaves (p .term) (length s) w₂ w₃ 16384 top (length (p .goals))) t (x .walked .leaves) in
-        (o .0, o .1, ap (λ (y : Result (List Goal)). andThen y (remainingAre p (forestFile T p))) (o .2), omega (arith, small-of s p e .file))
+        (o .0, o .1, ap (λ (y : Result (List Goal)). andThen y (remainingAre p (proofCounts T p))) (o .2), omega (arith, small-of s p e .file))
 
     bound-of : (n u : ℕ) → r ≡ W.Gives n u → (u ≡ atomics (p .term)) × (16384 + n * 2 ≤ stackEnd) × (u ≤ 2048)
     unfolding partsOf
@@ -168,7 +175,7 @@ module _ (T : Table) (s : List ℕ) (p : Proof) (e : readProof s ≡ gives p) (w
         let y = term-of s p e in
         let k = gives-bound T (p .term) (termPlace p) (length s) w₂ w₃ 16384 top (length (p .goals)) n u r t (x .walked) .2 in
         let rd = walk-ready s p e (partsOf p) refl w₀ w₁ w₂ r₀ top (x .noted) (x .copied) (x .at-end) (x .enough) in (
-          o ∙ ap gives (same-goals-equal (goalsAt w₃ 16384 n) (p .remaining) (remaining-compared n true f)),
+          o ∙ ap gives (same-equal (goalsAt w₃ 16384 n) (p .remaining) (remaining-compared n true f)),
           bound-of n u t .0,
           arities-kept w₂ w₃ 16384 (top + length (p .goals) * 2) k (p .term) (termPlace p) (inl (y .arities-below)) (rd .noted),
         )
