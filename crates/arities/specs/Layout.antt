@@ -7,7 +7,7 @@ use Rattle.format.specs.Limits.{mostSteps}
 abbrev pub outputEnd : ℕ
 outputEnd = 5 * mostSteps
 
--- Room for the job's 256 goals, and for each term begun 264 bytes: see `setAside` of Shows.
+-- Room for the job's 256 goals, and for each term begun 264 bytes: see `setAside` of the machine's Shows.
 abbrev pub goalsEnd : ℕ
 goalsEnd = outputEnd + 512 + 264 * mostSteps
 

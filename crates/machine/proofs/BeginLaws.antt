@@ -1,7 +1,7 @@
 -- One term begun: a law for each form but atomic terms, tensors and defined tactics. A form that fails writes nothing; one that ends leaves its field; one
 -- that enters an inner term lays a frame on the others.
 -- Assumes nothing.
-use Prim.Native.Nat.{ℕ, zero, suc, _+_, _*_, _-_, _≤_, _<_}
+use Prim.Native.Nat.{ℕ, zero, suc, _+_, _-_, _≤_}
 use mathlib.Core.Path.{_≡_, refl, sym, ap, subst, _∙_}
 use mathlib.Core.List.{List, _∷_}
 use mathlib.Core.Option.{Option, none, some}

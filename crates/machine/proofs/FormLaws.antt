@@ -24,20 +24,19 @@ use Rattle.tables.specs.declared.lookup.RuleFound.the-variants as R
 use Rattle.tables.specs.declared.lookup.BodyFound.{BodyFound}
 use Rattle.tables.specs.declared.lookup.BodyFound.the-variants as B
 use Rattle.tables.specs.Tables.{Table}
-use Rattle.tables.specs.Lookup.{FoundRule, findRule, findBody}
+use Rattle.tables.specs.Lookup.{findRule, findBody}
 use Rattle.tables.specs.Standing.{TableStands}
 use Rattle.tables.specs.Found.{ruleFound, FindsRule, FoundInside, BodyStands, FindsBody}
-use Rattle.hitac.specs.Outcomes.{Split, splitAt, splitBy, finished, foundPremises, ruleGives}
-use Rattle.hitac.specs.Machine as M
+use Rattle.hitac.specs.Outcomes.{splitAt, finished, foundPremises, ruleGives}
 use Rattle.hitac.specs.Machine.{tensorLeft}
-use Rattle.arities.specs.Layout.{outputEnd, framesEnd}
+use Rattle.arities.specs.Layout.{outputEnd}
 use Rattle.arities.specs.Arities.{arityCode}
 use Rattle.frames.specs.Memory.{Same, Only}
 use Rattle.frames.specs.Frames.{putFrame, putHeader}
 use Rattle.frames.proofs.MemoryLaws.{only-then, only-wider, only-word, only-copy, same-word, same-head}
 use Rattle.frames.proofs.FrameLaws.{only-header, header-tag, header-head}
 use Rattle.machine.specs.declared.state.State.{State}
-use Rattle.machine.specs.Shows.{source, GoalsIs, FrameIs, Runs, Ends, Config, next, done, Holds}
+use Rattle.machine.specs.Shows.{source, GoalsIs, FrameIs, Ends, Config, next, done, Holds}
 use Rattle.machine.specs.Begun.{enter, Room, Begins, BeginsIn, failed, entered, tensorNext, tensorFrame, atomicNext, ruleNext, used, definedNext, unfolded}
 use Rattle.machine.specs.Step.{Grown}
 use Rattle.machine.proofs.KeepLaws.{kept-behind, frames-kept}

@@ -23,10 +23,10 @@ use Rattle.frames.specs.Memory.{Only}
 use Rattle.frames.specs.Frames.{frameAt}
 use Rattle.frames.proofs.MemoryLaws.{only-word, same-term, same-goals}
 use Rattle.machine.specs.declared.state.State.{State}
-use Rattle.machine.specs.Shows.{GoalsIs, FrameIs, FramesAt, setAside, Sizes, Proved, Ends, Holds}
+use Rattle.machine.specs.Shows.{GoalsIs, FrameIs, FramesAt, setAside, Proved, Ends, Holds}
 use Rattle.machine.specs.Popping.{pop, Fits, Smaller, Waiting, Popped, joined, overflowed, Gathered}
-use Rattle.machine.proofs.KeepLaws.{kept-output, kept-behind, goals-kept, frames-kept}
-use Rattle.machine.proofs.WaitingLaws.{by-kind, if-proved, waiting-fits, waiting-top, innermost}
+use Rattle.machine.proofs.KeepLaws.{kept-output, kept-behind, frames-kept}
+use Rattle.machine.proofs.WaitingLaws.{by-kind, if-proved, waiting-fits, innermost}
 
 -- what the code needs to know before it joins
 pub record Joins (w : List ℕ) (s : State) (f : Frame) : Type 0 where

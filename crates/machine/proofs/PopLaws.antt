@@ -2,11 +2,11 @@
 -- other frames as they are, and a label's or a sequence's field is closed by storing its length.
 -- Assumes nothing.
 use Prim.Native.Nat.{ℕ, _+_, _-_, _≤_}
-use mathlib.Core.Path.{_≡_, refl, sym, ap, subst, _∙_}
+use mathlib.Core.Path.{_≡_, refl, sym, subst, _∙_}
 use mathlib.Core.List.{List, _∷_}
 use native.Mathlib.Omega.{arith}
 use lib.ListN.{length, getD}
-use Rattle.words.specs.Word.{word, putWord}
+use Rattle.words.specs.Word.{putWord}
 use Rattle.words.proofs.WordLaws.{word-same}
 use Rattle.format.specs.declared.values.Goal.{Goal}
 use Rattle.format.specs.Refusals.{Cause}
@@ -20,10 +20,10 @@ use Rattle.frames.specs.Memory.{Same, Only}
 use Rattle.frames.specs.Frames.{frameAt}
 use Rattle.frames.proofs.MemoryLaws.{only-word, same-word, same-term}
 use Rattle.machine.specs.declared.state.State.{State}
-use Rattle.machine.specs.Shows.{GoalsIs, FrameIs, FramesAt, setAside, Runs, Proved, Lost, Overflowed, Ends, Config, next, done, Holds}
+use Rattle.machine.specs.Shows.{GoalsIs, FrameIs, FramesAt, setAside, Proved, Lost, Ends, Config, done, Holds}
 use Rattle.machine.specs.Popping.{pop, settle, Fits, Smaller, Waiting, Popped, leave, resume}
 use Rattle.machine.proofs.KeepLaws.{kept-output, goals-kept, frames-kept, frame-mark}
-use Rattle.machine.proofs.WaitingLaws.{by-kind, kindOf, if-proved, if-failed, if-ended, waiting-fits, waiting-top, Innermost, innermost}
+use Rattle.machine.proofs.WaitingLaws.{by-kind, kindOf, if-proved, if-failed, if-ended, waiting-fits, innermost}
 
 -- what the machine does with the frames that are left comes to the same
 pub settle-pop : (e : Ending) (x : M.Frame) (k : List M.Frame) → settle (pop e x k) ≡ unwind e (x ∷ k)

@@ -1,9 +1,9 @@
 -- A step: the term that stands there is begun as its form asks, by its tag, and then the frames are unwound.
 -- Assumes nothing.
-use Prim.Native.Nat.{ℕ, _+_, _*_, _≤_, _<_}
+use Prim.Native.Nat.{ℕ, _+_, _≤_, _<_}
 use mathlib.Core.Path.{_≡_, refl, sym, ap, subst, _∙_}
 use mathlib.Core.Bool.{Bool, cond}
-use mathlib.Core.List.{List, []}
+use mathlib.Core.List.{List}
 use mathlib.Core.Option.{Option, none, some}
 use native.Mathlib.Omega.{arith}
 use lib.ListN.{length, getD}
@@ -13,7 +13,6 @@ use Rattle.format.specs.declared.values.RuleName.{RuleName}
 use Rattle.format.specs.declared.values.Goal.{Goal}
 use Rattle.format.specs.declared.values.Label.{Label}
 use Rattle.format.specs.declared.values.TacticNo.{TacticNo}
-use Rattle.format.specs.Limits.{mostSteps}
 use Rattle.format.specs.Terms.{Term, atomic, id, label, sequence, tensor, empty, alternation, assert, defined, size}
 use Rattle.format.specs.Standing.{Stands}
 use Rattle.format.proofs.StandsLaws.{tagOf, known}
@@ -24,15 +23,14 @@ use Rattle.tables.specs.Lookup.{findBody}
 use Rattle.hitac.specs.TacticArity.{arityIn, tacticArity}
 use Rattle.hitac.specs.Outcomes.{oneGoal, splitBy}
 use Rattle.hitac.specs.Machine as M
-use Rattle.hitac.specs.Machine.{enterOrFail, unwind}
-use Rattle.arities.specs.Layout.{outputEnd, goalsEnd, framesEnd, spaceEnd}
+use Rattle.hitac.specs.Machine.{enterOrFail}
 use Rattle.arities.specs.Arities.{arityCode, ArityTable, arities, Pair}
 use Rattle.arities.proofs.ArityLaws.{Inner, pair-of}
 use Rattle.machine.specs.declared.state.State.{State}
-use Rattle.machine.specs.Shows.{source, GoalsIs, Runs, Ends, Config, next, done, Holds, Shows, setAside}
+use Rattle.machine.specs.Shows.{source, GoalsIs, Runs, Config, Holds, Shows}
 use Rattle.machine.specs.Popping.{settle, Fewer, Unwinding, Unwound}
 use Rattle.machine.specs.Begun.{enter, begun, Room, Begins, BeginsIn, idNext, emptyNext, assertNext, sequenceNext, alternationNext, labelNext, tensorNext, ruleNext, definedNext}
-use Rattle.machine.specs.Step.{Grown, Given, BeginsAny, TermHere, BeginsHere, NeedsNoTable, HasTwo, Stepped}
+use Rattle.machine.specs.Step.{Grown, Given, BeginsAny, PairStands, BeginsPair, Stepped}
 use Rattle.machine.proofs.KeepLaws.{frames-top}
 use Rattle.machine.proofs.UnwindLaws.{after-done, after-next}
 
@@ -106,11 +104,12 @@ module _ (bytes : List ℕ) (first : ℕ) (src w : List ℕ) (s : State) where
     pub given-goals : (g : List Goal) × GoalsIs w (s .arena) (s .start) (s .count) g
     given-goals = (q .goals, q .runs .goals)
 
-    pub given-here : (tag : ℕ) → getD src (s .at) 0 ≡ tag → TermHere src w s tag
-    given-here tag e = record {
+    pub given-pair : (tag : ℕ) → getD src (s .at) 0 ≡ tag → (tag ≡ 17 → ⊥) → (tag ≡ 21 → ⊥) → (tag ≡ 16 → ⊥) → (tag ≡ 18 → ⊥) → (tag ≡ 23 → ⊥) → (tag ≡ 24 → ⊥) → PairStands src w s tag
+    given-pair tag e a b c d f g = record {
       room = given-room;
       src-small = q .src-small;
       tag-is = e;
+      pair = (a, b, c, d, f, g);
       bytes = bytes;
       job = q .job;
       so = q .so;
@@ -144,14 +143,26 @@ module _ (bytes : List ℕ) (first : ℕ) (src w : List ℕ) (s : State) where
     atomic-any e value val b T job t g k st so ar h =
         let y = there job t g k so h in by-tag src (s .at) (Goes T job g k) 16 (λ a x z i. b T a st (val ∙ x .value-is) bytes job g k i) e t y y h
 
+    pub label-any : getD src (s .at) 0 ≡ 18 → (value : ℕ) → value ≡ word src (s .at + 3)
+        → ((l : Label) (t : Term) → value ≡ l .0 → Begins w s v r (label l t) (labelNext l t)) → BeginsAny bytes first src w s v r
+    unfolding begun Stands
+    label-any e value val b T job t g k st so ar h =
+        let y = there job t g k so h in by-tag src (s .at) (Goes T job g k) 18 (λ l u o z i. b l u (val ∙ z .1) bytes job g k i) e t y y h
+
+    pub assert-any : getD src (s .at) 0 ≡ 23 → (value : ℕ) → value ≡ word src (s .at + 3)
+        → ((T : Table) (γ : Goal) → value ≡ γ .0 → Begins w s v r (assert γ) (assertNext T γ)) → BeginsAny bytes first src w s v r
+    unfolding begun
+    assert-any e value val b T job t g k st so ar h =
+        let y = there job t g k so h in by-tag src (s .at) (Goes T job g k) 23 (λ γ x z i. b T γ (val ∙ x .value-is) bytes job g k i) e t y y h
+
     pub defined-any : getD src (s .at) 0 ≡ 24 → (value : ℕ) → value ≡ word src (s .at + 3)
         → ((T : Table) (d : TacticNo) (job : List ℕ) → TableStands bytes first T → value ≡ d .0 → BeginsIn bytes job w s v r (defined d) (definedNext T d)) → BeginsAny bytes first src w s v r
     unfolding begun
     defined-any e value val b T job t g k st so ar h =
         let y = there job t g k so h in by-tag src (s .at) (Goes T job g k) 24 (λ d x z i. b T d job st (val ∙ x .value-is) g k i) e t y y h
 
-    pub here-any : BeginsHere src w s v r → BeginsAny bytes first src w s v r
-    here-any b T job t g k st so ar h = b bytes job T t g k so ar h
+    pub pair-any : BeginsPair src w s v r → BeginsAny bytes first src w s v r
+    pair-any b T job t g k st so ar h = b bytes job T t g k so ar h
 
     -- the next term is there at once
     pub steps-next : BeginsAny bytes first src w s v r → r .mode ≡ 0 → Stepped bytes first src w s v r
@@ -190,84 +201,65 @@ pub in-source : (bytes : List ℕ) (first : ℕ) (w : List ℕ) (s : State) (v :
     → Stepped bytes first src w s v r × Grown w s v r
 in-source bytes first w s v r b src e h = (subst (λ (x : List ℕ). Stepped bytes first x w s v r) (sym e) (h .0), h .1)
 
--- a term that needs no table
-module _ (src w : List ℕ) (s : State) (tag : ℕ) (q : TermHere src w s tag) where
-  here-stands : Stands src (s .at) (q .term)
-  here-stands = in-file (q .bytes) (q .job) src (s .file) (s .at) (q .term) (q .so) (q .runs .stands)
+-- a sequence, a tensor or an alternation
+module _ (src w : List ℕ) (s : State) (tag : ℕ) (q : PairStands src w s tag) where
+  pair-stands : Stands src (s .at) (q .term)
+  pair-stands = in-file (q .bytes) (q .job) src (s .file) (s .at) (q .term) (q .so) (q .runs .stands)
 
-  pub here-at : s .at < 65536
-  here-at = let k = known src (s .at) (q .term) here-stands in omega (arith, k .inside, k .three, q .src-small)
+  pub pair-inner : Inner src (s .at)
+  unfolding Stands tagOf
+  pair-inner = go (q .term) pair-stands (sym (known src (s .at) (q .term) pair-stands .tag-is) ∙ q .tag-is)
+    where
+      go : (t : Term) → Stands src (s .at) t → tagOf t ≡ tag → Inner src (s .at)
+      go (atomic a) st e = absurd (q .pair .2 (sym e))
+      go id st e = absurd (q .pair .0 (sym e))
+      go (label l t) st e = absurd (q .pair .3 (sym e))
+      go (sequence t u) st e = (t, u, (st .1, st .2))
+      go (tensor t u) st e = (t, u, (st .1, st .2))
+      go empty st e = absurd (q .pair .1 (sym e))
+      go (alternation t u) st e = (t, u, (st .1, st .2))
+      go (assert γ) st e = absurd (q .pair .4 (sym e))
+      go (defined d) st e = absurd (q .pair .5 (sym e))
 
-  pub here-goals : (g : List Goal) × GoalsIs w (s .arena) (s .start) (s .count) g
-  here-goals = (q .goals, q .runs .goals)
+  pub pair-at : s .at < 65536
+  pair-at = let k = known src (s .at) (q .term) pair-stands in omega (arith, k .inside, k .three, q .src-small)
 
-  pub here-value : NeedsNoTable tag → s .at + 5 ≤ length src
-  here-value n = value-room src (s .at) (q .term) here-stands (λ e. n .0 (sym (q .tag-is) ∙ e)) (λ e. n .1 (sym (q .tag-is) ∙ e))
+  pub pair-goals : (g : List Goal) × GoalsIs w (s .arena) (s .start) (s .count) g
+  pair-goals = (q .goals, q .runs .goals)
 
-  there-here : (bytes job : List ℕ) (t : Term) (g : List Goal) (k : List M.Frame) → source bytes job (s .file) ≡ src → Runs bytes job w s t g k → Stands src (s .at) t
-  there-here bytes job t g k so h = in-file bytes job src (s .file) (s .at) t so (h .stands)
+  pub pair-left : (t : Term) × Stands src (s .at + 3) t
+  pair-left = let i = pair-inner in (i .0, i .2 .0)
 
-  module _ (v : List ℕ) (r : State) where
-    abbrev GoesHere : (bytes job : List ℕ) → Table → List Goal → List M.Frame → Term → Type 0
-    GoesHere bytes job T g k x = Stands src (s .at) x → Runs bytes job w s x g k → Holds bytes job v r (begun T x g k)
+  module _ (v : List ℕ) (r : State) (right : ℕ) (rt : (t u : Term) → Pair src (s .at) t u → right ≡ s .at + 3 + size t) where
+    abbrev PairGoes : (bytes job : List ℕ) → Table → List Goal → List M.Frame → Term → Type 0
+    PairGoes bytes job T g k x = Runs bytes job w s x g k → Holds bytes job v r (begun T x g k)
 
-    pub label-here : tag ≡ 18 → (value : ℕ) → value ≡ word src (s .at + 3) → ((l : Label) (t : Term) → value ≡ l .0 → Begins w s v r (label l t) (labelNext l t)) → BeginsHere src w s v r
-    unfolding begun Stands
-    label-here e value val b bytes job T t g k so ar h =
-        let y = there-here bytes job t g k so h in by-tag src (s .at) (GoesHere bytes job T g k) 18 (λ l u o z i. b l u (val ∙ z .1) bytes job g k i) (q .tag-is ∙ e) t y y h
+    pair-there : (bytes job : List ℕ) (t : Term) (g : List Goal) (k : List M.Frame) → source bytes job (s .file) ≡ src → Runs bytes job w s t g k → Stands src (s .at) t
+    pair-there bytes job t g k so h = in-file bytes job src (s .file) (s .at) t so (h .stands)
 
-    pub assert-here : tag ≡ 23 → (value : ℕ) → value ≡ word src (s .at + 3) → ((T : Table) (γ : Goal) → value ≡ γ .0 → Begins w s v r (assert γ) (assertNext T γ)) → BeginsHere src w s v r
+    pub sequence-pair : tag ≡ 19 → ((t u : Term) → right ≡ s .at + 3 + size t → Begins w s v r (sequence t u) (sequenceNext t u)) → BeginsPair src w s v r
     unfolding begun
-    assert-here e value val b bytes job T t g k so ar h =
-        let y = there-here bytes job t g k so h in by-tag src (s .at) (GoesHere bytes job T g k) 23 (λ γ x z i. b T γ (val ∙ x .value-is) bytes job g k i) (q .tag-is ∙ e) t y y h
+    sequence-pair e b bytes job T t g k so ar h =
+        by-tag src (s .at) (PairGoes bytes job T g k) 19 (λ a u z i. b a u (rt a u (pair-of src (s .at) a u z)) bytes job g k i) (q .tag-is ∙ e) t (pair-there bytes job t g k so h) h
 
-  -- a sequence, a tensor or an alternation
-  module _ (two : HasTwo tag) where
-    pub pair-inner : Inner src (s .at)
-    unfolding Stands tagOf
-    pair-inner = go (q .term) here-stands (sym (known src (s .at) (q .term) here-stands .tag-is) ∙ q .tag-is)
+    pub tensor-pair : tag ≡ 20 → (n : ℕ) → ((known : TacticNo → Option ℕ) (t : Term) → ArityTable w known → Stands src (s .at + 3) t → n ≡ arityCode (arityIn known t))
+        → ((o : Option ℕ) (t u : Term) → right ≡ s .at + 3 + size t → n ≡ arityCode o → Begins w s v r (tensor t u) (tensorNext o t u)) → BeginsPair src w s v r
+    unfolding begun tacticArity
+    tensor-pair e n arity b bytes job T t g k so ar h =
+        by-tag src (s .at) (PairGoes bytes job T g k) 20
+        (λ a u z i. b (tacticArity T a) a u (rt a u (pair-of src (s .at) a u z)) (arity (arities T) a ar (z .first)) bytes job g k i) (q .tag-is ∙ e) t (pair-there bytes job t g k so h) h
+
+    pub alternation-pair : (tag ≡ 19 → ⊥) → (tag ≡ 20 → ⊥) → ((t u : Term) → right ≡ s .at + 3 + size t → Begins w s v r (alternation t u) (alternationNext t u)) → BeginsPair src w s v r
+    unfolding begun Stands tagOf
+    alternation-pair x y b bytes job T t g k so ar h = go bytes job T g k t (pair-there bytes job t g k so h) (sym (known src (s .at) t (pair-there bytes job t g k so h) .tag-is) ∙ q .tag-is) h
       where
-        go : (t : Term) → Stands src (s .at) t → tagOf t ≡ tag → Inner src (s .at)
-        go (atomic a) st e = absurd (two .0 .2 (sym e))
-        go id st e = absurd (two .0 .0 (sym e))
-        go (label l t) st e = absurd (two .1 (sym e))
-        go (sequence t u) st e = (t, u, (st .1, st .2))
-        go (tensor t u) st e = (t, u, (st .1, st .2))
-        go empty st e = absurd (two .0 .1 (sym e))
-        go (alternation t u) st e = (t, u, (st .1, st .2))
-        go (assert γ) st e = absurd (two .2 (sym e))
-        go (defined d) st e = absurd (two .0 .3 (sym e))
-
-    pub pair-left : (t : Term) × Stands src (s .at + 3) t
-    pair-left = let i = pair-inner in (i .0, i .2 .0)
-
-    module _ (v : List ℕ) (r : State) (right : ℕ) (rt : (t u : Term) → Pair src (s .at) t u → right ≡ s .at + 3 + size t) where
-      abbrev PairGoes : (bytes job : List ℕ) → Table → List Goal → List M.Frame → Term → Type 0
-      PairGoes bytes job T g k x = Runs bytes job w s x g k → Holds bytes job v r (begun T x g k)
-
-      pub sequence-pair : tag ≡ 19 → ((t u : Term) → right ≡ s .at + 3 + size t → Begins w s v r (sequence t u) (sequenceNext t u)) → BeginsHere src w s v r
-      unfolding begun
-      sequence-pair e b bytes job T t g k so ar h =
-          by-tag src (s .at) (PairGoes bytes job T g k) 19 (λ a u z i. b a u (rt a u (pair-of src (s .at) a u z)) bytes job g k i) (q .tag-is ∙ e) t (there-here bytes job t g k so h) h
-
-      pub tensor-pair : tag ≡ 20 → (n : ℕ) → ((known : TacticNo → Option ℕ) (t : Term) → ArityTable w known → Stands src (s .at + 3) t → n ≡ arityCode (arityIn known t))
-          → ((o : Option ℕ) (t u : Term) → right ≡ s .at + 3 + size t → n ≡ arityCode o → Begins w s v r (tensor t u) (tensorNext o t u)) → BeginsHere src w s v r
-      unfolding begun tacticArity
-      tensor-pair e n arity b bytes job T t g k so ar h =
-          by-tag src (s .at) (PairGoes bytes job T g k) 20
-          (λ a u z i. b (tacticArity T a) a u (rt a u (pair-of src (s .at) a u z)) (arity (arities T) a ar (z .first)) bytes job g k i) (q .tag-is ∙ e) t (there-here bytes job t g k so h) h
-
-      pub alternation-pair : (tag ≡ 19 → ⊥) → (tag ≡ 20 → ⊥) → ((t u : Term) → right ≡ s .at + 3 + size t → Begins w s v r (alternation t u) (alternationNext t u)) → BeginsHere src w s v r
-      unfolding begun Stands tagOf
-      alternation-pair x y b bytes job T t g k so ar h = go bytes job T g k t (there-here bytes job t g k so h) (sym (known src (s .at) t (there-here bytes job t g k so h) .tag-is) ∙ q .tag-is) h
-        where
-          go : (bytes job : List ℕ) (T : Table) (g : List Goal) (k : List M.Frame) (t : Term) → Stands src (s .at) t → tagOf t ≡ tag → Runs bytes job w s t g k → Holds bytes job v r (begun T t g k)
-          go bytes job T g k (atomic a) st e h = absurd (two .0 .2 (sym e))
-          go bytes job T g k id st e h = absurd (two .0 .0 (sym e))
-          go bytes job T g k (label l t) st e h = absurd (two .1 (sym e))
-          go bytes job T g k (sequence t u) st e h = absurd (x (sym e))
-          go bytes job T g k (tensor t u) st e h = absurd (y (sym e))
-          go bytes job T g k empty st e h = absurd (two .0 .1 (sym e))
-          go bytes job T g k (alternation t u) st e h = b t u (rt t u (st .1, st .2)) bytes job g k h
-          go bytes job T g k (assert γ) st e h = absurd (two .2 (sym e))
-          go bytes job T g k (defined d) st e h = absurd (two .0 .3 (sym e))
+        go : (bytes job : List ℕ) (T : Table) (g : List Goal) (k : List M.Frame) (t : Term) → Stands src (s .at) t → tagOf t ≡ tag → Runs bytes job w s t g k → Holds bytes job v r (begun T t g k)
+        go bytes job T g k (atomic a) st e h = absurd (q .pair .2 (sym e))
+        go bytes job T g k id st e h = absurd (q .pair .0 (sym e))
+        go bytes job T g k (label l t) st e h = absurd (q .pair .3 (sym e))
+        go bytes job T g k (sequence t u) st e h = absurd (x (sym e))
+        go bytes job T g k (tensor t u) st e h = absurd (y (sym e))
+        go bytes job T g k empty st e h = absurd (q .pair .1 (sym e))
+        go bytes job T g k (alternation t u) st e h = b t u (rt t u (st .1, st .2)) bytes job g k h
+        go bytes job T g k (assert γ) st e h = absurd (q .pair .4 (sym e))
+        go bytes job T g k (defined d) st e h = absurd (q .pair .5 (sym e))

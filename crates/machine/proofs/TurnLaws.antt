@@ -4,14 +4,14 @@ use Prim.Native.Nat.{ℕ, _+_, _≤_}
 use mathlib.Core.Path.{_≡_, refl, sym, subst, _∙_}
 use mathlib.Core.List.{List, _∷_}
 use native.Mathlib.Omega.{arith}
-use lib.ListN.{length, getD}
+use lib.ListN.{getD}
 use Rattle.format.specs.declared.values.Goal.{Goal}
 use Rattle.format.specs.Terms.{Term, size}
 use Rattle.format.specs.Standing.{Stands}
 use Rattle.hitac.specs.Outcomes.{proved}
 use Rattle.hitac.specs.Machine as M
 use Rattle.hitac.specs.Machine.{sequenceRight, tensorRight}
-use Rattle.arities.specs.Layout.{outputEnd, goalsEnd}
+use Rattle.arities.specs.Layout.{goalsEnd}
 use Rattle.frames.specs.declared.Frame.{Frame}
 use Rattle.frames.specs.Memory.{Only}
 use Rattle.frames.specs.Frames.{frameAt, putFrame}

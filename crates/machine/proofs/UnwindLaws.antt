@@ -1,10 +1,9 @@
 -- Frames taken off until a term is to begin or none waits: what is left to unwind comes to the same all along.
 -- Assumes nothing.
-use Prim.Native.Nat.{ℕ, _+_, _≤_, _<_}
+use Prim.Native.Nat.{ℕ, _≤_, _<_}
 use mathlib.Core.Path.{_≡_, refl, sym, ap, subst, _∙_}
 use mathlib.Core.List.{List, [], _∷_}
 use native.Mathlib.Omega.{arith}
-use lib.ListN.{length}
 use Rattle.hitac.specs.Outcomes.{Ending, proved, failed, ended}
 use Rattle.hitac.specs.Machine as M
 use Rattle.hitac.specs.Machine.{unwind}

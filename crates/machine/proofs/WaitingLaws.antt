@@ -1,8 +1,8 @@
 -- What is known of a term that ended while others wait: which ending it is by the state's mode, which term waits by the kind of its frame, and the
 -- numbers of the state by the steps taken. Each by cases.
 -- Assumes nothing.
-use Prim.Native.Nat.{ℕ, _+_, _*_, _≤_}
-use mathlib.Core.Path.{_≡_, refl, sym, ap, subst, _∙_}
+use Prim.Native.Nat.{ℕ, _+_, _≤_}
+use mathlib.Core.Path.{_≡_, sym, subst}
 use mathlib.Core.Bool.{cond}
 use mathlib.Core.List.{List, _∷_}
 use native.Mathlib.Omega.{arith}
@@ -20,7 +20,7 @@ use Rattle.arities.specs.Layout.{spaceEnd, framesEnd}
 use Rattle.frames.specs.declared.Frame.{Frame}
 use Rattle.frames.specs.Frames.{frameAt}
 use Rattle.machine.specs.declared.state.State.{State}
-use Rattle.machine.specs.Shows.{FrameIs, FramesAt, setAside, Sizes, Proved, Lost, Overflowed, Ends}
+use Rattle.machine.specs.Shows.{FrameIs, FramesAt, Sizes, Proved, Lost, Overflowed, Ends}
 use Rattle.machine.specs.Popping.{Fits, Waiting, Unwinding}
 use Rattle.machine.proofs.KeepLaws.{frames-top, frame-mark}
 

@@ -1,7 +1,7 @@
 -- One frame taken off, and frames taken off until a term is to begin or none waits: what hitac's machine does, and what the code does.
 use Prim.Native.Nat.{ℕ, _+_, _*_, _≤_, _<_}
 use mathlib.Core.Path.{_≡_}
-use mathlib.Core.List.{List, [], _∷_, _++_}
+use mathlib.Core.List.{List, _∷_, _++_}
 use lib.ListN.{length, getD}
 use Rattle.format.specs.Limits.{mostSteps}
 use Rattle.format.specs.Goals.{goalsAt}

@@ -50,11 +50,12 @@ BeginsAny bytes first src w s v r = ForAny bytes first src w s (λ job T t g k. 
 abbrev pub Stepped : (bytes : List ℕ) → (first : ℕ) → (src w : List ℕ) → State → List ℕ → State → Type 0
 Stepped bytes first src w s v r = ForAny bytes first src w s (λ job T t g k. Shows bytes job v r (M.begin T t g k))
 
--- what beginning a term that needs no table is given and does
-pub record TermHere (src w : List ℕ) (s : State) (tag : ℕ) : Type 0 where
+-- what beginning a term with two inner terms is given and does
+pub record PairStands (src w : List ℕ) (s : State) (tag : ℕ) : Type 0 where
   pub room : Room w s
   pub src-small : length src < 65536
   pub tag-is : getD src (s .at) 0 ≡ tag
+  pub pair : (tag ≡ 17 → ⊥) × (tag ≡ 21 → ⊥) × (tag ≡ 16 → ⊥) × (tag ≡ 18 → ⊥) × (tag ≡ 23 → ⊥) × (tag ≡ 24 → ⊥)
   pub bytes : List ℕ
   pub job : List ℕ
   pub so : source bytes job (s .file) ≡ src
@@ -63,15 +64,7 @@ pub record TermHere (src w : List ℕ) (s : State) (tag : ℕ) : Type 0 where
   pub frames : List M.Frame
   pub runs : Runs bytes job w s term goals frames
 
-abbrev pub BeginsHere : (src w : List ℕ) → State → List ℕ → State → Type 0
-BeginsHere src w s v r =
+abbrev pub BeginsPair : (src w : List ℕ) → State → List ℕ → State → Type 0
+BeginsPair src w s v r =
     (bytes job : List ℕ) (T : Table) (t : Term) (g : List Goal) (k : List M.Frame) → source bytes job (s .file) ≡ src → ArityTable w (arities T)
     → Runs bytes job w s t g k → Holds bytes job v r (begun T t g k)
-
--- a label, an assertion or a term with two inner terms
-abbrev pub NeedsNoTable : (tag : ℕ) → Type 0
-NeedsNoTable tag = (tag ≡ 17 → ⊥) × (tag ≡ 21 → ⊥) × (tag ≡ 16 → ⊥) × (tag ≡ 24 → ⊥)
-
--- a term with two inner terms
-abbrev pub HasTwo : (tag : ℕ) → Type 0
-HasTwo tag = NeedsNoTable tag × (tag ≡ 18 → ⊥) × (tag ≡ 23 → ⊥)

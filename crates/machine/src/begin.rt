@@ -17,7 +17,7 @@ ghost use Rattle.arities.specs.Arities.{arityCode};
 ghost use Rattle.frames.specs.Frames.{putHeader};
 ghost use Rattle.machine.specs.Shows.{GoalsIs};
 ghost use Rattle.machine.specs.Begun.{Room, Begins, BeginsIn, idNext, emptyNext, assertNext, sequenceNext, alternationNext, labelNext, tensorNext, atomicNext, ruleNext, definedNext, failed, kept};
-ghost use Rattle.machine.specs.Step.{Given, BeginsAny, BeginsHere, Grown, TermHere, NeedsNoTable, HasTwo};
+ghost use Rattle.machine.specs.Step.{Given, BeginsAny, BeginsPair, Grown, PairStands};
 use crate::state::FAILED;
 use crate::state::PROVED;
 use crate::state::RUNNING;
@@ -363,20 +363,6 @@ impl State {
             let name = rule_name_at(src, at + 3);
             return self.begin_atomic(name, table, first, work);
         }
-        if tag == 24 {
-            let number = tactic_no_at(src, at + 3);
-            return self.begin_defined(number, table, first, work);
-        }
-        self.begin_here(src, tag, work)
-    }
-
-    // A term that needs no table begun: a label, an assertion, or a term with two inner terms.
-    fn begin_here(self, src: &[u8], tag: u8, work: &mut [u8]) -> State
-        requires { ⌜ TermHere (now src) (now work) self tag × NeedsNoTable tag ⌝ }
-        ensures begun { λ r. ⌜ BeginsHere (now (src .entry)) (now (work .entry)) self (now (work .exit)) r ⌝ }
-        ensures grown { λ r. ⌜ Grown (now (work .entry)) self (now (work .exit)) r ⌝ }
-    {
-        let at = self.at;
         if tag == 18 {
             let name = label_at(src, at + 3);
             return self.begin_label(name, work);
@@ -385,13 +371,17 @@ impl State {
             let goal = goal_at(src, at + 3);
             return self.begin_assert(goal, work);
         }
+        if tag == 24 {
+            let number = tactic_no_at(src, at + 3);
+            return self.begin_defined(number, table, first, work);
+        }
         self.begin_pair(src, tag, work)
     }
 
     // A sequence, a tensor or an alternation begun.
     fn begin_pair(self, src: &[u8], tag: u8, work: &mut [u8]) -> State
-        requires { ⌜ TermHere (now src) (now work) self tag × HasTwo tag ⌝ }
-        ensures begun { λ r. ⌜ BeginsHere (now (src .entry)) (now (work .entry)) self (now (work .exit)) r ⌝ }
+        requires { ⌜ PairStands (now src) (now work) self tag ⌝ }
+        ensures begun { λ r. ⌜ BeginsPair (now (src .entry)) (now (work .entry)) self (now (work .exit)) r ⌝ }
         ensures grown { λ r. ⌜ Grown (now (work .entry)) self (now (work .exit)) r ⌝ }
     {
         let at = self.at;
