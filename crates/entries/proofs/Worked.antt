@@ -38,14 +38,14 @@ use Rattle.hitac.specs.Write.{treeTerms, written}
 use Rattle.entries.specs.Check.{sameGoals, remainingAre, checked, onProof, proofCounts, forestFile, check, flatten}
 use Rattle.entries.specs.CheckFlat.{nonePending, right, flatCounts, checkFlatOutcome, writtenProof, writtenFile, writeOutcome, checkFlat, writeProof}
 use Rattle.entries.specs.LentSpace.{checkIn, writeOut, writeIn}
-use Rattle.entries.specs.Lines.{Holds, AllHold}
+use Rattle.entries.specs.Lines.{Holds, AllHold, no-more, _&_}
 use Rattle.entries.specs.PrintedLine.{digits, acceptedLine, refusedLine, printedLine}
 use Rattle.entries.specs.Run.{runEnd, runResult, runOutcome, runTactic}
 use Rattle.entries.specs.Worked.{beside, sideBySide, sideBySideOr, starredLines, edgeLines}
 
 pub starred : AllHold starredLines
-unfolding word termBytes goalBytes goalsAt goalsOf readGoals headerAt leaf pair closed contents termOf readTerm number andThen rows findRow rowOf kindOf leastOf mostOf innerOf lengthFits size fields findRuleIn findRule findBodyIn findBody matches full lowest ruleOf definitionOf fieldOf readField withRule withDefinition fieldsOf readFields readTable ruleSize definitionSize rulesSize placedRules placedTactics placedLabels labelsOf clashesAny firstClash repeatsRule recountsRule repeatsTactic repeatsLabel refuseAt wholeTable searchedTag stepAt besides clashAt places clashTold jobTermPlace DerivationsM.full withEntry entriesOf readEntries derivationOf readFlat entryBytes entriesBytes flatBytes entriesPlace lastTermOf readLastTerm jobOf readJob jobBytes remainingOf hiproofOf proofOf readProof proofBytes termPlace remainingPlace taken flatWalk forest inputArity atomics dropLabels Unlabelled unwind begin stepFrom step run start arityIn arityAfter tacticArity onOneGoal onNoGoal premisesOr tooLong joined walk treeTerms written sameGoals remainingAre checked onProof proofCounts forestFile check flatten nonePending right flatCounts checkFlatOutcome writtenProof writtenFile writeOutcome checkFlat writeProof checkIn writeOut writeIn Holds AllHold digits acceptedLine refusedLine printedLine runEnd runResult runOutcome runTactic beside sideBySide sideBySideOr starredLines edgeLines
-starred = (refl, (refl, (refl, (refl, (refl, (refl, (refl, (refl, (refl, (refl, (refl, (refl, tt))))))))))))
+unfolding word termBytes goalBytes goalsAt goalsOf readGoals headerAt leaf pair closed contents termOf readTerm number andThen rows findRow rowOf kindOf leastOf mostOf innerOf lengthFits size fields findRuleIn findRule findBodyIn findBody matches full lowest ruleOf definitionOf fieldOf readField withRule withDefinition fieldsOf readFields readTable ruleSize definitionSize rulesSize placedRules placedTactics placedLabels labelsOf clashesAny firstClash repeatsRule recountsRule repeatsTactic repeatsLabel refuseAt wholeTable searchedTag stepAt besides clashAt places clashTold jobTermPlace DerivationsM.full withEntry entriesOf readEntries derivationOf readFlat entryBytes entriesBytes flatBytes entriesPlace lastTermOf readLastTerm jobOf readJob jobBytes remainingOf hiproofOf proofOf readProof proofBytes termPlace remainingPlace taken flatWalk forest inputArity atomics dropLabels Unlabelled unwind begin stepFrom step run start arityIn arityAfter tacticArity onOneGoal onNoGoal premisesOr tooLong joined walk treeTerms written sameGoals remainingAre checked onProof proofCounts forestFile check flatten nonePending right flatCounts checkFlatOutcome writtenProof writtenFile writeOutcome checkFlat writeProof checkIn writeOut writeIn Holds digits acceptedLine refusedLine printedLine runEnd runResult runOutcome runTactic beside sideBySide sideBySideOr starredLines edgeLines
+starred = refl & refl & refl & refl & refl & refl & refl & refl & refl & refl & refl & refl & no-more
 
 -- a table of more bytes than a file may have is refused unread
 too-long : (s p : List ℕ) → mostBytes < length s → onProof proofCounts s p ≡ refusal inputTooLong tableFile 0 0
@@ -53,128 +53,11 @@ unfolding onProof readTable
 too-long s p h = rw (lt-ltb mostBytes (length s) h)
 
 pub edges : AllHold edgeLines
-unfolding word termBytes goalBytes goalsAt goalsOf readGoals headerAt leaf pair closed contents termOf readTerm number andThen rows findRow rowOf kindOf leastOf mostOf innerOf lengthFits size fields findRuleIn findRule findBodyIn findBody matches full lowest ruleOf definitionOf fieldOf readField withRule withDefinition fieldsOf readFields readTable ruleSize definitionSize rulesSize placedRules placedTactics placedLabels labelsOf clashesAny firstClash repeatsRule recountsRule repeatsTactic repeatsLabel refuseAt wholeTable searchedTag stepAt besides clashAt places clashTold jobTermPlace DerivationsM.full withEntry entriesOf readEntries derivationOf readFlat entryBytes entriesBytes flatBytes entriesPlace lastTermOf readLastTerm jobOf readJob jobBytes remainingOf hiproofOf proofOf readProof proofBytes termPlace remainingPlace taken flatWalk forest inputArity atomics dropLabels Unlabelled unwind begin stepFrom step run start arityIn arityAfter tacticArity onOneGoal onNoGoal premisesOr tooLong joined walk treeTerms written sameGoals remainingAre checked onProof proofCounts forestFile check flatten nonePending right flatCounts checkFlatOutcome writtenProof writtenFile writeOutcome checkFlat writeProof checkIn writeOut writeIn Holds AllHold digits acceptedLine refusedLine printedLine runEnd runResult runOutcome runTactic beside sideBySide sideBySideOr starredLines edgeLines
-edges = (
-  refl,
-  (
-    refl,
-    (
-      refl,
-      (
-        refl,
-        (
-          too-long (replicate 65536 0) [] (rw length-replicate (omega arith)),
-          (
-            refl,
-            (
-              refl,
-              (
-                refl,
-                (
-                  refl,
-                  (
-                    refl,
-                    (
-                      refl,
-                      (
-                        refl,
-                        (
-                          refl,
-                          (
-                            refl,
-                            (
-                              refl,
-                              (
-                                refl,
-                                (
-                                  refl,
-                                  (
-                                    refl,
-                                    (
-                                      refl,
-                                      (
-                                        refl,
-                                        (
-                                          refl,
-                                          (
-                                            refl,
-                                            (
-                                              refl,
-                                              (
-                                                refl,
-                                                (
-                                                  refl,
-                                                  (
-                                                    refl,
-                                                    (
-                                                      refl,
-                                                      (
-                                                        refl,
-                                                        (
-                                                          refl,
-                                                          (
-                                                            refl,
-                                                            (
-                                                              refl,
-                                                              (
-                                                                refl,
-                                                                (
-                                                                  refl,
-                                                                  (
-                                                                    refl,
-                                                                    (
-                                                                      refl,
-                                                                      (
-                                                                        refl,
-                                                                        (
-                                                                          refl,
-                                                                          (
-                                                                            refl,
-                                                                            (
-                                                                              refl,
-                                                                              (
-                                                                                refl,
-                                                                                (
-                                                                                  refl,
-                                                                                  tt,
-                                                                                ),
-                                                                              ),
-                                                                            ),
-                                                                          ),
-                                                                        ),
-                                                                      ),
-                                                                    ),
-                                                                  ),
-                                                                ),
-                                                              ),
-                                                            ),
-                                                          ),
-                                                        ),
-                                                      ),
-                                                    ),
-                                                  ),
-                                                ),
-                                              ),
-                                            ),
-                                          ),
-                                        ),
-                                      ),
-                                    ),
-                                  ),
-                                ),
-                              ),
-                            ),
-                          ),
-                        ),
-                      ),
-                    ),
-                  ),
-                ),
-              ),
-            ),
-          ),
-        ),
-      ),
-    ),
-  ),
-)
+unfolding word termBytes goalBytes goalsAt goalsOf readGoals headerAt leaf pair closed contents termOf readTerm number andThen rows findRow rowOf kindOf leastOf mostOf innerOf lengthFits size fields findRuleIn findRule findBodyIn findBody matches full lowest ruleOf definitionOf fieldOf readField withRule withDefinition fieldsOf readFields readTable ruleSize definitionSize rulesSize placedRules placedTactics placedLabels labelsOf clashesAny firstClash repeatsRule recountsRule repeatsTactic repeatsLabel refuseAt wholeTable searchedTag stepAt besides clashAt places clashTold jobTermPlace DerivationsM.full withEntry entriesOf readEntries derivationOf readFlat entryBytes entriesBytes flatBytes entriesPlace lastTermOf readLastTerm jobOf readJob jobBytes remainingOf hiproofOf proofOf readProof proofBytes termPlace remainingPlace taken flatWalk forest inputArity atomics dropLabels Unlabelled unwind begin stepFrom step run start arityIn arityAfter tacticArity onOneGoal onNoGoal premisesOr tooLong joined walk treeTerms written sameGoals remainingAre checked onProof proofCounts forestFile check flatten nonePending right flatCounts checkFlatOutcome writtenProof writtenFile writeOutcome checkFlat writeProof checkIn writeOut writeIn Holds digits acceptedLine refusedLine printedLine runEnd runResult runOutcome runTactic beside sideBySide sideBySideOr starredLines edgeLines
+edges =
+    refl & refl & refl & refl
+    & too-long (replicate 65536 0) [] (rw length-replicate (omega arith))
+    & refl & refl & refl & refl & refl & refl & refl & refl & refl & refl & refl & refl
+    & refl & refl & refl & refl & refl & refl & refl & refl & refl & refl & refl & refl
+    & refl & refl & refl & refl & refl & refl & refl & refl & refl & refl & refl & refl
+    & no-more

@@ -42,6 +42,8 @@ Holds (runsWith t j b w o x) = runTactic t j b w o ≡ x
 Holds (checksWith t p w x) = check t p w ≡ x
 Holds (prints a l) = printedLine a ≡ l
 
-unfoldable pub AllHold : List Line → Type 0
-AllHold [] = Unit {0}
-AllHold (l ∷ ls) = Holds l × AllHold ls
+-- every line of a list holds
+infixr 5 _&_
+pub data AllHold : List Line → Type 0 where
+  no-more : AllHold []
+  _&_ : {l : Line} {ls : List Line} → Holds l → AllHold ls → AllHold (l ∷ ls)

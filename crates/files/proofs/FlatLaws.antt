@@ -19,7 +19,7 @@ use Rattle.format.specs.Headers.{header, headerAt}
 use Rattle.format.specs.Goals.{readGoals}
 use Rattle.format.specs.Shapes.{headerShape, goalsShape}
 use Rattle.format.specs.Standing.{Head}
-use Rattle.format.proofs.TermTags.{found-row}
+use Rattle.format.proofs.TermTags.{tagsBetween, no-more, _&_, found-tag}
 use Rattle.format.proofs.HeaderLaws.{is-field}
 use Rattle.files.specs.declared.flats.EntriesRead.{EntriesRead}
 use Rattle.files.specs.declared.flats.EntriesRead.the-variants as E
@@ -56,45 +56,8 @@ parts d = F.Read (flatPartsOf d)
 
 -- a number whose kind is that of an entry is the tag 32 or the tag 33
 entry-tag : (t : ℕ) → entryKind ≤ kindOf t → kindOf t ≤ entryKind → (t ≡ 32 → ⊥) → t ≡ 33
-unfolding kindOf rowOf rows
-entry-tag t l h n = found-row (λ k. (k ≡ 32 → ⊥) → k ≡ 33) entryKind entryKind (omega arith) rows (
-  λ a b. absurd (omega arith),
-  (
-    λ a b. absurd (omega arith),
-    (
-      λ a b. absurd (omega arith),
-      (
-        λ a b. absurd (omega arith),
-        (
-          λ a b. absurd (omega arith),
-          (
-            λ a b. absurd (omega arith),
-            (
-              λ a b. absurd (omega arith),
-              (
-                λ a b. absurd (omega arith),
-                (
-                  λ a b. absurd (omega arith),
-                  (
-                    λ a b. absurd (omega arith),
-                    (
-                      λ a b. absurd (omega arith),
-                      (
-                        λ a b. absurd (omega arith),
-                        (λ a b q. absurd (q refl), (λ a b q. refl, tt)),
-                      ),
-                    ),
-                  ),
-                ),
-              ),
-            ),
-          ),
-        ),
-      ),
-    ),
-  ),
-)
-    t l h n
+unfolding rows tagsBetween
+entry-tag t l h = found-tag (λ k. (k ≡ 32 → ⊥) → k ≡ 33) entryKind entryKind (omega arith) ((λ n. absurd (n refl)) & (λ n. refl) & no-more) t l h
 
 -- the header of an entry, by its tag
 module _ (s : List ℕ) (at : ℕ) (b : Bool) (tag len : ℕ) (e : headerAt s at (length s) entryKind entryKind b ≡ gives (header tag len)) where

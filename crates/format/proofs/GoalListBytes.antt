@@ -18,7 +18,7 @@ use Rattle.format.specs.Goals.{goalsAt, ParsedGoals, goalsOf, readGoals}
 use Rattle.format.specs.Encoding.{Bytes, goalBytes, goalListBytes, GoalValues}
 use Rattle.format.specs.Standing.{Head}
 use Rattle.format.proofs.ResultLaws.{and-gives, passed, same-value}
-use Rattle.format.proofs.TermTags.{found-row}
+use Rattle.format.proofs.TermTags.{tagsBetween, no-more, _&_, found-tag}
 use Rattle.format.proofs.HeaderLaws.{is-field, field-at}
 use Rattle.format.proofs.GoalsLaws.{length-goalsAt}
 use Rattle.format.proofs.FieldBytes.{field-bytes, field-lies}
@@ -26,45 +26,8 @@ use Rattle.format.proofs.GoalBytes.{length-goalBytes, goal-values, goal
 
 -- a number whose kind is that of a goal list is the tag 3
 list-tag : (t : ℕ) → goalListKind ≤ kindOf t → kindOf t ≤ goalListKind → t ≡ 3
-unfolding kindOf rowOf rows
-list-tag t l h = found-row (λ k. k ≡ 3) goalListKind goalListKind (omega arith) rows (
-  λ a b. absurd (omega arith),
-  (
-    λ a b. absurd (omega arith),
-    (
-      λ a b. refl,
-      (
-        λ a b. absurd (omega arith),
-        (
-          λ a b. absurd (omega arith),
-          (
-            λ a b. absurd (omega arith),
-            (
-              λ a b. absurd (omega arith),
-              (
-                λ a b. absurd (omega arith),
-                (
-                  λ a b. absurd (omega arith),
-                  (
-                    λ a b. absurd (omega arith),
-                    (
-                      λ a b. absurd (omega arith),
-                      (
-                        λ a b. absurd (omega arith),
-                        (λ a b. absurd (omega arith), (λ a b. absurd (omega arith), tt)),
-                      ),
-                    ),
-                  ),
-                ),
-              ),
-            ),
-          ),
-        ),
-      ),
-    ),
-  ),
-)
-    t l h
+unfolding rows tagsBetween
+list-tag = found-tag (λ k. k ≡ 3) goalListKind goalListKind (omega arith) (refl & no-more)
 
 -- what is known of a goal list that was read
 pub record GoalsStand (s : List ℕ) (at end : ℕ) (g : ParsedGoals) : Type 0 where

@@ -23,7 +23,7 @@ use Rattle.format.specs.Goals.{goalsAt}
 use Rattle.format.specs.Standing.{Head}
 use Rattle.format.specs.Shapes.{headerShape, termShape}
 use Rattle.format.proofs.ResultLaws.{and-gives, kept, same-value, told-refused, told-gives}
-use Rattle.format.proofs.TermTags.{found-row}
+use Rattle.format.proofs.TermTags.{tagsBetween, no-more, _&_, found-tag}
 use Rattle.format.proofs.HeaderLaws.{IsField, is-field}
 use Rattle.format.proofs.GoalsLaws.{length-goalsAt}
 use Rattle.format.proofs.ReadLaw.{Law, read-gives}
@@ -40,45 +40,8 @@ pub data TableTag : ℕ → Type 0 where
   a-definition : TableTag 2
 
 pub table-tag : (t : ℕ) → ruleKind ≤ kindOf t → kindOf t ≤ definitionKind → TableTag t
-unfolding kindOf rowOf rows
-table-tag t l h = found-row TableTag ruleKind definitionKind (omega arith) rows (
-  λ a b. a-rule,
-  (
-    λ a b. a-definition,
-    (
-      λ a b. absurd (omega arith),
-      (
-        λ a b. absurd (omega arith),
-        (
-          λ a b. absurd (omega arith),
-          (
-            λ a b. absurd (omega arith),
-            (
-              λ a b. absurd (omega arith),
-              (
-                λ a b. absurd (omega arith),
-                (
-                  λ a b. absurd (omega arith),
-                  (
-                    λ a b. absurd (omega arith),
-                    (
-                      λ a b. absurd (omega arith),
-                      (
-                        λ a b. absurd (omega arith),
-                        (λ a b. absurd (omega arith), (λ a b. absurd (omega arith), tt)),
-                      ),
-                    ),
-                  ),
-                ),
-              ),
-            ),
-          ),
-        ),
-      ),
-    ),
-  ),
-)
-    t l h
+unfolding rows tagsBetween
+table-tag = found-tag TableTag ruleKind definitionKind (omega arith) (a-rule & a-definition & no-more)
 
 -- what may stand where: a rule only before the first definition
 pub lowest-least : (d : ℕ) → ruleKind ≤ lowest d
