@@ -183,18 +183,7 @@ module _ (job : List ℕ) (term : ℕ) (w : List ℕ) (s : State) (m : s .mode �
   same-place j st = omega (arith, q .term-is, st .goals-stand .head .length-is, q .job-stands .goals-stand .head .length-is)
 
   pub file-given : (o : List ℕ) → term + s .out + 3 + s .count * 2 ≤ length o → FileGiven job term w s o
-  file-given o h = record {
-    mode-is = m;
-    few-steps = q .few-steps;
-    space = q .space;
-    the-job = q .the-job;
-    job-stands = q .job-stands;
-    term-is = q .term-is;
-    table = q .table;
-    control = q .control;
-    shows = q .shows;
-    fits = h;
-  }
+  file-given o h = record { mode-is = m; finish = q; fits = h }
 
   module _ (o : List ℕ) (r : Answer) where
     abbrev total : ℕ
@@ -218,18 +207,6 @@ write-end job term w s o q jb wb inside v₁ v₂ v₃ v e₁ e₂ e₃ e₄ tab
     subst (λ (i : ℕ). i + s .out + 3 + s .count * 2 ≤ length o → v₁ ≡ paste o 0 (drop 0 job) i → v₂ ≡ paste v₁ i (drop 0 w) (s .out) → v₃ ≡ putHeader v₂ (i + s .out) 3 (s .count * 2)
     → v ≡ paste v₃ (i + s .out + 3) (drop (s .start) w) (s .count * 2) → v ≡ proofBytes (record { goals = j .goals; term = p; remaining = g }) ++ drop (i + s .out + 3 + s .count * 2) o) place
     (λ f. file-written job w s table j p g a o jb wb st inside f v₁ v₂ v₃ v) (q .fits) e₁ e₂ e₃ e₄
-
-pub file-finish : (job : List ℕ) (term : ℕ) (w : List ℕ) (s : State) (o : List ℕ) → FileGiven job term w s o → FinishGiven job term w s
-file-finish job term w s o q = record {
-  few-steps = q .few-steps;
-  space = q .space;
-  the-job = q .the-job;
-  job-stands = q .job-stands;
-  term-is = q .term-is;
-  table = q .table;
-  control = q .control;
-  shows = q .shows;
-}
 
 -- the whole job
 module _ (bytes : List ℕ) (first definitions : ℕ) (job : List ℕ) (parts : JobParts) (budget : ℕ) (w : List ℕ) (q : JobGiven bytes first definitions job parts budget w) where

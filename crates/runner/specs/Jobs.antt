@@ -36,24 +36,6 @@ pub record Starts (job : List ℕ) (parts : JobParts) (w v : List ℕ) (r : Stat
   pub no-steps : r .steps ≡ 0
   pub runs : (table : List ℕ) (j : Job) → JobStands job j → jobPartsOf j ≡ parts → Runs table job v r (j .term) (j .goals) []
 
--- the proof file
-pub record FileGiven (job : List ℕ) (term : ℕ) (w : List ℕ) (s : State) (o : List ℕ) : Type 0 where
-  pub mode-is : s .mode ≡ 1
-  pub few-steps : s .steps ≤ mostSteps
-  pub space : spaceEnd ≤ length w
-  pub the-job : Job
-  pub job-stands : JobStands job the-job
-  pub term-is : jobTermPlace the-job ≡ term
-  pub table : List ℕ
-  pub control : M.Control
-  pub shows : Shows table job w s control
-  pub fits : term + s .out + 3 + s .count * 2 ≤ length o
-
-abbrev pub FileWritten : (job : List ℕ) → (term : ℕ) → List ℕ → State → List ℕ → List ℕ → Type 0
-FileWritten job term w s o v =
-    (table : List ℕ) (j : Job) (p : Term) (g : List Goal) → JobStands job j → jobTermPlace j ≡ term → Proved table job w s p g []
-    → v ≡ proofBytes (record { goals = j .goals; term = p; remaining = g }) ++ drop (term + s .out + 3 + s .count * 2) o
-
 -- the end of a run
 pub record FinishGiven (job : List ℕ) (term : ℕ) (w : List ℕ) (s : State) : Type 0 where
   pub few-steps : s .steps ≤ mostSteps
@@ -64,6 +46,17 @@ pub record FinishGiven (job : List ℕ) (term : ℕ) (w : List ℕ) (s : State) 
   pub table : List ℕ
   pub control : M.Control
   pub shows : Shows table job w s control
+
+-- the proof file, at the end of a run that proved, in an output space that is long enough
+pub record FileGiven (job : List ℕ) (term : ℕ) (w : List ℕ) (s : State) (o : List ℕ) : Type 0 where
+  pub mode-is : s .mode ≡ 1
+  pub finish : FinishGiven job term w s
+  pub fits : term + s .out + 3 + s .count * 2 ≤ length o
+
+abbrev pub FileWritten : (job : List ℕ) → (term : ℕ) → List ℕ → State → List ℕ → List ℕ → Type 0
+FileWritten job term w s o v =
+    (table : List ℕ) (j : Job) (p : Term) (g : List Goal) → JobStands job j → jobTermPlace j ≡ term → Proved table job w s p g []
+    → v ≡ proofBytes (record { goals = j .goals; term = p; remaining = g }) ++ drop (term + s .out + 3 + s .count * 2) o
 
 -- the answer and the output space are those of an outcome, whatever the work space was
 pub record Leaves (outcome : Outcome (List ℕ)) (o : List ℕ) (r : Answer) (v : List ℕ) : Type 0 where
