@@ -30,7 +30,7 @@ copy-in-requires-2 c κs =
     let a = c .before .before .before .before .before .before .before .before .before .args in
     let p = c .before .before .before .before .before .before .before .before .before .pre in
     let z = finish-small (a .job .now) (a .term) (a .work .now) (a .s) (p .mode-is) (p .finish) in
-    (omega (arith, z, p .space), omega (arith, p .fits, c .before .before .before .copy-in .kept))
+    (omega (arith, z, p .finish .space), omega (arith, p .fits, c .before .before .before .copy-in .kept))
 
 mul-put-header : tie.Need-mul-put-header
 mul-put-header c =
