@@ -173,18 +173,6 @@ module _ (T : Table) (s : List ℕ) (at : ℕ) (a b : Term) (w : List ℕ) (low 
           kept = kept-both (stacks w) (stacks w₁) (stacks w₂) low (top + share * 2) (low + m * 2) (top + share * 2 + (count - share) * 2) low (top + count * 2) (left .kept) (right .kept) (omega arith) (omega arith) (omega (arith, q .covered)) (omega (arith, q .covered));
         }
 
--- ---- the same of the term that stands there, by its tag
-
-module _ (T : Table) (s : List ℕ) (at : ℕ) (t : Term) (w : List ℕ) (low top count next : ℕ) (q : NodesReady T s at t w low top count next) where
-  abbrev R : Term → Type 0
-  R v = NodesReady T s at v w low top count next
-
-  pub some-sequence : getD s at 0 ≡ 19 → (a : Term) × (b : Term) × R (sequence a b)
-  some-sequence e = by-tag s at (λ v. R v → (a : Term) × (b : Term) × R (sequence a b)) 19 (λ a b x r. (a, b, r)) e t (q .ready .stands) q
-
-  pub some-tensor : getD s at 0 ≡ 20 → (a : Term) × (b : Term) × R (tensor a b)
-  some-tensor e = by-tag s at (λ v. R v → (a : Term) × (b : Term) × R (tensor a b)) 20 (λ a b x r. (a, b, r)) e t (q .ready .stands) q
-
 -- ---- an atomic and an id have one node
 
 module _ (w : List ℕ) (low top count : ℕ) where

@@ -127,7 +127,7 @@ module _ (t : ℕ) where
   walk-sequence-requires : lts.Need-walk-sequence-requires (walk-claims t) (walk-at t) walk.Post
   walk-sequence-requires c κs =
       let i = c .before .before .before .before .before in
-      (omega (arith, entry i .pre .0, behind i), (entry i .pre .1 .0, some-sequence _ _ _ _ _ _ (ready i) (c .before .if4 .taken), entry i .pre .1 .2))
+      (omega (arith, entry i .pre .0, behind i), (entry i .pre .1 .0, some-sequence _ _ (ReadyAt i (place i)) _ (ready i .stands) (ready i) (c .before .if4 .taken), entry i .pre .1 .2))
 
   same-length-3 : lts.Need-same-length-3 (walk-claims t) (walk-at t) walk.Post
   same-length-3 c = c .before .before .walk-sequence .kept .1 .1 .1 .1 .1 .0
@@ -142,7 +142,7 @@ module _ (t : ℕ) where
   walk-tensor-requires : lts.Need-walk-tensor-requires (walk-claims t) (walk-at t) walk.Post
   walk-tensor-requires c κs =
       let i = c .before .before .before .before .before .before in
-      (omega (arith, entry i .pre .0, behind i), (entry i .pre .1 .0, some-tensor _ _ _ _ _ _ (ready i) (c .before .if5 .taken), entry i .pre .1 .2))
+      (omega (arith, entry i .pre .0, behind i), (entry i .pre .1 .0, some-tensor _ _ (ReadyAt i (place i)) _ (ready i .stands) (ready i) (c .before .if5 .taken), entry i .pre .1 .2))
 
   same-length-4 : lts.Need-same-length-4 (walk-claims t) (walk-at t) walk.Post
   same-length-4 c = c .before .before .walk-tensor .kept .1 .1 .1 .1 .1 .0

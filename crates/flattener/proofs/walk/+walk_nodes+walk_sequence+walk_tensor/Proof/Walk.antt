@@ -11,13 +11,13 @@ use Rattle.format.proofs.StandsLaws.{Known, known}
 use Rattle.format.proofs.ByTag.{Case, by-tag}
 use Rattle.tables.specs.Tables.{Table}
 use Rattle.checker.specs.Labels.{bare}
-use Rattle.checker.proofs.ReadyLaws.{named}
+use Rattle.checker.proofs.ReadyLaws.{named, some-sequence, some-tensor}
 use Rattle.checker.proofs.LabelLaws.{bare-tag, bare-behind}
 use Rattle.flattener.specs.declared.walk.Given.{Given}
 use Rattle.flattener.specs.Walks.{NodesReady, NodesWalked}
 use Rattle.flattener.proofs.WalkLaws.{given, rest-walked}
 use Rattle.flattener.proofs.LabelLaws.{bare-nodes-ready, bare-nodes-walked}
-use Rattle.flattener.proofs.PairLaws.{some-sequence, some-tensor, some-atomic, some-id, atomic-ready, id-ready}
+use Rattle.flattener.proofs.PairLaws.{some-atomic, some-id, atomic-ready, id-ready}
 use Rattle.flattener.proofs.walk.walk_nodes.Reads as walk
 use Rattle.flattener.proofs.walk.+walk_nodes+walk_sequence+walk_tensor.Lts-walk_nodes as lts
 use Rattle.flattener.proofs.walk.+walk_nodes+walk_sequence+walk_tensor.Proof.Claims.{walk-at, walk-claims}
@@ -126,7 +126,7 @@ module _ (t : ℕ) where
   walk-sequence-requires : lts.Need-walk-sequence-requires (walk-claims t) (walk-at t) walk.Post
   walk-sequence-requires c κs =
       let i = c .before .before .before .before .before in
-      let o = some-sequence (table (entry i)) _ _ _ _ _ _ _ _ (ready i) (c .before .if3 .taken) in
+      let o = some-sequence _ _ (ReadyAt i (table (entry i)) (place i)) _ (ready i .ready .stands) (ready i) (c .before .if3 .taken) in
       (omega (arith, entry i .pre .0, behind i), (table (entry i), o .0, o .1, entry i .pre .1 .2, o .2))
 
   same-length-3 : lts.Need-same-length-3 (walk-claims t) (walk-at t) walk.Post
@@ -142,7 +142,7 @@ module _ (t : ℕ) where
   walk-tensor-requires : lts.Need-walk-tensor-requires (walk-claims t) (walk-at t) walk.Post
   walk-tensor-requires c κs =
       let i = c .before .before .before .before .before .before in
-      let o = some-tensor (table (entry i)) _ _ _ _ _ _ _ _ (ready i) (c .before .if4 .taken) in
+      let o = some-tensor _ _ (ReadyAt i (table (entry i)) (place i)) _ (ready i .ready .stands) (ready i) (c .before .if4 .taken) in
       (omega (arith, entry i .pre .0, behind i), (table (entry i), o .0, o .1, entry i .pre .1 .2, o .2))
 
   same-length-4 : lts.Need-same-length-4 (walk-claims t) (walk-at t) walk.Post
