@@ -1,4 +1,5 @@
 // The one answer of every entry.
+// Document 01, "What the bytes bring about" and "What the state brings about": number, file, place and steps.
 ghost use mathlib.Core.Path.{_≡_};
 ghost use Prim.Native.Nat.{_≤_};
 ghost use Rattle.answers.specs.Answers as said;

@@ -1,4 +1,5 @@
 // The check program: reads table.kit and proof.hip from the current directory, checks the proof and prints one line.
+// Document 01, "A table and its edges": the check program.
 ghost use mathlib.Core.Path.{_≡_};
 ghost use Rattle.io.specs.Counts.{Counts};
 ghost use Rattle.entries.specs.Check as entry;

@@ -1,3 +1,4 @@
 // The flat-derivation checker: the walk over the entries, and the entry check_flat.
+// Document 01, "Flat derivations": reading back; 27 of "What the state brings about".
 pub mod check;
 pub mod walk;

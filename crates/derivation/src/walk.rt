@@ -10,13 +10,12 @@ ghost use Rattle.tables.specs.Found.{isCarried};
 ghost use Rattle.files.specs.Derivations.{Entry};
 ghost use Rattle.hitac.specs.FlatWalk.{flatWalk};
 ghost use Rattle.derivation.specs.Pending.{pendingIn, EntryInside, carriedGoal, carriesFirst, firstEntry, Given, Ready, walked};
+use files::flats::USE;
 use format::values::goal_at;
 use format::values::rule_name_at;
+use tables::lookup::carries;
 use words::copy_in;
 use words::load16;
-
-// The tag of a use; the other entries are opens.
-pub const USE: u8 = 32;
 
 // Where the walk stopped, and how many goals are pending there.
 pub struct Stop {
@@ -47,13 +46,8 @@ fn is_rule_of(table: &[u8], rule: usize, flat: &[u8], at: usize) -> bool
     ensures { λ r. ⌜ r ≡ isCarried (now (table .entry)) rule (ruleName (word (now (flat .entry)) (at + 3))) (goal (word (now (flat .entry)) (at + 5))) ⌝ }
 {
     let name = rule_name_at(flat, at + 3);
-    let its_name = rule_name_at(table, rule + 3);
-    if name.0 != its_name.0 {
-        return false;
-    }
     let goal = goal_at(flat, at + 5);
-    let its_goal = goal_at(table, rule + 5);
-    goal.0 == its_goal.0
+    carries(table, rule, name, goal)
 }
 
 // Walks over the entries of a flat file, behind its roots. The place is that of the first entry that does not apply, or the file's length.

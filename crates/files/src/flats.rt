@@ -11,7 +11,7 @@ use format::reader::next_field;
 use format::tags::ENTRY;
 
 // The tag of a use; the other entries are opens.
-const USE: u8 = 32;
+pub const USE: u8 = 32;
 
 const MOST_USES: usize = 4096;
 

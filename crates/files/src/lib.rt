@@ -1,4 +1,5 @@
 // Proof, job and flat files.
+// Document 01, "Fields": the proof, job and flat files; "What the bytes bring about": 1 to 5.
 pub mod flats;
 pub mod jobs;
 pub mod proofs;

@@ -1,4 +1,5 @@
 // The terms that wait, as frames of 14 bytes in work space, and headers of fields there.
+// Document 01, "Running a tactic": what waits while a term is run.
 ghost use mathlib.Core.Path.{_≡_};
 ghost use Prim.Native.Nat.{_+_, _<_};
 ghost use lib.ListN.{length};

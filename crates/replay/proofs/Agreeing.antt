@@ -1,4 +1,5 @@
 -- What a comparison that ends in true has shown.
+-- Assumes nothing.
 use mathlib.Core.Path.{_≡_}
 use mathlib.Core.Bool.{true, false}
 use Prim.Native.Nat.{ℕ}

@@ -1,4 +1,5 @@
 -- Counts that stay within bounds.
+-- Assumes nothing.
 use Prim.Native.Nat.{ℕ, _+_, _≤_}
 use native.Mathlib.Omega.{arith}
 use Rattle.replay.specs.declared.tally.Tally.{Tally}

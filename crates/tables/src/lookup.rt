@@ -26,7 +26,7 @@ pub enum BodyFound {
 }
 
 // Whether the rule at a place has that name and that goal.
-fn carries(table: &[u8], at: usize, name: RuleName, goal: Goal) -> bool
+pub fn carries(table: &[u8], at: usize, name: RuleName, goal: Goal) -> bool
     requires { ⌜ at + 7 ≤ length (now table) ⌝ }
     ensures { λ r. ⌜ r ≡ isCarried (now (table .entry)) at name goal ⌝ }
 {

@@ -8,7 +8,7 @@ ghost use Rattle.format.specs.Goals.{goalsAt};
 ghost use Rattle.format.specs.Encoding.{goalBytes, goalListBytes};
 ghost use Rattle.writer.specs.Leaves.{Rest, leavesOf};
 use crate::fields::write_header;
-use derivation::walk::USE;
+use files::flats::USE;
 use words::load16;
 use words::store16;
 

@@ -12,7 +12,7 @@ ghost use Rattle.writer.specs.Fields.{header};
 ghost use Rattle.writer.specs.Trees.{Trees, Ready, Done, termOf};
 use crate::fields::write_atomic;
 use crate::fields::write_header;
-use derivation::walk::USE;
+use files::flats::USE;
 use format::values::goal_at;
 use format::values::rule_name_at;
 use tables::lookup::RuleFound;
