@@ -7,10 +7,6 @@ use second::vectors;
 use std::fmt::Write;
 use std::path::Path;
 
-/// Only so many differences are written as files; the rest is counted. A library
-/// that is wrong everywhere must not fill the disk.
-pub const MOST_RECORDS: u64 = 20;
-
 /// Writes both files and says where they are and how to replay the case.
 pub fn write(directory: &Path, name: &str, case: &Case, differences: &[String]) -> Result<String, String> {
     let vector = directory.join(format!("{name}.vec"));

@@ -10,6 +10,9 @@ use second::generate::case::{Case, Entry};
 use second::Answer;
 use std::path::{Path, PathBuf};
 
+/// Only so many differences of a line are written as files; the rest is counted.
+const MOST_RECORDS: u64 = 20;
+
 pub struct Inspector {
     calls: Calls,
     line: u32,
@@ -93,7 +96,7 @@ impl Inspector {
 
     fn report(&mut self, case: &Case, differences: &[String]) {
         self.differences += 1;
-        if self.differences > record::MOST_RECORDS {
+        if self.differences > MOST_RECORDS {
             return;
         }
         let name = format!("checklist-line-{}-call-{}", self.line, self.tally.cases);

@@ -170,11 +170,9 @@ impl Shared<'_> {
     }
 
     fn report(&self, number: u64, case: &Case, comparison: &Comparison) -> Result<(), String> {
-        let so_far = self.differences.fetch_add(1, Relaxed);
-        if so_far < record::MOST_RECORDS {
-            let name = record_name(self.job, number);
-            print!("difference in {}", record::write(&self.job.differences, &name, case, &comparison.differences)?);
-        }
+        self.differences.fetch_add(1, Relaxed);
+        let name = record_name(self.job, number);
+        print!("difference in {}", record::write(&self.job.differences, &name, case, &comparison.differences)?);
         Ok(())
     }
 

@@ -13,9 +13,10 @@ use Rattle.format.proofs.GoalsLaws.{length-goalsAt}
 use Rattle.tables.specs.Tables.{Table}
 use Rattle.files.specs.Proofs.{Proof, readProof, termPlace}
 use Rattle.files.specs.Shapes.{partsOf}
+use Rattle.hitac.specs.Premises.{Finds}
 use Rattle.hitac.specs.Hiproofs.{atomics}
 use Rattle.hitac.specs.Walk.{walk}
-use Rattle.hitac.proofs.WalkValidates.{Finds, finds-agrees, walk→validates}
+use Rattle.hitac.proofs.WalkValidates.{finds-agrees, walk→validates}
 use Rattle.hitac.proofs.Nodes.{Cell, openCell, range, nodeWalk}
 use Rattle.checker.specs.Arities.{AritiesNoted}
 use Rattle.checker.proofs.ArityLaws.{arities-kept}

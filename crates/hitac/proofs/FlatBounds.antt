@@ -15,7 +15,7 @@ use Rattle.tables.specs.Lookup.{FoundRule, findRule}
 use Rattle.tables.proofs.RuleLookup.{found-member}
 use Rattle.files.specs.Derivations.{Entry, useEntry, openEntry}
 use Rattle.hitac.specs.Hiproofs.{inputArity, atomics}
-use Rattle.hitac.specs.Premises.{FewPremises}
+use Rattle.hitac.specs.Premises.{Finds, FewPremises}
 use Rattle.hitac.specs.Validates.{System}
 use Rattle.hitac.specs.Walk.{walk}
 use Rattle.hitac.specs.Forest.{entries, leaves, forest, premisesIn, premisesOf}
@@ -23,7 +23,7 @@ use Rattle.hitac.specs.FlatWalk.{flatWalk}
 use Rattle.hitac.specs.Derives.{Derives, D-End, D-Open, D-Use}
 use Rattle.hitac.specs.FirstWrong.{entriesSize}
 use Rattle.hitac.specs.Counts.{uses, everyUse}
-use Rattle.hitac.proofs.WalkValidates.{Finds, finds-agrees}
+use Rattle.hitac.proofs.WalkValidates.{finds-agrees}
 use Rattle.hitac.proofs.Substitution.{uses-append}
 use Rattle.hitac.proofs.FlatWalks.{flatWalk→derives}
 use Rattle.hitac.proofs.Flatten.{forest-leaves, forest-all-uses}

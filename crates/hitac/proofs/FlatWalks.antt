@@ -14,13 +14,14 @@ use Rattle.tables.specs.Tables.{Table, HasRule, UniqueRules}
 use Rattle.tables.specs.Lookup.{findRule, sameGoal}
 use Rattle.tables.proofs.RuleLookup.{same-goal}
 use Rattle.files.specs.Derivations.{Entry, useEntry, openEntry}
+use Rattle.hitac.specs.Premises.{Finds}
 use Rattle.hitac.specs.Validates.{System}
 use Rattle.hitac.specs.Walk.{premisesOr}
 use Rattle.hitac.specs.FlatWalk.{flatWalk}
 use Rattle.hitac.specs.Derives.{Derives, D-End, D-Open, D-Use}
 use Rattle.hitac.specs.FirstWrong.{Unfit, U-Nothing-Pending, U-Open-Other, U-Use-Other, U-Use-Rule, entriesSize, FirstWrong, U-First}
 use Rattle.hitac.proofs.ResultLaws.{refused-gives, gives-refused, gives-gives, refused-cause, refused-place, andThen-gives, andThen-refused, premises-give, premises-refused}
-use Rattle.hitac.proofs.WalkValidates.{Agrees, Finds, finds-agrees, rules-agree, no-rule→missing, missing→no-rule}
+use Rattle.hitac.proofs.WalkValidates.{Agrees, finds-agrees, rules-agree, no-rule→missing, missing→no-rule}
 
 -- the test of the goal, which goes on where it holds
 goal-gives : {r : Result (List Goal)} (p : ℕ) {k : List Goal} (b : Bool) → cond b r (refused entryWrong p) ≡ gives k → (b ≡ true) × (r ≡ gives k)

@@ -9,6 +9,7 @@ use Rattle.format.specs.Results.{gives}
 use Rattle.format.specs.Terms.{Term}
 use Rattle.tables.specs.Tables.{Table}
 use Rattle.files.specs.Derivations.{Entry}
+use Rattle.hitac.specs.Premises.{Finds}
 use Rattle.hitac.specs.Hiproofs.{atomics, dropLabels}
 use Rattle.hitac.specs.Walk.{walk}
 use Rattle.hitac.specs.Forest.{entries, leaves, forest}
@@ -16,7 +17,7 @@ use Rattle.hitac.specs.FlatWalk.{flatWalk}
 use Rattle.hitac.specs.FirstWrong.{entriesSize}
 use Rattle.hitac.specs.Counts.{uses, thisUse, everyUse, taken}
 use Rattle.hitac.proofs.DroppedLabels.{unlabelled}
-use Rattle.hitac.proofs.WalkValidates.{Finds, finds-agrees, validates→walk, walk→validates}
+use Rattle.hitac.proofs.WalkValidates.{finds-agrees, validates→walk, walk→validates}
 use Rattle.hitac.proofs.DerivesLaws.{derives-more, trees-derive}
 use Rattle.hitac.proofs.FlatWalks.{derives→flatWalk, derives→gives}
 use Rattle.hitac.proofs.ForestLaws.{Takes, forest-of, one-for-one, taken-all, unlabelled-forest}

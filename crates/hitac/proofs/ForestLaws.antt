@@ -11,6 +11,7 @@ use Rattle.format.specs.declared.values.Goal.{Goal}
 use Rattle.format.specs.Terms.{Term, tensor}
 use Rattle.tables.specs.Tables.{Table}
 use Rattle.files.specs.Derivations.{openEntry}
+use Rattle.hitac.specs.Premises.{Finds}
 use Rattle.hitac.specs.Hiproofs.{inputArity, atomics, dropLabels}
 use Rattle.hitac.specs.Validates.{AtMost256, Validates, V-Atomic, V-Identity, V-Label, V-Sequence, V-Tensor, V-Empty}
 use Rattle.hitac.specs.Derives.{D-End, D-Open, D-Use}
@@ -18,7 +19,7 @@ use Rattle.hitac.specs.Forest.{entries, leaves, forest}
 use Rattle.hitac.specs.Counts.{uses, everyUse, taken}
 use Rattle.hitac.proofs.ValidatesLaws.{arity-of}
 use Rattle.hitac.proofs.DroppedLabels.{unlabelled}
-use Rattle.hitac.proofs.WalkValidates.{Finds, finds-agrees, validates→walk}
+use Rattle.hitac.proofs.WalkValidates.{finds-agrees, validates→walk}
 use Rattle.hitac.proofs.Substitution.{leaves-append, entries-append, uses-append, entries-substitute, leaves-substitute-all, uses-substitute, leaves-opens, uses-opens}
 use Rattle.hitac.proofs.DerivesLaws.{Trees, Trees-None, Trees-More, trees-append, trees-length, substitute-trees, opens-derive}
 

@@ -12,12 +12,13 @@ use Rattle.format.specs.declared.values.Goal.{Goal}
 use Rattle.format.specs.Terms.{Term}
 use Rattle.tables.specs.Tables.{Table, HasRule, UniqueRules}
 use Rattle.files.specs.Derivations.{Entry, useEntry, openEntry}
+use Rattle.hitac.specs.Premises.{Finds}
 use Rattle.hitac.specs.Hiproofs.{inputArity}
 use Rattle.hitac.specs.Validates.{System, AtMost256, Validates, V-Atomic, V-Identity, V-Label, V-Sequence, V-Tensor, V-Empty}
 use Rattle.hitac.specs.Forest.{Tree, entries, leaves, substitute, substituteForest, forest}
 use Rattle.hitac.specs.Flattens.{InTree, T-End, T-Use, T-Open, InForest, T-None, T-Tree, Flattens, F-Identity, F-Atomic, F-Label, F-Sequence, F-Tensor, F-Empty}
 use Rattle.hitac.proofs.ValidatesLaws.{map-system}
-use Rattle.hitac.proofs.WalkValidates.{Finds, rules-agree}
+use Rattle.hitac.proofs.WalkValidates.{rules-agree}
 use Rattle.hitac.proofs.Substitution.{leaves-append, leaves-count, entries-append, substitute-front, leaves-substitute-all, entries-substitute, leaves-opens}
 use Rattle.hitac.proofs.DerivesLaws.{trees-length}
 use Rattle.hitac.proofs.ForestLaws.{Takes, forest-of, forest-tensor}

@@ -15,12 +15,13 @@ use Rattle.format.specs.Results.{gives}
 use Rattle.format.specs.Terms.{Term, atomic, sequence, tensor}
 use Rattle.tables.specs.Tables.{Table}
 use Rattle.files.specs.Derivations.{Entry, useEntry, openEntry}
+use Rattle.hitac.specs.Premises.{Finds}
 use Rattle.hitac.specs.Hiproofs.{inputArity}
 use Rattle.hitac.specs.Validates.{V-Atomic, V-Identity, V-Label, V-Sequence, V-Tensor, V-Empty}
 use Rattle.hitac.specs.Walk.{walk}
 use Rattle.hitac.specs.Forest.{Tree, entries, substituteForest, forest}
 use Rattle.hitac.proofs.ValidatesLaws.{arity-of}
-use Rattle.hitac.proofs.WalkValidates.{Finds, finds-agrees, walk→validates}
+use Rattle.hitac.proofs.WalkValidates.{finds-agrees, walk→validates}
 use Rattle.hitac.proofs.Substitution.{substitute-opens, substituteForest-assoc, substituteForest-append, substitute-openTrees, openTrees}
 use Rattle.hitac.proofs.DerivesLaws.{trees-length}
 use Rattle.hitac.proofs.ForestLaws.{Takes, forest-of, forest-tensor}

@@ -11,12 +11,13 @@ use Rattle.format.specs.Results.{refused}
 use Rattle.format.specs.Terms.{Term, size, Hiproof}
 use Rattle.tables.specs.Tables.{Table}
 use Rattle.files.specs.Derivations.{Entry, useEntry, openEntry}
+use Rattle.hitac.specs.Premises.{Finds}
 use Rattle.hitac.specs.Validates.{System}
 use Rattle.hitac.specs.Walk.{walk}
 use Rattle.hitac.specs.FlatWalk.{flatWalk}
 use Rattle.hitac.specs.Stops.{Stops, S-Atomic-Goals, S-Atomic-Rule, S-Identity-Goals, S-Empty-Goals, S-Label-Goals, S-Label-Inner, S-Sequence-Left, S-Sequence-Right, S-Tensor-Goals, S-Tensor-Left, S-Tensor-Right, S-Tensor-Joined}
 use Rattle.hitac.specs.FirstWrong.{entriesSize, FirstWrong, U-First}
-use Rattle.hitac.proofs.WalkValidates.{Finds, finds-agrees}
+use Rattle.hitac.proofs.WalkValidates.{finds-agrees}
 use Rattle.hitac.proofs.WalkStops.{walk→stops}
 use Rattle.hitac.proofs.FlatWalks.{flatWalk→firstWrong}
 

@@ -10,9 +10,9 @@ use Rattle.format.specs.declared.values.Goal.{Goal}
 use Rattle.format.specs.Terms.{Term, id}
 use Rattle.tables.specs.Tables.{Table}
 use Rattle.files.specs.Derivations.{Entry}
+use Rattle.hitac.specs.Premises.{Finds}
 use Rattle.hitac.specs.Derives.{Derives, D-End, D-Open, D-Use}
 use Rattle.hitac.specs.Write.{treeTerms}
-use Rattle.hitac.proofs.WalkValidates.{Finds}
 
 pub treeTerms-length : (T : Table) {g : List Goal} {es : List Entry} → Derives (Finds T) g es [] → length (treeTerms T es) ≡ length g
 unfolding treeTerms

@@ -21,12 +21,12 @@ use Rattle.tables.specs.Tables.{Table}
 use Rattle.tables.specs.Lookup.{findRule}
 use Rattle.tables.proofs.RuleLookup.{found-member}
 use Rattle.hitac.specs.Hiproofs.{inputArity, atomics}
-use Rattle.hitac.specs.Premises.{FewPremises}
+use Rattle.hitac.specs.Premises.{Finds, FewPremises}
 use Rattle.hitac.specs.Validates.{System, Validates, V-Atomic, V-Identity, V-Label, V-Sequence, V-Tensor, V-Empty}
 use Rattle.hitac.specs.Walk.{walk}
 use Rattle.hitac.proofs.ResultLaws.{refused-gives, gives-refused, gives-gives, refused-place, andThen-refused, test-refused, premises-refused}
 use Rattle.hitac.proofs.ValidatesLaws.{validates-length}
-use Rattle.hitac.proofs.WalkValidates.{Finds, finds-agrees, walk→validates}
+use Rattle.hitac.proofs.WalkValidates.{finds-agrees, walk→validates}
 use Rattle.hitac.proofs.Stacks.{Stacks, held, settled, takeOneGoal, takeNoGoal, stacks, stacks-walk}
 
 -- a system whose rules have at most 8 premises, as `FewPremises` says of a table

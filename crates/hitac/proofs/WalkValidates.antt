@@ -20,6 +20,7 @@ use Rattle.tables.specs.Lookup.{FoundRule, foundRule, findRule}
 use Rattle.tables.proofs.RuleLookup.{found↔rule}
 use Rattle.hitac.specs.Hiproofs.{inputArity}
 use Rattle.hitac.specs.Validates.{System, AtMost256, Validates, V-Atomic, V-Identity, V-Label, V-Sequence, V-Tensor, V-Empty}
+use Rattle.hitac.specs.Premises.{Finds}
 use Rattle.hitac.specs.Walk.{walk, onOneGoal, onNoGoal, joined}
 use Rattle.hitac.proofs.ResultLaws.{refused-gives, gives-gives, andThen-gives, andThen-passes, test-gives, premises-found, premises-give, one-goal-gives, no-goal-gives, joined-fits, joined-gives}
 use Rattle.hitac.proofs.ValidatesLaws.{arity-of}
@@ -28,10 +29,7 @@ use Rattle.hitac.proofs.ValidatesLaws.{arity-of}
 abbrev pub Agrees : Table → System → Type 0
 Agrees T S = (a : RuleName) (γ : Goal) (h : List Goal) → (findRule T a γ ≡ some (foundRule h)) ↔ S a γ h
 
--- The system of the look-up itself: for theorems that need no unique rules.
-abbrev pub Finds : Table → System
-Finds T a γ h = findRule T a γ ≡ some (foundRule h)
-
+-- The look-up itself: for theorems that need no unique rules.
 pub finds-agrees : (T : Table) → Agrees T (Finds T)
 finds-agrees T a γ h = Iff·rfl
 

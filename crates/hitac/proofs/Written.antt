@@ -11,6 +11,7 @@ use Rattle.format.specs.Results.{gives}
 use Rattle.format.specs.Terms.{Term, atomic, id, sequence, fields, size}
 use Rattle.tables.specs.Tables.{Table}
 use Rattle.files.specs.Derivations.{Entry, useEntry, openEntry}
+use Rattle.hitac.specs.Premises.{Finds}
 use Rattle.hitac.specs.Validates.{V-Atomic, V-Identity, V-Sequence, V-Tensor, V-Empty}
 use Rattle.hitac.specs.Walk.{walk}
 use Rattle.hitac.specs.Forest.{Tree, entries, leaves, forest}
@@ -18,7 +19,7 @@ use Rattle.hitac.specs.FlatWalk.{flatWalk}
 use Rattle.hitac.specs.Derives.{Derives, D-End, D-Open, D-Use}
 use Rattle.hitac.specs.Counts.{uses, everyUse}
 use Rattle.hitac.specs.Write.{forestTerm, useTerm, useAndOthers, treeTerms, written}
-use Rattle.hitac.proofs.WalkValidates.{Finds, finds-agrees, validates→walk}
+use Rattle.hitac.proofs.WalkValidates.{finds-agrees, validates→walk}
 use Rattle.hitac.proofs.Substitution.{leaves-append, leaves-count, uses-append, leaves-opens, substitute-opens}
 use Rattle.hitac.proofs.DerivesLaws.{trees-length}
 use Rattle.hitac.proofs.ForestLaws.{Takes, forest-of, forest-tensor}

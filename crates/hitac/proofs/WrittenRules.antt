@@ -12,11 +12,12 @@ use Rattle.format.specs.declared.values.Goal.{Goal}
 use Rattle.format.specs.Terms.{Term, atomic, id, sequence, tensor}
 use Rattle.tables.specs.Tables.{Table, HasRule, UniqueRules}
 use Rattle.files.specs.Derivations.{Entry, useEntry, openEntry}
+use Rattle.hitac.specs.Premises.{Finds}
 use Rattle.hitac.specs.Validates.{System}
 use Rattle.hitac.specs.Derives.{Derives, D-End, D-Open, D-Use}
 use Rattle.hitac.specs.Write.{forestTerm, useTerm, useAndOthers, treeTerms, written}
 use Rattle.hitac.specs.Writes.{WritesForest, W-None, W-One, W-More, WritesTrees, W-End, W-Open, W-Atomic, W-Sequence, Writes, W-Proof}
-use Rattle.hitac.proofs.WalkValidates.{Finds, rules-agree}
+use Rattle.hitac.proofs.WalkValidates.{rules-agree}
 use Rattle.hitac.proofs.DerivesLaws.{derives-map, derives-append, derives-more}
 use Rattle.hitac.proofs.TreeTermLaws.{treeTerms-length, treeTerms-append}
 

@@ -1,10 +1,18 @@
--- Document 01, "Fields": how many premises a rule has.
+-- Document 01, "Fields" and "Checking a hiproof": the rules of a table as a system, by look-up, and how many premises a rule has.
 use Prim.Native.Nat.{_≤_}
+use mathlib.Core.Path.{_≡_}
+use mathlib.Core.Option.{some}
 use mathlib.Core.List.{List}
 use lib.ListN.{length}
 use Rattle.format.specs.declared.values.RuleName.{RuleName}
 use Rattle.format.specs.declared.values.Goal.{Goal}
 use Rattle.tables.specs.Tables.{Table, HasRule}
+use Rattle.tables.specs.Lookup.{foundRule, findRule}
+use Rattle.hitac.specs.Validates.{System}
+
+-- the rules that the look-up finds
+abbrev pub Finds : Table → System
+Finds T a γ h = findRule T a γ ≡ some (foundRule h)
 
 -- "rule: name, goal, then 0 to 8 premise goals"
 abbrev pub FewPremises : Table → Type 0

@@ -166,17 +166,32 @@ fn call_agrees(case: Case, table: &[u8], other: &[u8], work: &mut [u8], out: &mu
     write_agrees(table, other, work, out, told, digest)
 }
 
+// The call of a case in an output space of which it lends a part, unless it lends more than there is.
+fn call_in(case: Case, table: &[u8], other: &[u8], work: &mut [u8], out: &mut [u8]) -> Verdict {
+    let room = case.room;
+    if out.len() < room {
+        return Verdict::Skipped;
+    }
+    compared(call_agrees(case, table, other, work, &mut out[..room]))
+}
+
+// The same in an array, which comes by reference so that its length is known from its type.
+fn call_in_array(
+    case: Case,
+    table: &[u8],
+    other: &[u8],
+    work: &mut [u8],
+    out: &mut [u8; ROOM],
+) -> Verdict {
+    call_in(case, table, other, work, out)
+}
+
 // The call of a case, unless it lends more than there is.
 pub fn replay_call(case: Case, table: &[u8], other: &[u8], work: &mut [u8]) -> Verdict {
     let lent = case.lent;
-    let room = case.room;
     if work.len() < lent {
         return Verdict::Skipped;
     }
-    if ROOM < room {
-        return Verdict::Skipped;
-    }
     let mut out = [0u8; ROOM];
-    let agrees = call_agrees(case, table, other, &mut work[..lent], &mut out[..room]);
-    compared(agrees)
+    call_in_array(case, table, other, &mut work[..lent], &mut out)
 }

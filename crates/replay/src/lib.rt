@@ -52,32 +52,44 @@ fn print_tally(name: &[u8], tally: Tally) {
     io::write_all(STDOUT_FILENO, b"\n");
 }
 
-// Replays a vector file, and prints its line.
-fn replay_in(name: &[u8], vectors: &mut [u8], work: &mut [u8]) -> u64
+// Replays a vector file of the current directory, prints its line, and gives the differences. A file that cannot be opened is damaged.
+fn replay_in(
+    name: &[u8],
+    vectors: &mut [u8],
+    table: &mut [u8],
+    other: &mut [u8],
+    work: &mut [u8],
+) -> u64
     ensures { λ r. ⌜ r ≤ 1000001 ⌝ }
 {
-    let mut table = [0u8; SPACE];
-    let mut other = [0u8; SPACE];
     let n = load(name, vectors);
-    let tally = replay(name, &vectors[..n], &mut table, &mut other, work);
+    let tally = replay(name, &vectors[..n], table, other, work);
     print_tally(name, tally);
     tally.differences
 }
 
 // The same in arrays, which come by reference so that their lengths are known from their types: the prover could hardly count so many bytes.
-fn replay_in_arrays(name: &[u8], vectors: &mut [u8; VECTORS], work: &mut [u8; WORK]) -> u64
+fn replay_in_arrays(
+    name: &[u8],
+    vectors: &mut [u8; VECTORS],
+    table: &mut [u8; SPACE],
+    other: &mut [u8; SPACE],
+    work: &mut [u8; WORK],
+) -> u64
     ensures { λ r. ⌜ r ≤ 1000001 ⌝ }
 {
-    replay_in(name, vectors, work)
+    replay_in(name, vectors, table, other, work)
 }
 
-// Replays a vector file of the current directory, and gives the differences. A file that cannot be opened is damaged.
+// The same in arrays of its own.
 fn replay_file(name: &[u8]) -> u64
     ensures { λ r. ⌜ r ≤ 1000001 ⌝ }
 {
     let mut vectors = [0u8; VECTORS];
+    let mut table = [0u8; SPACE];
+    let mut other = [0u8; SPACE];
     let mut work = [0u8; WORK];
-    replay_in_arrays(name, &mut vectors, &mut work)
+    replay_in_arrays(name, &mut vectors, &mut table, &mut other, &mut work)
 }
 
 // The whole program.

@@ -17,12 +17,13 @@ use Rattle.files.specs.Proofs.{proofBytes}
 use Rattle.files.specs.Derivations.{Entry, entriesPlace}
 use Rattle.files.specs.Standing.{EntriesStand}
 use Rattle.files.proofs.Files.{length-goalListBytes}
+use Rattle.hitac.specs.Premises.{Finds}
 use Rattle.hitac.specs.Forest.{leaves}
 use Rattle.hitac.specs.Write.{written}
 use Rattle.hitac.proofs.WalkValidates.{finds-agrees}
 use Rattle.hitac.proofs.FlatWalks.{flatWalk→derives}
 use Rattle.entries.specs.CheckFlat.{writtenProof}
-use Rattle.writer.specs.Trees.{Found, Trees, Ready, Done}
+use Rattle.writer.specs.Trees.{Trees, Ready, Done}
 use Rattle.writer.specs.Leaves.{Rest}
 use Rattle.writer.specs.Right.{Right, proofOf}
 use Rattle.writer.proofs.Lent.{placed, put-placed}
@@ -64,7 +65,7 @@ module _ {file : List ℕ} {rules : ℕ} {s : List ℕ} {n : ℕ} (d : Right fil
         entries = entriesOf;
         end = length s;
         stand = stand;
-        right = flatWalk→derives (d .table) (Found (d .table)) (finds-agrees (d .table)) (entriesPlace (d .derivation)) (d .derivation .roots) entriesOf (d .right);
+        right = flatWalk→derives (d .table) (Finds (d .table)) (finds-agrees (d .table)) (entriesPlace (d .derivation)) (d .derivation .roots) entriesOf (d .right);
       }
 
   pub forest-ready : (room : ℕ) → size term ≤ room → Ready file rules s (3 + n * 2) n room

@@ -17,15 +17,16 @@ use Rattle.files.specs.Derivations.{Entry, useEntry, openEntry}
 use Rattle.files.specs.Standing.{EntriesStand}
 use Rattle.files.proofs.EntryBytes.{entries-end}
 use Rattle.files.proofs.EntriesStanding.{stand-apart}
+use Rattle.hitac.specs.Premises.{Finds}
 use Rattle.hitac.specs.Forest.{premisesOf}
 use Rattle.hitac.specs.Derives.{Derives, D-End, D-Open, D-Use}
 use Rattle.hitac.specs.Write.{forestTerm, useTerm, treeTerms, written}
 use Rattle.hitac.proofs.DerivesLaws.{Parted, parted}
 use Rattle.hitac.proofs.TreeTermLaws.{treeTerms-append, treeTerms-length}
-use Rattle.writer.specs.Trees.{Found, Trees, termOf}
+use Rattle.writer.specs.Trees.{Trees, termOf}
 
 -- no pending goals, no entries
-no-entries : (T : Table) {g : List Goal} {es : List Entry} → Derives (Found T) g es [] → length g ≡ 0 → es ≡ []
+no-entries : (T : Table) {g : List Goal} {es : List Entry} → Derives (Finds T) g es [] → length g ≡ 0 → es ≡ []
 no-entries T D-End z = refl
 no-entries T (D-Open d) z = absurd (omega arith)
 no-entries T (D-Use e d) z = absurd (omega arith)
@@ -41,8 +42,8 @@ stand-ahead s es at end st = omega (arith, entries-end s es at end st)
 -- one tree: an open leaf, or a use and its premises' trees
 data OneTree (T : Table) (s : List ℕ) (at end : ℕ) : List Entry → Type 0 where
   open-tree : {γ : Goal} → Head s at 33 2 → end ≡ at + 5 → OneTree T s at end (openEntry γ ∷ [])
-  use-tree : {a : RuleName} {γ : Goal} {h : List Goal} {es : List Entry} → Head s at 32 4 → word s (at + 3) ≡ a .0 → word s (at + 5) ≡ γ .0 → Found T a γ h
-      → EntriesStand s (at + 7) end es → Derives (Found T) h es [] → OneTree T s at end (useEntry a γ ∷ es)
+  use-tree : {a : RuleName} {γ : Goal} {h : List Goal} {es : List Entry} → Head s at 32 4 → word s (at + 3) ≡ a .0 → word s (at + 5) ≡ γ .0 → Finds T a γ h
+      → EntriesStand s (at + 7) end es → Derives (Finds T) h es [] → OneTree T s at end (useEntry a γ ∷ es)
 
 last-open : (T : Table) (s : List ℕ) (at end : ℕ) (γ : Goal) (es : List Entry) → es ≡ [] → Head s at 33 2 → EntriesStand s (at + 5) end es → OneTree T s at end (openEntry γ ∷ es)
 unfolding EntriesStand
@@ -50,17 +51,17 @@ last-open T s at end γ es e h st =
     let at-end : at + 5 ≡ end = subst (λ (r : List Entry). EntriesStand s (at + 5) end r) e st in
     subst (λ (r : List Entry). OneTree T s at end (openEntry γ ∷ r)) (sym e) (open-tree h (sym at-end))
 
-one-tree : (T : Table) (s : List ℕ) (at end : ℕ) {g : List Goal} {es : List Entry} → EntriesStand s at end es → Derives (Found T) g es [] → length g ≡ 1 → OneTree T s at end es
+one-tree : (T : Table) (s : List ℕ) (at end : ℕ) {g : List Goal} {es : List Entry} → EntriesStand s at end es → Derives (Finds T) g es [] → length g ≡ 1 → OneTree T s at end es
 unfolding EntriesStand
 one-tree T s at end st D-End n = absurd (omega arith)
 one-tree T s at end st (D-Open {γ = γ} {es = es} d) n = last-open T s at end γ es (no-entries T d (omega arith)) (st .0) (st .2)
 one-tree T s at end st (D-Use {g = g} {h = h} {es = es} e d) n =
     let z : g ≡ [] = none g (omega arith) in
-    let d′ : Derives (Found T) h es [] = subst (λ (x : List Goal). Derives (Found T) x es []) (ap {B = List Goal} (λ x. h ++ x) z ∙ append-nil h) d in
+    let d′ : Derives (Finds T) h es [] = subst (λ (x : List Goal). Derives (Finds T) x es []) (ap {B = List Goal} (λ x. h ++ x) z ∙ append-nil h) d in
     use-tree (st .0) (st .1) (st .2) e (st .3) d′
 
 -- the terms of a use's premises are all that stand behind it
-written-use : (T : Table) (a : RuleName) (γ : Goal) (h : List Goal) (es : List Entry) → Found T a γ h → Derives (Found T) h es []
+written-use : (T : Table) (a : RuleName) (γ : Goal) (h : List Goal) (es : List Entry) → Finds T a γ h → Derives (Finds T) h es []
     → written T (useEntry a γ ∷ es) ≡ useTerm a (treeTerms T es)
 unfolding written treeTerms
 written-use T a γ h es e d =
@@ -149,7 +150,7 @@ pub record UseTree (file : List ℕ) (rules : ℕ) (s : List ℕ) (at : ℕ) (p 
   pub term-none : count ≡ 0 → (termOf p ≡ atomic (ruleName (word s (at + 3)))) × (at + 7 ≡ p .end)
   pub term-some : (count ≡ 0 → ⊥) → termOf p ≡ sequence (atomic (ruleName (word s (at + 3)))) (termOf inner)
 
-premises-count : (T : Table) (a : RuleName) (γ : Goal) (h : List Goal) → Found T a γ h → length (premisesOf T a γ) ≡ length h
+premises-count : (T : Table) (a : RuleName) (γ : Goal) (h : List Goal) → Finds T a γ h → length (premisesOf T a γ) ≡ length h
 premises-count T a γ h e = rw e
 
 pub name-path : {a b : RuleName} → a .0 ≡ b .0 → a ≡ b
@@ -162,7 +163,7 @@ pub use-of : {file : List ℕ} {rules : ℕ} {s : List ℕ} {at : ℕ} (p : Tree
     → count ≡ length (premisesOf (p .table) (ruleName (word s (at + 3))) (goal (word s (at + 5)))) → UseTree file rules s at p count
 use-of {file} {rules} {s} {at} p count tag e = go (p .entries) (p .goals) (p .count) (p .stand) (p .right) (the-tree p)
   where
-    go : (es : List Entry) (gs : List Goal) (n : length gs ≡ 1) (st : EntriesStand s at (p .end) es) (r : Derives (Found (p .table)) gs es []) → OneTree (p .table) s at (p .end) es
+    go : (es : List Entry) (gs : List Goal) (n : length gs ≡ 1) (st : EntriesStand s at (p .end) es) (r : Derives (Finds (p .table)) gs es []) → OneTree (p .table) s at (p .end) es
         → UseTree file rules s at (record { table = p .table; stands = p .stands; goals = gs; count = n; entries = es; end = p .end; stand = st; right = r }) count
     go _ gs n st r (open-tree h x) = absurd (omega (arith, h .tag-is))
     go _ gs n st r (use-tree {a = a} {γ = γ} {h = h} {es = es} head ea eγ found st′ d) =
@@ -194,7 +195,7 @@ join-terms (t ∷ []) [] e h = absurd (omega arith)
 join-terms (t ∷ []) (u ∷ b) e h = refl
 join-terms (t ∷ u ∷ a) b e h = absurd (omega arith)
 
-several-terms : (T : Table) (g k : List Goal) (front back : List Entry) → Derives (Found T) g front [] → Derives (Found T) k back [] → length g ≡ 1 → 1 ≤ length k
+several-terms : (T : Table) (g k : List Goal) (front back : List Entry) → Derives (Finds T) g front [] → Derives (Finds T) k back [] → length g ≡ 1 → 1 ≤ length k
     → written T (front ++ back) ≡ tensor (written T front) (written T back)
 unfolding written
 several-terms T g k front back d m e h =
@@ -204,12 +205,12 @@ several-terms T g k front back d m e h =
 pub several : {file : List ℕ} {rules : ℕ} {s : List ℕ} {at n : ℕ} (p : Trees file rules s at n) → 2 ≤ n → Several file rules s at n p
 several {file} {rules} {s} {at} {n} p more = go (p .goals) (p .entries) (p .count) (p .stand) (p .right)
   where
-    go : (gs : List Goal) (es : List Entry) (c : length gs ≡ n) (st : EntriesStand s at (p .end) es) (r : Derives (Found (p .table)) gs es [])
+    go : (gs : List Goal) (es : List Entry) (c : length gs ≡ n) (st : EntriesStand s at (p .end) es) (r : Derives (Finds (p .table)) gs es [])
         → Several file rules s at n (record { table = p .table; stands = p .stands; goals = gs; count = c; entries = es; end = p .end; stand = st; right = r })
     go [] es c st r = absurd (omega arith)
     go (γ ∷ gs) es c st r =
         let T = p .table in
-        let q : Parted (Found T) (γ ∷ []) gs es = parted es (γ ∷ []) gs r in
+        let q : Parted (Finds T) (γ ∷ []) gs es = parted es (γ ∷ []) gs r in
         let parts = stand-apart s (q .front) (q .back) at (p .end) (subst (EntriesStand s at (p .end)) (sym (q .whole)) st) in
         record {
           first = record { table = T; stands = p .stands; goals = γ ∷ []; count = refl; entries = q .front; end = parts .0; stand = parts .1; right = q .frontDerives };

@@ -1,24 +1,18 @@
 -- Document 01, "Writing a proof": what the two writers of a term are given and what they leave.
 use Prim.Native.Nat.{ℕ, _≤_, _<_}
 use mathlib.Core.Path.{_≡_}
-use mathlib.Core.Option.{some}
 use mathlib.Core.List.{List, [], _++_}
 use lib.ListN.{length, drop}
 use Rattle.format.specs.declared.values.Goal.{Goal}
 use Rattle.format.specs.Terms.{Term, size}
 use Rattle.format.specs.Encoding.{termBytes}
 use Rattle.tables.specs.Tables.{Table}
-use Rattle.tables.specs.Lookup.{foundRule, findRule}
 use Rattle.tables.specs.Standing.{TableStands}
 use Rattle.files.specs.Derivations.{Entry}
 use Rattle.files.specs.Standing.{EntriesStand}
-use Rattle.hitac.specs.Validates.{System}
+use Rattle.hitac.specs.Premises.{Finds}
 use Rattle.hitac.specs.Derives.{Derives}
 use Rattle.hitac.specs.Write.{written}
-
--- the rules that the look-up finds
-abbrev pub Found : Table → System
-Found T a γ h = findRule T a γ ≡ some (foundRule h)
 
 -- n trees whose entries stand in the flat file from a place to another, right in the table whose rules stand in the table file
 pub record Trees (file : List ℕ) (rules : ℕ) (s : List ℕ) (at n : ℕ) : Type 0 where
@@ -29,7 +23,7 @@ pub record Trees (file : List ℕ) (rules : ℕ) (s : List ℕ) (at n : ℕ) : T
   pub entries : List Entry
   pub end : ℕ
   pub stand : EntriesStand s at end entries
-  pub right : Derives (Found table) goals entries []
+  pub right : Derives (Finds table) goals entries []
 
 -- the term that is written for them
 abbrev pub termOf : {file : List ℕ} {rules : ℕ} {s : List ℕ} {at n : ℕ} → Trees file rules s at n → Term

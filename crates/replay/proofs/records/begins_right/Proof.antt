@@ -1,4 +1,4 @@
--- `records::begins_right` meets its contract.
+-- `records::begins_right` meets its contract: each turn of the loop looks at one byte of the header.
 -- Assumes nothing.
 use borrow.Author.Needs.{needs}
 use Prim.Native.Nat.{ℕ, _+_, _-_, _≤_, _<_}

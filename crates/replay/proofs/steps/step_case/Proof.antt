@@ -1,4 +1,4 @@
--- `steps::step_case` meets its contract.
+-- `steps::step_case` meets its contract: a case record is within the vector file, and adds at most one to each count.
 -- Assumes nothing.
 use mathlib.Core.Path.{sym}
 use native.Mathlib.Omega.{arith}
