@@ -36,7 +36,10 @@ fn is_filled(s: &[u8], b: u8) -> bool
 }
 
 // Whether the work space is as a call leaves it: untouched after 29, otherwise cleared.
-pub fn is_left(work: &[u8], number: u32) -> bool {
+pub fn is_left(work: &[u8], number: u32) -> bool
+    ensures { λ r. ⌜ (r ≡ true → number ≡ 29 → (k : ℕ) → k < length (now (work .entry)) → getD (now (work .entry)) k 0 ≡ 165) ⌝ }
+    ensures { λ r. ⌜ (r ≡ true → (number ≡ 29 → ⊥) → (k : ℕ) → k < length (now (work .entry)) → getD (now (work .entry)) k 0 ≡ 0) ⌝ }
+{
     if number == 29 {
         return is_filled(work, FILLED);
     }

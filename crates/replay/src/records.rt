@@ -1,6 +1,8 @@
 // The records of a vector file (docs/VECTORS.md). Nothing is believed: every length is compared with what is left.
-ghost use Prim.Native.Nat.{_+_, _≤_, _<_};
+ghost use mathlib.Core.Path.{_≡_};
+ghost use Prim.Native.Nat.{_+_, _*_, _≤_, _<_};
 ghost use lib.ListN.{length};
+ghost use Rattle.words.specs.Word.{word};
 ghost use Rattle.replay.specs.Bounds.{Inside};
 use answers::Answer;
 use words::copy_in;
@@ -54,6 +56,7 @@ pub struct Expanded {
 // The number in four bytes, high byte first.
 pub fn load32(s: &[u8], at: usize) -> u32
     requires { ⌜ at + 3 < length (now s) ⌝ }
+    ensures { λ r. ⌜ r ≡ word (now (s .entry)) at * 65536 + word (now (s .entry)) (at + 2) ⌝ }
 {
     (load16(s, at) as u32) * 65536 + (load16(s, at + 2) as u32)
 }
