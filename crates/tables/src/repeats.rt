@@ -15,7 +15,7 @@ pub enum Clash {
 }
 
 // The tag of the fields that a refusal is about: rules, definitions, labels.
-fn searched(number: u8) -> u8
+pub fn searched(number: u8) -> u8
     ensures { λ r. ⌜ r ≡ searchedTag number ⌝ }
 {
     if number < 8 {
@@ -28,7 +28,7 @@ fn searched(number: u8) -> u8
 }
 
 // From one header to the next. For 9 only the values in front are passed over, so that the inner terms are met; else the whole field.
-fn step(s: &[u8], at: usize, number: u8) -> usize
+pub fn step(s: &[u8], at: usize, number: u8) -> usize
     requires { ⌜ Room (now s) at ⌝ }
     ensures { λ r. ⌜ r ≡ stepAt number (now (s .entry)) at ⌝ }
 {
@@ -39,7 +39,7 @@ fn step(s: &[u8], at: usize, number: u8) -> usize
 }
 
 // Whether the field at a place clashes with an earlier one. Both have one tag, so their first values are of one kind: names, tactic numbers or labels. For 6 the goals behind the names are compared too, for 7 the lengths.
-fn clashes(s: &[u8], at: usize, earlier: usize, number: u8) -> bool
+pub fn clashes(s: &[u8], at: usize, earlier: usize, number: u8) -> bool
     requires { ⌜ Room (now s) at × Room (now s) earlier ⌝ }
     ensures { λ r. ⌜ r ≡ clashAt number (now (s .entry)) at earlier ⌝ }
 {
