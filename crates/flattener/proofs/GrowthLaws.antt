@@ -7,7 +7,7 @@ use mathlib.Core.List.{List, [], _∷_, _++_, map}
 use Prim.Native.Nat.{ℕ, zero, suc, _+_, _*_, _≤_, _<_}
 use native.Mathlib.Omega.{arith}
 use lib.ListN.{length, take, drop, set, getD, length-append, length-set, length-map, List·getD-append}
-use lib.Seq.{getD-set-same, getD-set-other, getD-append-seam, append-snoc}
+use lib.Seq.{take-at, drop-at, getD-set-same, getD-set-other, getD-append-seam, append-snoc}
 use Rattle.format.specs.declared.values.RuleName.{RuleName}
 use Rattle.format.specs.declared.values.Goal.{Goal}
 use Rattle.format.specs.Terms.{Term, atomic, id, label, sequence, tensor, empty}
@@ -39,7 +39,7 @@ keeps-both x y = record { longer = omega (arith, x .longer, y .longer); goals = 
 keeps-same : (A : List Cell) → Keeps A A
 keeps-same A = record { longer = omega arith; goals = λ m l. refl }
 
-carry-kept : {A B : List Cell} {ns : List ℕ} {g : List Goal} → Keeps A B → Carry A ns g → Carry B ns g
+pub carry-kept : {A B : List Cell} {ns : List ℕ} {g : List Goal} → Keeps A B → Carry A ns g → Carry B ns g
 carry-kept k Carry-None = Carry-None
 carry-kept k (Carry-Node {n = n} l e c) = Carry-Node {n = n} (omega (arith, k .longer)) (k .goals n l ∙ e) (carry-kept k c)
 
@@ -47,13 +47,15 @@ carry-append : {A : List Cell} {ns ms : List ℕ} {g h : List Goal} → Carry A 
 carry-append Carry-None q = q
 carry-append (Carry-Node l e c) q = Carry-Node l e (carry-append c q)
 
-carry-take : {A : List Cell} (g h : List Goal) {ns : List ℕ} → Carry A ns (g ++ h) → Carry A (take (length g) ns) g
-carry-take [] h c = Carry-None
-carry-take (γ ∷ g) h (Carry-Node l e c) = Carry-Node l e (carry-take g h c)
+pub carry-take : (j : ℕ) {A : List Cell} {ns : List ℕ} {g : List Goal} → Carry A ns g → Carry A (take j ns) (take j g)
+carry-take zero c = Carry-None
+carry-take (suc j) Carry-None = Carry-None
+carry-take (suc j) (Carry-Node l e c) = Carry-Node l e (carry-take j c)
 
-carry-drop : {A : List Cell} (g h : List Goal) {ns : List ℕ} → Carry A ns (g ++ h) → Carry A (drop (length g) ns) h
-carry-drop [] h c = c
-carry-drop (γ ∷ g) h (Carry-Node l e c) = carry-drop g h c
+pub carry-drop : (j : ℕ) {A : List Cell} {ns : List ℕ} {g : List Goal} → Carry A ns g → Carry A (drop j ns) (drop j g)
+carry-drop zero c = c
+carry-drop (suc j) Carry-None = Carry-None
+carry-drop (suc j) (Carry-Node l e c) = carry-drop j c
 
 pub carry-length : {A : List Cell} {ns : List ℕ} {g : List Goal} → Carry A ns g → length ns ≡ length g
 carry-length Carry-None = refl
@@ -161,8 +163,8 @@ grows T (V-Sequence {s = s} v w) A {ns} c =
       suits = λ b. (x .suits (omega (arith, y .keeps .longer)), y .suits b);
     }
 grows T (V-Tensor {s = s} {t = t} {g₁ = g₁} {g₂ = g₂} {h₁ = h₁} {h₂ = h₂} v w f) A {ns} c =
-    let i : Carry A (take (inputArity s) ns) g₁ = rw (← arity-of v) (carry-take g₁ g₂ c) in
-    let j : Carry A (drop (inputArity s) ns) g₂ = rw (← arity-of v) (carry-drop g₁ g₂ c) in
+    let i : Carry A (take (inputArity s) ns) g₁ = subst (Carry A (take (inputArity s) ns)) (take-at g₁ g₂ (inputArity s) (arity-of v)) (carry-take (inputArity s) c) in
+    let j : Carry A (drop (inputArity s) ns) g₂ = subst (Carry A (drop (inputArity s) ns)) (drop-at g₁ g₂ (inputArity s) (arity-of v)) (carry-drop (inputArity s) c) in
     let x = grows T v A i in
     let y = grows T w (nodeWalk T s A (take (inputArity s) ns) .cells) (carry-kept (x .keeps) j) in
     record {

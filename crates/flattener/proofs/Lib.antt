@@ -7,5 +7,6 @@ pub mod LabelLaws
 pub mod PrintLaws
 pub mod PassLaws
 pub mod GrowthLaws
+pub mod AgreeLaws
 pub mod PlantLaws
 pub mod FlattenLaws

@@ -1,3 +1,5 @@
+pub mod Acts
+pub mod NodeActs
 pub mod Space
 pub mod Walks
 pub mod Prints
