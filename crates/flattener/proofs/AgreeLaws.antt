@@ -25,7 +25,7 @@ use Rattle.hitac.specs.Forest.{premisesIn}
 use Rattle.hitac.specs.Walk.{walk, onOneGoal, onNoGoal, premisesOr, joined, tooLong}
 use Rattle.hitac.proofs.WalkValidates.{finds-agrees, walk→validates}
 use Rattle.hitac.proofs.Nodes.{Cell, cellAt, goalOf, NodeWalk, markUse, nodeWalk}
-use Rattle.flattener.specs.Acts.{Out, onOneValue, joinedOut, walkOf}
+use Rattle.walks.specs.Walks.{Out, onOneValue, joinedValues, walkOf}
 use Rattle.flattener.specs.NodeActs.{outOf, useFound, useNode, onNoNode, nodeAct}
 use Rattle.flattener.proofs.GrowthLaws.{Carry, Carry-None, Carry-Node, carry-take, carry-drop, carry-kept, carry-length, Grows, grows}
 
@@ -48,8 +48,8 @@ test-agrees x true c p a r h k = (refl, h)
 test-agrees x false c p a r h k = k refl
 
 -- both lists of a tensor have as many nodes as goals
-joined-agrees : (p : ℕ) (h k : List Goal) (ns : List ℕ) (x : NodeWalk) → length ns ≡ length h → length (x .nodes) ≡ length k → Agrees (record { cells = x .cells; nodes = ns ++ x .nodes }) (joined p (h ++ k)) (joinedOut p ns (outOf x))
-unfolding Agrees joined tooLong joinedOut number
+joined-agrees : (p : ℕ) (h k : List Goal) (ns : List ℕ) (x : NodeWalk) → length ns ≡ length h → length (x .nodes) ≡ length k → Agrees (record { cells = x .cells; nodes = ns ++ x .nodes }) (joined p (h ++ k)) (joinedValues p ns (outOf x))
+unfolding Agrees joined tooLong joinedValues number
 joined-agrees p h k ns x e f =
     let l : length (ns ++ x .nodes) ≡ length (h ++ k) = length-append ns (x .nodes) ∙ ap₂ (λ (i j : ℕ). i + j) e f ∙ sym (length-append h k) in
     rw l (test-agrees (record { cells = x .cells; nodes = ns ++ x .nodes }) (ltb 256 (length (h ++ k))) joinedTooLong p (gives (h ++ k)) (gives (outOf (record { cells = x .cells; nodes = ns ++ x .nodes }))) (omega arith) (λ b. refl))

@@ -18,8 +18,6 @@ use Rattle.hitac.specs.Forest.{premisesIn, premisesOf}
 use Rattle.hitac.proofs.ValidatesLaws.{arity-of}
 use Rattle.hitac.proofs.ForestLaws.{Takes}
 use Rattle.hitac.proofs.Nodes.{Cell, openCell, useCell, noCell, cellAt, goalOf, range, NodeWalk, markUse, nodeWalk}
-use Rattle.flattener.specs.Space.{mostNodes}
-use Rattle.flattener.specs.Walks.{Suits}
 use Rattle.flattener.specs.Prints.{Closed}
 use Rattle.flattener.proofs.CellLaws.{compared, differ}
 
@@ -110,7 +108,6 @@ pub record Grows (T : Table) (s : Term) (A : List Cell) (ns : List ℕ) (h : Lis
   pub carry : Carry (nodeWalk T s A ns .cells) (nodeWalk T s A ns .nodes) h
   pub count : length (nodeWalk T s A ns .cells) + length ns ≡ length A + atomics s + length h
   pub closed : Closed (length A) A → Closed (length (nodeWalk T s A ns .cells)) (nodeWalk T s A ns .cells)
-  pub suits : length (nodeWalk T s A ns .cells) ≤ mostNodes → Suits T s A ns
 
 module _ (T : Table) (a : RuleName) (A : List Cell) (n : ℕ) (inside : n < length A) (h : List Goal) (found : premisesOf T a (goalOf (cellAt A n)) ≡ h) where
   abbrev γ : Goal
@@ -133,7 +130,7 @@ module _ (T : Table) (a : RuleName) (A : List Cell) (n : ℕ) (inside : n < leng
   goal-set m (inr d) = ap goalOf (getD-set-other A n m u noCell (differ d))
 
   grows-atomic : Grows T (atomic a) A (n ∷ []) h
-  unfolding nodeWalk atomics Suits
+  unfolding nodeWalk atomics
   grows-atomic = record {
     keeps = record {
       longer = omega (arith, made-length);
@@ -142,16 +139,15 @@ module _ (T : Table) (a : RuleName) (A : List Cell) (n : ℕ) (inside : n < leng
     carry = subst (Carry made (range (length A) (length p))) found (subst (λ (k : ℕ). Carry made (range k (length p)) p) (length-set A n u) (carry-new (set A n u) p));
     count = omega (arith, made-length, ap length found);
     closed = λ c. subst (λ (b : ℕ). Closed b made) (sym made-length) (closed-append (length A + length p) (set A n u) (map openCell p) (closed-set (length A + length p) a γ (length A) (length p) (omega arith) A n (closed-more (length A) (length A + length p) (omega arith) A c)) (closed-opens (length A + length p) p));
-    suits = λ l. (n, refl, inside, l);
   }
 
 pub grows : (T : Table) {s : Term} {g h : List Goal} → Takes T s g h → (A : List Cell) {ns : List ℕ} → Carry A ns g → Grows T s A ns h
-unfolding nodeWalk atomics Suits
+unfolding nodeWalk atomics
 grows T (V-Atomic {a = a} {γ = γ} {h = h} rl) A (Carry-Node {n = n} l e Carry-None) = grows-atomic T a A n l h (ap (premisesOf T a) e ∙ ap premisesIn rl)
-grows T (V-Identity {γ = γ}) A (Carry-Node l e Carry-None) = record { keeps = keeps-same A; carry = Carry-Node l e Carry-None; count = omega arith; closed = λ c. c; suits = λ b. refl }
+grows T (V-Identity {γ = γ}) A (Carry-Node l e Carry-None) = record { keeps = keeps-same A; carry = Carry-Node l e Carry-None; count = omega arith; closed = λ c. c }
 grows T (V-Label v) A c =
     let x = grows T v A c in
-    record { keeps = x .keeps; carry = x .carry; count = x .count; closed = x .closed; suits = x .suits }
+    record { keeps = x .keeps; carry = x .carry; count = x .count; closed = x .closed }
 grows T (V-Sequence {s = s} v w) A {ns} c =
     let x = grows T v A c in
     let y = grows T w (nodeWalk T s A ns .cells) (x .carry) in
@@ -160,7 +156,6 @@ grows T (V-Sequence {s = s} v w) A {ns} c =
       carry = y .carry;
       count = omega (arith, x .count, y .count, carry-length (x .carry));
       closed = λ k. y .closed (x .closed k);
-      suits = λ b. (x .suits (omega (arith, y .keeps .longer)), y .suits b);
     }
 grows T (V-Tensor {s = s} {t = t} {g₁ = g₁} {g₂ = g₂} {h₁ = h₁} {h₂ = h₂} v w f) A {ns} c =
     let i : Carry A (take (inputArity s) ns) g₁ = subst (Carry A (take (inputArity s) ns)) (take-at g₁ g₂ (inputArity s) (arity-of v)) (carry-take (inputArity s) c) in
@@ -172,6 +167,5 @@ grows T (V-Tensor {s = s} {t = t} {g₁ = g₁} {g₂ = g₂} {h₁ = h₁} {h�
       carry = carry-append (carry-kept (y .keeps) (x .carry)) (y .carry);
       count = omega (arith, x .count, y .count, carry-length c, carry-length i, carry-length j, length-append g₁ g₂, length-append h₁ h₂);
       closed = λ k. y .closed (x .closed k);
-      suits = λ b. (omega (arith, carry-length c, length-append g₁ g₂, arity-of v), x .suits (omega (arith, y .keeps .longer)), y .suits b);
     }
-grows T V-Empty A Carry-None = record { keeps = keeps-same A; carry = Carry-None; count = omega arith; closed = λ c. c; suits = λ b. tt }
+grows T V-Empty A Carry-None = record { keeps = keeps-same A; carry = Carry-None; count = omega arith; closed = λ c. c }

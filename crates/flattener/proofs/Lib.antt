@@ -1,12 +1,7 @@
 pub mod SpaceLaws
 pub mod StackLaws
 pub mod CellLaws
-pub mod WalkLaws
-pub mod PairLaws
-pub mod LabelLaws
-pub mod PrintLaws
-pub mod PassLaws
 pub mod GrowthLaws
 pub mod AgreeLaws
-pub mod PlantLaws
-pub mod FlattenLaws
+pub mod PrintLaws
+pub mod PassLaws

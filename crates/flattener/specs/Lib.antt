@@ -1,6 +1,3 @@
-pub mod Acts
-pub mod NodeActs
 pub mod Space
-pub mod Walks
+pub mod NodeActs
 pub mod Prints
-pub mod Forests

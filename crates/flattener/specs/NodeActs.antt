@@ -12,10 +12,10 @@ use Rattle.format.specs.Terms.{Term, atomic, id, label, sequence, tensor, empty
 use Rattle.tables.specs.Tables.{Table}
 use Rattle.tables.specs.Lookup.{FoundRule, findRule}
 use Rattle.hitac.proofs.Nodes.{Cell, cellAt, goalOf, NodeWalk, markUse}
-use Rattle.flattener.specs.Acts.{Out, Act, onOneValue}
+use Rattle.walks.specs.Walks.{Out, out, Act, onOneValue}
 
 abbrev pub outOf : NodeWalk → Out
-outOf x = record { cells = x .cells; values = x .nodes }
+outOf x = out (x .cells) (x .nodes)
 
 -- the node becomes a use of the rule that was found
 unfoldable pub useFound : RuleName → (place : ℕ) → List Cell → (node : ℕ) → Option FoundRule → Result Out
@@ -27,13 +27,13 @@ unfoldable pub useNode : Table → RuleName → (place : ℕ) → List Cell → 
 useNode T a p A n = cond (ltb n (length A)) (useFound a p A n (findRule T a (goalOf (cellAt A n)))) (refused inputTooLong p)
 
 unfoldable pub onNoNode : (place : ℕ) → List Cell → List ℕ → Result Out
-onNoNode p A [] = gives (record { cells = A; values = [] })
+onNoNode p A [] = gives (out A [])
 onNoNode p A (n ∷ ns) = refused goalCountWrong p
 
 -- Labels, sequences and tensors are taken apart before; the last three forms stand in no hiproof.
 unfoldable pub nodeAct : Table → Act
 nodeAct T (atomic a) p A ns = onOneValue p (useNode T a p A) ns
-nodeAct T id p A ns = onOneValue p (λ n. gives (record { cells = A; values = n ∷ [] })) ns
+nodeAct T id p A ns = onOneValue p (λ n. gives (out A (n ∷ []))) ns
 nodeAct T (label l s) p A ns = refused goalCountWrong p
 nodeAct T (sequence s t) p A ns = refused goalCountWrong p
 nodeAct T (tensor s t) p A ns = refused goalCountWrong p
