@@ -1,6 +1,7 @@
 pub mod SpaceLaws
-pub mod StackLaws
+pub mod RowLaws
 pub mod CellLaws
+pub mod LeafLaws
 pub mod GrowthLaws
 pub mod AgreeLaws
 pub mod PrintLaws

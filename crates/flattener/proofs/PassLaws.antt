@@ -16,10 +16,11 @@ use Rattle.files.specs.Derivations.{Entry, entryBytes, entriesBytes}
 use Rattle.hitac.proofs.Nodes.{Cell, openCell, useCell, noCell, cellAt, entryOf, premiseNodes, range, nodeEntries}
 use Rattle.walks.specs.Layout.{stackEnd, indexEnd}
 use Rattle.walks.specs.Values.{valuesAt}
+use Rattle.walks.proofs.ValueLaws.{length-values}
 use Rattle.flattener.specs.declared.print.Printed.{Printed}
 use Rattle.flattener.specs.Space.{mostNodes, cellsOf, putRange}
 use Rattle.flattener.specs.Prints.{topCell, firstPremise, cellEntry, Closed, forestEntries, PrintReady, NodePrinted, Printable}
-use Rattle.flattener.proofs.StackLaws.{length-nodes, length-range, kept-range, nodes-range}
+use Rattle.flattener.proofs.RowLaws.{length-range, kept-range, nodes-range}
 use Rattle.flattener.proofs.CellLaws.{length-cells, cell-of, cells-above}
 use Rattle.flattener.proofs.PrintLaws.{range-length, sets-append}
 
@@ -212,7 +213,7 @@ module _ (w₀ o₀ : List ℕ) (roots nodes at₀ : ℕ) (p : Printable w₀ ro
       waits =
           let ps = premiseNodes (cellAt B n) in
           let q = rest (t .m) in
-          omega (arith, waiting B l (ps ++ q) (t .whole) (t .count), length-append ps q, length-nodes w (top + 2) (t .m), state .fewer, p .few)
+          omega (arith, waiting B l (ps ++ q) (t .whole) (t .count), length-append ps q, length-values w (top + 2) (t .m), state .fewer, p .few)
 
       sizes : length (t .written) + length (cellEntry (cellAt B n)) ≤ length (entriesBytes (forestEntries w₀ roots nodes))
       sizes =

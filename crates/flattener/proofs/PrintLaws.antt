@@ -22,8 +22,9 @@ use Rattle.flattener.specs.declared.print.Printed.{Printed}
 use Rattle.flattener.specs.Prints.{topCell, firstPremise, cellEntry, PrintReady, NodePrinted}
 use Rattle.walks.specs.Layout.{stackEnd}
 use Rattle.walks.specs.Values.{valuesAt}
+use Rattle.walks.proofs.ValueLaws.{values-append, values-above}
 use Rattle.flattener.specs.Space.{cellPlace, cellsEnd, cellFrom, cellIn, putRange}
-use Rattle.flattener.proofs.StackLaws.{nodes-append, nodes-above, kept-range, nodes-range}
+use Rattle.flattener.proofs.RowLaws.{kept-range, nodes-range}
 
 -- blocks one behind the other
 pub sets-append : (a b l : List ℕ) (i : ℕ) → sets l i (a ++ b) ≡ sets (sets l i a) (i + length a) b
@@ -129,9 +130,9 @@ module _ (w : List ℕ) (top at : ℕ) (o o′ : List ℕ) (a : RuleName) (γ : 
 
   all-pending : (m : ℕ) → valuesAt v above (k + m) ≡ range f k ++ valuesAt w (top + 2) m
   all-pending m =
-      nodes-append k m v above
+      values-append k m v above
       ∙ ap₂ (λ (i j : List ℕ). i ++ j) (nodes-range k w above f (omega arith))
-      (nodes-above w v above (above + k * 2) (above + k * 2) m kept-v (omega arith) ∙ ap (λ (q : ℕ). valuesAt w q m) above-is)
+      (values-above w v above (above + k * 2) (above + k * 2) m kept-v (omega arith) ∙ ap (λ (q : ℕ). valuesAt w q m) above-is)
 
   pub printed-use : NodePrinted w w′ top at o o′ (record { top = above; at = at + 7 })
   unfolding entryBytes

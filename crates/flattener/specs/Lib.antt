@@ -1,3 +1,4 @@
 pub mod Space
 pub mod NodeActs
+pub mod Leaves
 pub mod Prints

@@ -1,0 +1,195 @@
+-- One law for each way in which a term without inner terms returns, by the cases of what it does to nodes.
+-- Assumes nothing.
+use mathlib.Core.Path.{_≡_, refl, sym, subst, ap, ap₂, _∙_}
+use mathlib.Core.Option.{Option, none, some}
+use mathlib.Core.List.{List, [], _∷_, _++_, map}
+use Prim.Native.Nat.{ℕ, zero, suc, _+_, _*_, _≤_, _<_}
+use native.Mathlib.Omega.{arith}
+use lib.ListN.{length, set}
+use borrow.Author.Tests.{lt-ltb}
+use Rattle.words.specs.Word.{word, putWord}
+use Rattle.words.specs.Kept.{Kept}
+use Rattle.words.proofs.WordLaws.{word-same}
+use Rattle.words.proofs.KeptLaws.{kept-put, kept-same, kept-both}
+use Rattle.format.specs.declared.values.RuleName.{RuleName}
+use Rattle.format.specs.declared.values.Goal.{Goal}
+use Rattle.format.specs.Refusals.{number, ruleMissing, goalCountWrong}
+use Rattle.format.specs.Results.{Result, gives, refused}
+use Rattle.format.specs.Values.{ruleName, goal}
+use Rattle.format.specs.Terms.{Term, atomic, id, empty}
+use Rattle.format.specs.Goals.{goalsAt}
+use Rattle.format.proofs.GoalsLaws.{length-goalsAt}
+use Rattle.tables.specs.Tables.{Table}
+use Rattle.tables.specs.Lookup.{foundRule, findRule}
+use Rattle.hitac.specs.Hiproofs.{atomics}
+use Rattle.hitac.proofs.Nodes.{Cell, openCell, useCell, cellAt, goalOf, range}
+use Rattle.walks.specs.declared.state.Next.{Next}
+use Rattle.walks.specs.Layout.{indexEnd}
+use Rattle.walks.specs.Values.{valuesAt}
+use Rattle.walks.specs.Walks.{Out, out, onOneValue}
+use Rattle.walks.proofs.ValueLaws.{length-values, one-value}
+use Rattle.flattener.specs.declared.leaf.Acted.the-variants as A
+use Rattle.flattener.specs.Space.{cellPlace, cellsEnd, cellsOf, putUse, putOpens, putRange, grown}
+use Rattle.flattener.specs.NodeActs.{useFound, useNode, onNoNode, nodeAct}
+use Rattle.flattener.specs.Leaves.{LeafRoom, actIn, Given, Acts}
+use Rattle.flattener.proofs.RowLaws.{kept-range, nodes-range}
+use Rattle.flattener.proofs.CellLaws.{goal-in, length-cells, cell-of, cells-above, length-use, kept-use, cells-use, length-opens, kept-opens, cells-opens}
+
+-- ---- another number of nodes
+
+not-one : (p : ℕ) (next : ℕ → Result Out) (ns : List ℕ) → (length ns ≡ 1 → ⊥) → onOneValue p next ns ≡ refused goalCountWrong p
+unfolding onOneValue
+not-one p next [] z = refl
+not-one p next (n ∷ []) z = absurd (z refl)
+not-one p next (n ∷ m ∷ ns) z = refl
+
+some-node : (p : ℕ) (A : List Cell) (ns : List ℕ) → (length ns ≡ 0 → ⊥) → onNoNode p A ns ≡ refused goalCountWrong p
+unfolding onNoNode
+some-node p A [] z = absurd (z refl)
+some-node p A (n ∷ ns) z = refl
+
+module _ (T : Table) (at : ℕ) (w w′ : List ℕ) (n : Next) (next : ℕ) where
+  pub atomic-count : (a : RuleName) → (n .count ≡ 1 → ⊥) → Acts T (atomic a) at w w′ n next A.Refused
+  unfolding Acts nodeAct number
+  atomic-count a z = (goalCountWrong, refl, not-one at _ (valuesAt w (n .top) (n .count)) (λ e. z (sym (length-values w (n .top) (n .count)) ∙ e)))
+
+  pub id-count : (n .count ≡ 1 → ⊥) → Acts T id at w w′ n next A.Refused
+  unfolding Acts nodeAct number
+  id-count z = (goalCountWrong, refl, not-one at _ (valuesAt w (n .top) (n .count)) (λ e. z (sym (length-values w (n .top) (n .count)) ∙ e)))
+
+  pub empty-count : (n .count ≡ 0 → ⊥) → Acts T empty at w w′ n next A.Refused
+  unfolding Acts nodeAct number
+  empty-count z = (goalCountWrong, refl, some-node at _ (valuesAt w (n .top) (n .count)) (λ e. z (sym (length-values w (n .top) (n .count)) ∙ e)))
+
+-- ---- an atomic
+
+-- the look-up by the numbers that the code read
+pub found-by : (T : Table) (a : RuleName) (γ : Goal) (x y : ℕ) → a .0 ≡ x → γ .0 ≡ y → findRule T a γ ≡ findRule T (ruleName x) (goal y)
+found-by T a γ x y p q = λ i. findRule T (record { 0 = p i }) (record { 0 = q i })
+
+pub grown-is : (w w₁ w₂ w₃ : List ℕ) (n a f : ℕ) (table : List ℕ) (place count low : ℕ) → w₁ ≡ putUse w n a f count → w₂ ≡ putOpens w₁ f (goalsAt table place count) → w₃ ≡ putRange w₂ low f count
+    → w₃ ≡ grown w n a f (goalsAt table place count) low
+unfolding grown
+grown-is w w₁ w₂ w₃ n a f table place count low p q r = r ∙ rw (q, p, length-goalsAt count table place)
+
+module _ (T : Table) (a : RuleName) (at : ℕ) (w : List ℕ) (n : Next) (next : ℕ) where
+  abbrev A₀ : List Cell
+  A₀ = cellsOf w next
+
+  abbrev pub node : ℕ
+  node = word w (n .top)
+
+  abbrev pub goalHere : Goal
+  goalHere = goal (word w (cellPlace node))
+
+  -- the goal of the node that is taken
+  goal-there : node < next → goalOf (cellAt A₀ node) ≡ goalHere
+  goal-there h = ap goalOf (cell-of next w node h) ∙ goal-in w (cellPlace node)
+
+  module _ (one : n .count ≡ 1) (there : node < next) where
+    looked-up : actIn T (atomic a) at w n next ≡ useFound a at A₀ node (findRule T a goalHere)
+    unfolding nodeAct onOneValue useNode
+    looked-up =
+        let l : node < length A₀ = omega (arith, length-cells next w indexEnd) in
+        rw (one-value w (n .top) (n .count) one, lt-ltb node (length A₀) l, goal-there there)
+
+    pub atomic-missing : (w′ : List ℕ) → findRule T a goalHere ≡ none → Acts T (atomic a) at w w′ n next A.Refused
+    unfolding Acts useFound number
+    atomic-missing w′ e = (ruleMissing, refl, looked-up ∙ ap (useFound a at A₀ node) e)
+
+    module _ (h : List Goal) (found : findRule T a goalHere ≡ some (foundRule h)) (few : length h ≤ 8) (room : LeafRoom w n next 1) where
+      abbrev k : ℕ
+      k = length h
+
+      abbrev w₁ : List ℕ
+      w₁ = putUse w node (a .0) next k
+
+      abbrev w₂ : List ℕ
+      w₂ = putOpens w₁ next h
+
+      abbrev w₃ : List ℕ
+      w₃ = putRange w₂ (n .low) next k
+
+      l₁ : length w₁ ≡ length w
+      l₁ = length-use w node (a .0) next k
+
+      l₂ : length w₂ ≡ length w
+      l₂ = length-opens h w₁ next ∙ l₁
+
+      kept-cells : Kept w w₂ indexEnd cellsEnd
+      kept-cells =
+          kept-both w w₁ w₂ (cellPlace node) (cellPlace node + 8) (cellPlace next) (cellPlace (next + k)) indexEnd cellsEnd (kept-use w node (a .0) next k) (kept-opens h w₁ next)
+          (omega arith) (omega arith) (omega (arith, room .nodes)) (omega (arith, room .nodes))
+
+      kept-stacks : Kept w₂ w₃ (n .low) (n .top + n .count * 2)
+      kept-stacks =
+          kept-both w₂ w₃ w₃ (n .low) (n .low + k * 2) (n .low) (n .low + k * 2) (n .low) (n .top + n .count * 2) (kept-range k w₂ (n .low) next) (kept-same w₃ (n .low) (n .low + k * 2))
+          (omega arith) (omega arith) (omega (arith, room .apart)) (omega (arith, room .apart))
+
+      made-cells : cellsOf w₃ (next + k) ≡ set A₀ node (useCell a goalHere next k) ++ map openCell h
+      made-cells =
+          cells-above w₂ w₃ (n .low) (n .top + n .count * 2) (next + k) kept-stacks (omega (arith, room .below))
+          ∙ cells-opens h w₁ next (omega (arith, room .nodes, room .space, l₁))
+          ∙ ap (λ (B : List Cell). B ++ map openCell h) (cells-use w node (a .0) next k (omega (arith, room .nodes, room .space)) next there)
+
+      made-nodes : valuesAt w₃ (n .low) k ≡ range next k
+      made-nodes = nodes-range k w₂ (n .low) next (omega (arith, room .apart, room .below, room .space, l₂))
+
+      outcome : actIn T (atomic a) at w n next ≡ gives (out (cellsOf w₃ (next + k)) (valuesAt w₃ (n .low) k))
+      unfolding useFound
+      outcome =
+          looked-up ∙ ap (useFound a at A₀ node) found
+          ∙ rw (goal-there there, length-cells next w indexEnd, made-cells, made-nodes)
+
+      grown-gives : Given T (atomic a) at w (grown w node (a .0) next h (n .low)) n next k 1 (next + k)
+      unfolding grown atomics
+      grown-gives = record {
+        between = w₂;
+        in-cells = kept-cells;
+        on-stacks = kept-stacks;
+        outcome = outcome;
+        uses-are = refl;
+        few = omega (arith, one);
+        few-nodes = omega arith;
+      }
+
+      -- the same in the code's words
+      pub atomic-gives : (w′ : List ℕ) (i j : ℕ) → i ≡ node → j ≡ a .0 → w′ ≡ grown w i j next h (n .low) → (c : ℕ) → length h ≡ c → Acts T (atomic a) at w w′ n next (A.Gives c 1 (next + c))
+      unfolding Acts
+      atomic-gives w′ i j p q made c l =
+          subst (λ (d : ℕ). Given T (atomic a) at w w′ n next d 1 (next + d)) l
+          (subst (λ (v : List ℕ). Given T (atomic a) at w v n next k 1 (next + k)) (sym (made ∙ ap₂ (λ (x y : ℕ). grown w x y next h (n .low)) p q)) grown-gives)
+
+-- ---- an id
+
+pub id-gives : (T : Table) (at : ℕ) (w w′ : List ℕ) (n : Next) (next v : ℕ) → LeafRoom w n next 0 → n .count ≡ 1 → v ≡ word w (n .top) → w′ ≡ putWord w (n .low) v → Acts T id at w w′ n next (A.Gives 1 0 next)
+unfolding Acts nodeAct onOneValue atomics
+id-gives T at w w′ n next v room one e made = rw made (record {
+  between = w;
+  in-cells = kept-same w indexEnd cellsEnd;
+  on-stacks = k;
+  outcome = rw (cells-above w x (n .low) (n .top + n .count * 2) next k (omega (arith, room .below)), one-value w (n .top) (n .count) one, one-value x (n .low) 1 refl, word-same w (n .low) v (omega (arith, room .apart, room .below, room .space)), e);
+  uses-are = refl;
+  few = omega (arith, one);
+  few-nodes = omega arith;
+})
+  where
+    x : List ℕ
+    x = putWord w (n .low) v
+
+    k : Kept w x (n .low) (n .top + n .count * 2)
+    k = kept-put w (n .low) v (n .low) (n .top + n .count * 2) (omega arith) (omega (arith, room .apart, one))
+
+-- ---- empty
+
+pub empty-gives : (T : Table) (at : ℕ) (w : List ℕ) (n : Next) (next : ℕ) → n .count ≡ 0 → Acts T empty at w w n next (A.Gives 0 0 next)
+unfolding Acts nodeAct onNoNode atomics goalsAt
+empty-gives T at w n next z = record {
+  between = w;
+  in-cells = kept-same w indexEnd cellsEnd;
+  on-stacks = kept-same w (n .low) (n .top + n .count * 2);
+  outcome = rw z;
+  uses-are = refl;
+  few = omega arith;
+  few-nodes = omega arith;
+}

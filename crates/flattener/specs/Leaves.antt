@@ -1,0 +1,45 @@
+-- What a term without inner terms comes to in the work space: the cells made so far are the first ones behind the index, the nodes taken lie from `top` on and those given from `low` on.
+use Prim.Native.Nat.{ℕ, _+_, _*_, _≤_, _<_}
+use mathlib.Core.Path.{_≡_}
+use mathlib.Core.List.{List}
+use lib.ListN.{length}
+use Rattle.words.specs.Kept.{Kept}
+use Rattle.format.specs.Refusals.{Cause, number}
+use Rattle.format.specs.Results.{Result, gives, refused}
+use Rattle.format.specs.Terms.{Term}
+use Rattle.tables.specs.Tables.{Table}
+use Rattle.hitac.specs.Hiproofs.{atomics}
+use Rattle.walks.specs.declared.state.Next.{Next}
+use Rattle.walks.specs.Layout.{stackEnd, indexEnd}
+use Rattle.walks.specs.Values.{valuesAt}
+use Rattle.walks.specs.Walks.{Out, out}
+use Rattle.flattener.specs.declared.leaf.Acted.{Acted}
+use Rattle.flattener.specs.declared.leaf.Acted.the-variants as A
+use Rattle.flattener.specs.Space.{mostNodes, cellsEnd, cellsOf}
+use Rattle.flattener.specs.NodeActs.{nodeAct}
+
+-- room for what so many uses give and make
+pub record LeafRoom (w : List ℕ) (n : Next) (next uses : ℕ) : Type 0 where
+  pub apart : n .low + 14 * uses ≤ n .top
+  pub below : n .top + n .count * 2 ≤ stackEnd
+  pub nodes : next + 8 * uses ≤ mostNodes
+  pub space : cellsEnd ≤ length w
+
+-- what the term comes to on its nodes, where so many cells are made
+abbrev pub actIn : Table → Term → (at : ℕ) → List ℕ → Next → (next : ℕ) → Result Out
+actIn T t at w n next = nodeAct T t at (cellsOf w next) (valuesAt w (n .top) (n .count))
+
+-- The term gave so many nodes: it wrote among the cells, then on the stacks between what it gives and the end of what it takes.
+pub record Given (T : Table) (t : Term) (at : ℕ) (w w′ : List ℕ) (n : Next) (next given uses made : ℕ) : Type 0 where
+  pub between : List ℕ
+  pub in-cells : Kept w between indexEnd cellsEnd
+  pub on-stacks : Kept between w′ (n .low) (n .top + n .count * 2)
+  pub outcome : actIn T t at w n next ≡ gives (out (cellsOf w′ made) (valuesAt w′ (n .low) given))
+  pub uses-are : uses ≡ atomics t
+  pub few : given ≤ n .count + 7 * uses
+  pub few-nodes : made ≤ next + 8 * uses
+
+-- the code's answer: 20 at the term's place, or what it gave
+unfoldable pub Acts : Table → Term → (at : ℕ) → (w w′ : List ℕ) → Next → (next : ℕ) → Acted → Type 0
+Acts T t at w w′ n next A.Refused = (c : Cause) × (number c ≡ 20) × (actIn T t at w n next ≡ refused c at)
+Acts T t at w w′ n next (A.Gives given uses made) = Given T t at w w′ n next given uses made
