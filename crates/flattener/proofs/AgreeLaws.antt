@@ -5,7 +5,7 @@ use mathlib.Core.Path.{_≡_, refl, sym, ap, ap₂, subst, _∙_}
 use mathlib.Core.Bool.{Bool, true, false, cond}
 use mathlib.Core.Option.{Option, none, some}
 use mathlib.Core.List.{List, [], _∷_, _++_}
-use Prim.Native.Nat.{ℕ, _+_, _≤_, _<_}
+use Prim.Native.Nat.{ℕ, _+_, _*_, _≤_, _<_}
 use native.Mathlib.Omega.{arith}
 use lib.Dec.{ltb}
 use lib.ListN.{length, take, drop, length-append, take-append-drop}
@@ -19,13 +19,15 @@ use Rattle.format.specs.Terms.{Term, atomic, id, label, sequence, tensor, empty
 use Rattle.format.proofs.ResultLaws.{never-gives, same-place, same-cause, same-value}
 use Rattle.tables.specs.Tables.{Table}
 use Rattle.tables.specs.Lookup.{FoundRule, findRule}
-use Rattle.hitac.specs.Premises.{Finds}
-use Rattle.hitac.specs.Hiproofs.{inputArity}
+use Rattle.hitac.specs.Premises.{Finds, FewPremises}
+use Rattle.hitac.specs.Hiproofs.{inputArity, atomics}
 use Rattle.hitac.specs.Forest.{premisesIn}
 use Rattle.hitac.specs.Walk.{walk, onOneGoal, onNoGoal, premisesOr, joined, tooLong}
 use Rattle.hitac.proofs.WalkValidates.{finds-agrees, walk→validates}
+use Rattle.hitac.proofs.WalkBounds.{walk-grows}
 use Rattle.hitac.proofs.Nodes.{Cell, cellAt, goalOf, NodeWalk, markUse, nodeWalk}
 use Rattle.walks.specs.Walks.{Out, onOneValue, joinedValues, walkOf}
+use Rattle.flattener.specs.Space.{mostNodes}
 use Rattle.flattener.specs.NodeActs.{outOf, useFound, useNode, onNoNode, nodeAct}
 use Rattle.flattener.proofs.GrowthLaws.{Carry, Carry-None, Carry-Node, carry-take, carry-drop, carry-kept, carry-length, Grows, grows}
 
@@ -65,7 +67,7 @@ unfolding Agrees
 agreed-gives x (gives h) r o k e = (h, refl, same-value (sym e ∙ k))
 agreed-gives x (refused d q) r o k e = never-gives (sym (k .0) ∙ e)
 
-module _ (T : Table) where
+module _ (T : Table) (few : FewPremises T) where
   -- what a walk that gives goals leaves
   walked : (t : Term) (p : ℕ) {g h : List Goal} (A : List Cell) {ns : List ℕ} → Carry A ns g → walk T t p g ≡ gives h → Grows T t A ns h
   walked t p {g} A c e = grows T (walk→validates T (Finds T) (finds-agrees T) t p g e) A c
@@ -75,19 +77,24 @@ module _ (T : Table) where
   found-agrees a p A n none e = (refl, omega arith)
   found-agrees a p A n (some r) e = rw e refl
 
-  atomic-agrees : (a : RuleName) (p : ℕ) (A : List Cell) {ns : List ℕ} {g : List Goal} → Carry A ns g → Agrees (nodeWalk T (atomic a) A ns) (walk T (atomic a) p g) (walkOf (nodeAct T) (atomic a) p A ns)
+  -- an atomic adds at most eight cells
+  walked-cells : (t : Term) (p : ℕ) {g h : List Goal} (A : List Cell) {ns : List ℕ} → Carry A ns g → walk T t p g ≡ gives h → length (nodeWalk T t A ns .cells) ≤ length A + 8 * atomics t
+  walked-cells t p {g} A c e = omega (arith, walked t p A c e .count, walk-grows T few t p g e, carry-length c)
+
+  atomic-agrees : (a : RuleName) (p : ℕ) (A : List Cell) {ns : List ℕ} {g : List Goal} → length A + 8 ≤ mostNodes → Carry A ns g → Agrees (nodeWalk T (atomic a) A ns) (walk T (atomic a) p g) (walkOf (nodeAct T) (atomic a) p A ns)
   unfolding Agrees walk onOneGoal walkOf nodeAct onOneValue useNode number
-  atomic-agrees a p A Carry-None = (refl, omega arith)
-  atomic-agrees a p A (Carry-Node {n = n} l e Carry-None) =
-      rw (lt-ltb n (length A) l)
+  atomic-agrees a p A m Carry-None = (refl, omega arith)
+  atomic-agrees a p A m (Carry-Node {n = n} l e Carry-None) =
+      let k : length A + 7 < mostNodes = omega arith in
+      rw (lt-ltb n (length A) l, lt-ltb (length A + 7) mostNodes k)
       (subst (λ (δ : Goal). Agrees (nodeWalk T (atomic a) A (n ∷ [])) (premisesOr ruleMissing p (findRule T a δ)) (useFound a p A n (findRule T a (goalOf (cellAt A n))))) e (found-agrees a p A n _ refl))
-  atomic-agrees a p A (Carry-Node l e (Carry-Node m f c)) = (refl, omega arith)
+  atomic-agrees a p A m (Carry-Node l e (Carry-Node i f c)) = (refl, omega arith)
 
   id-agrees : (p : ℕ) (A : List Cell) {ns : List ℕ} {g : List Goal} → Carry A ns g → Agrees (nodeWalk T id A ns) (walk T id p g) (walkOf (nodeAct T) id p A ns)
   unfolding Agrees walk onOneGoal walkOf nodeAct onOneValue nodeWalk number
   id-agrees p A Carry-None = (refl, omega arith)
   id-agrees p A (Carry-Node l e Carry-None) = refl
-  id-agrees p A (Carry-Node l e (Carry-Node m f c)) = (refl, omega arith)
+  id-agrees p A (Carry-Node l e (Carry-Node i f c)) = (refl, omega arith)
 
   empty-agrees : (p : ℕ) (A : List Cell) {ns : List ℕ} {g : List Goal} → Carry A ns g → Agrees (nodeWalk T empty A ns) (walk T empty p g) (walkOf (nodeAct T) empty p A ns)
   unfolding Agrees walk onNoGoal walkOf nodeAct onNoNode nodeWalk number
@@ -126,16 +133,18 @@ module _ (T : Table) where
   unfolding Agrees number
   no-hiproof p x = (refl, omega arith)
 
-  pub agrees : (t : Term) (p : ℕ) (A : List Cell) (ns : List ℕ) (g : List Goal) → Carry A ns g → Agrees (nodeWalk T t A ns) (walk T t p g) (walkOf (nodeAct T) t p A ns)
-  unfolding walk walkOf nodeWalk nodeAct
-  agrees (atomic a) p A ns g c = atomic-agrees a p A c
-  agrees id p A ns g c = id-agrees p A c
-  agrees (label l s) p A ns g c = label-agrees s p A c (λ n γ d. agrees s (p + 5) A (n ∷ []) (γ ∷ []) d)
-  agrees (sequence s t) p A ns g c =
-      then-agrees (nodeWalk T s A ns) _ (walk T s (p + 3) g) (walkOf (nodeAct T) s (p + 3) A ns) (agrees s (p + 3) A ns g c) _ _ (λ h e.
-      agrees t (p + 3 + size s) (nodeWalk T s A ns .cells) (nodeWalk T s A ns .nodes) h (walked s (p + 3) A c e .carry))
-  agrees (tensor s t) p A ns g c = tensor-agrees s t p A c (agrees s (p + 3) A _ _ (carry-take (inputArity s) c)) (λ h e. agrees t (p + 3 + size s) _ _ _ (right-carry s p A c e))
-  agrees empty p A ns g c = empty-agrees p A c
-  agrees (alternation s t) p A ns g c = no-hiproof p _
-  agrees (assert γ) p A ns g c = no-hiproof p _
-  agrees (defined n) p A ns g c = no-hiproof p _
+  pub agrees : (t : Term) (p : ℕ) (A : List Cell) (ns : List ℕ) (g : List Goal) → length A + 8 * atomics t ≤ mostNodes → Carry A ns g → Agrees (nodeWalk T t A ns) (walk T t p g) (walkOf (nodeAct T) t p A ns)
+  unfolding walk walkOf nodeWalk nodeAct atomics
+  agrees (atomic a) p A ns g m c = atomic-agrees a p A m c
+  agrees id p A ns g m c = id-agrees p A c
+  agrees (label l s) p A ns g m c = label-agrees s p A c (λ n γ d. agrees s (p + 5) A (n ∷ []) (γ ∷ []) m d)
+  agrees (sequence s t) p A ns g m c =
+      then-agrees (nodeWalk T s A ns) _ (walk T s (p + 3) g) (walkOf (nodeAct T) s (p + 3) A ns) (agrees s (p + 3) A ns g (omega arith) c) _ _ (λ h e.
+      agrees t (p + 3 + size s) (nodeWalk T s A ns .cells) (nodeWalk T s A ns .nodes) h (omega (arith, walked-cells s (p + 3) A c e)) (walked s (p + 3) A c e .carry))
+  agrees (tensor s t) p A ns g m c =
+      let d = carry-take (inputArity s) c in
+      tensor-agrees s t p A c (agrees s (p + 3) A _ _ (omega arith) d) (λ h e. agrees t (p + 3 + size s) _ _ _ (omega (arith, walked-cells s (p + 3) A d e)) (right-carry s p A c e))
+  agrees empty p A ns g m c = empty-agrees p A c
+  agrees (alternation s t) p A ns g m c = no-hiproof p _
+  agrees (assert γ) p A ns g m c = no-hiproof p _
+  agrees (defined n) p A ns g m c = no-hiproof p _

@@ -29,7 +29,7 @@ use Rattle.walks.specs.Values.{valuesAt}
 use Rattle.walks.specs.Walks.{Out, out, onOneValue}
 use Rattle.walks.proofs.ValueLaws.{length-values, one-value}
 use Rattle.flattener.specs.declared.leaf.Acted.the-variants as A
-use Rattle.flattener.specs.Space.{cellPlace, cellsEnd, cellsOf, putUse, putOpens, putRange, grown}
+use Rattle.flattener.specs.Space.{mostNodes, cellPlace, cellsEnd, cellsOf, putUse, putOpens, putRange, grown}
 use Rattle.flattener.specs.NodeActs.{useFound, useNode, onNoNode, nodeAct}
 use Rattle.flattener.specs.Leaves.{LeafRoom, actIn, Given, Acts}
 use Rattle.flattener.proofs.RowLaws.{kept-range, nodes-range}
@@ -86,18 +86,22 @@ module _ (T : Table) (a : RuleName) (at : ℕ) (w : List ℕ) (n : Next) (next :
   goal-there : node < next → goalOf (cellAt A₀ node) ≡ goalHere
   goal-there h = ap goalOf (cell-of next w node h) ∙ goal-in w (cellPlace node)
 
-  module _ (one : n .count ≡ 1) (there : node < next) where
+  module _ (one : n .count ≡ 1) (nodeFits : (node < next) × (next + 8 ≤ mostNodes)) where
+    there : node < next
+    there = nodeFits .0
+
     looked-up : actIn T (atomic a) at w n next ≡ useFound a at A₀ node (findRule T a goalHere)
     unfolding nodeAct onOneValue useNode
     looked-up =
         let l : node < length A₀ = omega (arith, length-cells next w indexEnd) in
-        rw (one-value w (n .top) (n .count) one, lt-ltb node (length A₀) l, goal-there there)
+        let m : length A₀ + 7 < mostNodes = omega (arith, nodeFits .1, length-cells next w indexEnd) in
+        rw (one-value w (n .top) (n .count) one, lt-ltb node (length A₀) l, lt-ltb (length A₀ + 7) mostNodes m, goal-there there)
 
     pub atomic-missing : (w′ : List ℕ) → findRule T a goalHere ≡ none → Acts T (atomic a) at w w′ n next A.Refused
     unfolding Acts useFound number
     atomic-missing w′ e = (ruleMissing, refl, looked-up ∙ ap (useFound a at A₀ node) e)
 
-    module _ (h : List Goal) (found : findRule T a goalHere ≡ some (foundRule h)) (few : length h ≤ 8) (room : LeafRoom w n next 1) where
+    module _ (h : List Goal) (found : findRule T a goalHere ≡ some (foundRule h)) (few : length h ≤ 8) (room : LeafRoom w n 1) where
       abbrev k : ℕ
       k = length h
 
@@ -119,7 +123,7 @@ module _ (T : Table) (a : RuleName) (at : ℕ) (w : List ℕ) (n : Next) (next :
       kept-cells : Kept w w₂ indexEnd cellsEnd
       kept-cells =
           kept-both w w₁ w₂ (cellPlace node) (cellPlace node + 8) (cellPlace next) (cellPlace (next + k)) indexEnd cellsEnd (kept-use w node (a .0) next k) (kept-opens h w₁ next)
-          (omega arith) (omega arith) (omega (arith, room .nodes)) (omega (arith, room .nodes))
+          (omega arith) (omega arith) (omega (arith, nodeFits)) (omega (arith, nodeFits))
 
       kept-stacks : Kept w₂ w₃ (n .low) (n .top + n .count * 2)
       kept-stacks =
@@ -129,8 +133,8 @@ module _ (T : Table) (a : RuleName) (at : ℕ) (w : List ℕ) (n : Next) (next :
       made-cells : cellsOf w₃ (next + k) ≡ set A₀ node (useCell a goalHere next k) ++ map openCell h
       made-cells =
           cells-above w₂ w₃ (n .low) (n .top + n .count * 2) (next + k) kept-stacks (omega (arith, room .below))
-          ∙ cells-opens h w₁ next (omega (arith, room .nodes, room .space, l₁))
-          ∙ ap (λ (B : List Cell). B ++ map openCell h) (cells-use w node (a .0) next k (omega (arith, room .nodes, room .space)) next there)
+          ∙ cells-opens h w₁ next (omega (arith, nodeFits, room .space, l₁))
+          ∙ ap (λ (B : List Cell). B ++ map openCell h) (cells-use w node (a .0) next k (omega (arith, nodeFits, room .space)) next there)
 
       made-nodes : valuesAt w₃ (n .low) k ≡ range next k
       made-nodes = nodes-range k w₂ (n .low) next (omega (arith, room .apart, room .below, room .space, l₂))
@@ -150,7 +154,6 @@ module _ (T : Table) (a : RuleName) (at : ℕ) (w : List ℕ) (n : Next) (next :
         outcome = outcome;
         uses-are = refl;
         few = omega (arith, one);
-        few-nodes = omega arith;
       }
 
       -- the same in the code's words
@@ -162,7 +165,7 @@ module _ (T : Table) (a : RuleName) (at : ℕ) (w : List ℕ) (n : Next) (next :
 
 -- ---- an id
 
-pub id-gives : (T : Table) (at : ℕ) (w w′ : List ℕ) (n : Next) (next v : ℕ) → LeafRoom w n next 0 → n .count ≡ 1 → v ≡ word w (n .top) → w′ ≡ putWord w (n .low) v → Acts T id at w w′ n next (A.Gives 1 0 next)
+pub id-gives : (T : Table) (at : ℕ) (w w′ : List ℕ) (n : Next) (next v : ℕ) → LeafRoom w n 0 → n .count ≡ 1 → v ≡ word w (n .top) → w′ ≡ putWord w (n .low) v → Acts T id at w w′ n next (A.Gives 1 0 next)
 unfolding Acts nodeAct onOneValue atomics
 id-gives T at w w′ n next v room one e made = rw made (record {
   between = w;
@@ -171,7 +174,6 @@ id-gives T at w w′ n next v room one e made = rw made (record {
   outcome = rw (cells-above w x (n .low) (n .top + n .count * 2) next k (omega (arith, room .below)), one-value w (n .top) (n .count) one, one-value x (n .low) 1 refl, word-same w (n .low) v (omega (arith, room .apart, room .below, room .space)), e);
   uses-are = refl;
   few = omega (arith, one);
-  few-nodes = omega arith;
 })
   where
     x : List ℕ
@@ -191,5 +193,4 @@ empty-gives T at w n next z = record {
   outcome = rw z;
   uses-are = refl;
   few = omega arith;
-  few-nodes = omega arith;
 }

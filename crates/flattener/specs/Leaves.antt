@@ -3,6 +3,7 @@ use Prim.Native.Nat.{ℕ, _+_, _*_, _≤_, _<_}
 use mathlib.Core.Path.{_≡_}
 use mathlib.Core.List.{List}
 use lib.ListN.{length}
+use Rattle.words.specs.Word.{word}
 use Rattle.words.specs.Kept.{Kept}
 use Rattle.format.specs.Refusals.{Cause, number}
 use Rattle.format.specs.Results.{Result, gives, refused}
@@ -18,12 +19,15 @@ use Rattle.flattener.specs.declared.leaf.Acted.the-variants as A
 use Rattle.flattener.specs.Space.{mostNodes, cellsEnd, cellsOf}
 use Rattle.flattener.specs.NodeActs.{nodeAct}
 
--- room for what so many uses give and make
-pub record LeafRoom (w : List ℕ) (n : Next) (next uses : ℕ) : Type 0 where
+-- room for what so many uses give
+pub record LeafRoom (w : List ℕ) (n : Next) (uses : ℕ) : Type 0 where
   pub apart : n .low + 14 * uses ≤ n .top
   pub below : n .top + n .count * 2 ≤ stackEnd
-  pub nodes : next + 8 * uses ≤ mostNodes
   pub space : cellsEnd ≤ length w
+
+-- where there is one node, it is there, and there is room for its premises
+abbrev pub NodeRoom : List ℕ → Next → (next : ℕ) → Type 0
+NodeRoom w n next = n .count ≡ 1 → (word w (n .top) < next) × (next + 8 ≤ mostNodes)
 
 -- what the term comes to on its nodes, where so many cells are made
 abbrev pub actIn : Table → Term → (at : ℕ) → List ℕ → Next → (next : ℕ) → Result Out
@@ -37,7 +41,6 @@ pub record Given (T : Table) (t : Term) (at : ℕ) (w w′ : List ℕ) (n : Next
   pub outcome : actIn T t at w n next ≡ gives (out (cellsOf w′ made) (valuesAt w′ (n .low) given))
   pub uses-are : uses ≡ atomics t
   pub few : given ≤ n .count + 7 * uses
-  pub few-nodes : made ≤ next + 8 * uses
 
 -- the code's answer: 20 at the term's place, or what it gave
 unfoldable pub Acts : Table → Term → (at : ℕ) → (w w′ : List ℕ) → Next → (next : ℕ) → Acted → Type 0

@@ -1,6 +1,6 @@
 -- What a term without inner terms does to nodes, with its refusals: as the walk of hitac over goals, with nodes for goals.
-use Prim.Native.Nat.{ℕ}
-use mathlib.Core.Bool.{cond}
+use Prim.Native.Nat.{ℕ, _+_}
+use mathlib.Core.Bool.{Bool, cond, _&&_}
 use mathlib.Core.Option.{Option, none, some}
 use mathlib.Core.List.{List, [], _∷_}
 use lib.Dec.{ltb}
@@ -13,6 +13,7 @@ use Rattle.tables.specs.Tables.{Table}
 use Rattle.tables.specs.Lookup.{FoundRule, findRule}
 use Rattle.hitac.proofs.Nodes.{Cell, cellAt, goalOf, NodeWalk, markUse}
 use Rattle.walks.specs.Walks.{Out, out, Act, onOneValue}
+use Rattle.flattener.specs.Space.{mostNodes}
 
 abbrev pub outOf : NodeWalk → Out
 outOf x = out (x .cells) (x .nodes)
@@ -22,9 +23,13 @@ unfoldable pub useFound : RuleName → (place : ℕ) → List Cell → (node : �
 useFound a p A n none = refused ruleMissing p
 useFound a p A n (some r) = gives (outOf (markUse a A n (goalOf (cellAt A n)) (r .premises)))
 
--- No walk comes to a node that is not there: a cause that no term has says so.
+-- the node is there, and there is room for eight more
+abbrev pub fits : List Cell → (node : ℕ) → Bool
+fits A n = ltb n (length A) && ltb (length A + 7) mostNodes
+
+-- No walk comes to a node that does not fit: a cause that no term has says so.
 unfoldable pub useNode : Table → RuleName → (place : ℕ) → List Cell → (node : ℕ) → Result Out
-useNode T a p A n = cond (ltb n (length A)) (useFound a p A n (findRule T a (goalOf (cellAt A n)))) (refused inputTooLong p)
+useNode T a p A n = cond (fits A n) (useFound a p A n (findRule T a (goalOf (cellAt A n)))) (refused inputTooLong p)
 
 unfoldable pub onNoNode : (place : ℕ) → List Cell → List ℕ → Result Out
 onNoNode p A [] = gives (out A [])

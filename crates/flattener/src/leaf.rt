@@ -12,7 +12,7 @@ ghost use Rattle.tables.specs.Standing.{TableStands};
 ghost use Rattle.index.specs.Build.{RulesIndexed};
 ghost use Rattle.walks.specs.Layout.{aritiesEnd};
 ghost use Rattle.flattener.specs.Space.{mostNodes, cellsEnd, grown};
-ghost use Rattle.flattener.specs.Leaves.{LeafRoom, Acts};
+ghost use Rattle.flattener.specs.Leaves.{LeafRoom, NodeRoom, Acts};
 use crate::nodes::CELLS;
 use crate::nodes::put_opens;
 use crate::nodes::put_range;
@@ -62,7 +62,7 @@ fn use_rule(
     n: Next,
     next: usize,
 ) -> Acted
-    requires { ⌜ ((T : Table) × TableStands (now table) first T) × RulesIndexed (now table) first (now work) aritiesEnd × (at + 4 < length (now proof)) × LeafRoom (now work) n next 1 × (n .count ≡ 1 → word (now work) (n .top) < next) ⌝ }
+    requires { ⌜ ((T : Table) × TableStands (now table) first T) × RulesIndexed (now table) first (now work) aritiesEnd × (at + 4 < length (now proof)) × LeafRoom (now work) n 1 × NodeRoom (now work) n next ⌝ }
     ensures { λ r. ⌜ ((T : Table) → TableStands (now (table .entry)) first T → Acts T (atomic (ruleName (word (now (proof .entry)) (at + 3)))) at (now (work .entry)) (now (work .exit)) n next r) ⌝ }
 {
     if n.count != 1 {
@@ -84,7 +84,7 @@ fn use_rule(
 
 // An id: one node, given back.
 fn keep_node(work: &mut [u8], n: Next, next: usize) -> Acted
-    requires { ⌜ LeafRoom (now work) n next 0 ⌝ }
+    requires { ⌜ LeafRoom (now work) n 0 ⌝ }
     ensures { λ r. ⌜ ((T : Table) (at : ℕ) → Acts T id at (now (work .entry)) (now (work .exit)) n next r) ⌝ }
 {
     if n.count != 1 {

@@ -17,7 +17,7 @@ use Rattle.tables.specs.Tables.{Table}
 use Rattle.tables.specs.Lookup.{foundRule, findRule}
 use Rattle.tables.specs.Found.{ruleFound, FoundInside}
 use Rattle.tables.specs.Standing.{TableStands}
-use Rattle.flattener.specs.Space.{cellPlace}
+use Rattle.flattener.specs.Space.{mostNodes, cellPlace}
 use Rattle.flattener.proofs.LeafLaws.{atomic-count, node, goalHere, found-by, atomic-missing, atomic-gives}
 use Rattle.flattener.proofs.leaf.use_rule.Statement.{statement}
 use Rattle.flattener.proofs.leaf.use_rule.Tie as tie
@@ -37,18 +37,21 @@ add-rule-name-at c = search needs
 rule-name-at-requires : tie.Need-rule-name-at-requires
 rule-name-at-requires c κs = search needs
 
--- the node that is read is one of those made
-there : (c : tie.After-load16) → c .load16 .result < (c .before .before .before .before .before .before .before) .args .next
-there c = let i = c .before .before .before .before .before .before .before in omega (arith, c .load16 .ensures, i .pre .4 (c .before .before .if1 .left))
+-- the node that is read is one of those made, and there is room for its premises
+there : (c : tie.After-load16) → let i = c .before .before .before .before .before .before .before in (c .load16 .result < i .args .next) × (i .args .next + 8 ≤ mostNodes)
+there c =
+    let i = c .before .before .before .before .before .before .before in
+    let f = i .pre .4 (c .before .before .if1 .left) in
+    (omega (arith, c .load16 .ensures, f .0), f .1)
 
 mul-goal-at : tie.Need-mul-goal-at
-mul-goal-at c = let i = c .before .before .before .before .before .before .before .before .before in omega (arith, there (c .before .before), i .pre .3 .nodes)
+mul-goal-at c = omega (arith, there (c .before .before))
 
 add-goal-at : tie.Need-add-goal-at
-add-goal-at c = let i = c .before .before .before .before .before .before .before .before .before in omega (arith, there (c .before .before), i .pre .3 .nodes)
+add-goal-at c = omega (arith, there (c .before .before))
 
 goal-at-requires : tie.Need-goal-at-requires
-goal-at-requires c κs = let i = c .before .before .before .before .before .before .before .before .before in omega (arith, there (c .before .before), i .pre .3 .nodes, i .pre .3 .space)
+goal-at-requires c κs = let i = c .before .before .before .before .before .before .before .before .before in omega (arith, there (c .before .before), i .pre .3 .space)
 
 find-rule-requires : tie.Need-find-rule-requires
 find-rule-requires c κs = let i = c .before .before .before .before .before .before .before .before .before .before .before in (i .pre .0, i .pre .1)
@@ -83,14 +86,14 @@ unfolding ruleFound
 premises c T st = looked (c .before .before .before) T st ∙ ap (ruleFound (now ((c .before .before .before .before .before .before .before .before .before .before .before .before .before .before .before) .args .table))) (c .before .found .given .1)
 
 add-made : tie.Need-add-made
-add-made c = omega (arith, (c .before .before .before .before .before .before .before .before .before .before .before .before .before .before .before) .pre .3 .nodes, inside c)
+add-made c = omega (arith, there (c .before .before .before .before .before .before .before .before), inside c)
 
 grow-requires : tie.Need-grow-requires
 grow-requires c κs =
     let i = c .before .before .before .before .before .before .before .before .before .before .before .before .before .before .before .before in
     let d = c .before in
     let r = i .pre .3 in
-    (there (c .before .before .before .before .before .before .before .before .before), omega (arith, r .nodes, inside d), inside d .1, omega (arith, r .apart, r .below, inside d), r .space)
+    (there (c .before .before .before .before .before .before .before .before .before) .0, omega (arith, there (c .before .before .before .before .before .before .before .before .before), inside d), inside d .1, omega (arith, r .apart, r .below, inside d), r .space)
 
 same-length : tie.Need-same-length
 same-length c = search needs
@@ -99,8 +102,7 @@ returns-2 : tie.Need-returns-2
 unfolding ruleFound
 returns-2 c =
     let i = c .before .before .before .before .before .before .before .before .before .before .before .before .before .before in
-    let n = c .before .before .before .before .before .before .before in
-    λ T st. atomic-missing T _ _ _ _ _ (c .before .before .before .before .before .before .before .before .before .if1 .left) (omega (arith, there n, n .load16 .ensures)) _
+    λ T st. atomic-missing T _ _ _ _ _ (c .before .before .before .before .before .before .before .before .before .if1 .left) (i .pre .4 (c .before .before .before .before .before .before .before .before .before .if1 .left)) _
     (looked (c .before .before) T st ∙ ap (ruleFound (now (i .args .table))) (c .enum-told .given .1))
 
 same-length-2 : tie.Need-same-length-2
@@ -112,7 +114,7 @@ returns-3 c =
     let d = c .before .before .before .before in
     let n = c .before .before .before .before .before .before .before .before .before .before .before .before in
     let l = length-goalsAt (d .before .found .given .0 .1 .0) (now (i .args .table)) (d .before .found .given .0 .0) in
-    λ T st. atomic-gives T _ _ _ _ _ (c .before .before .before .before .before .before .before .before .before .before .before .before .before .before .if1 .left) (omega (arith, there n, n .load16 .ensures)) (goalsAt (now (i .args .table)) (d .before .found .given .0 .0) (d .before .found .given .0 .1 .0)) (premises d T st) (omega (arith, l, inside d)) (i .pre .3)
+    λ T st. atomic-gives T _ _ _ _ _ (c .before .before .before .before .before .before .before .before .before .before .before .before .before .before .if1 .left) (i .pre .4 (c .before .before .before .before .before .before .before .before .before .before .before .before .before .before .if1 .left)) (goalsAt (now (i .args .table)) (d .before .found .given .0 .0) (d .before .found .given .0 .1 .0)) (premises d T st) (omega (arith, l, inside d)) (i .pre .3)
     _ _ _ (n .load16 .ensures) (c .before .before .before .before .before .before .before .before .before .before .before .rule-name-at .ensures) (c .before .before .grow .ensures) _ l
 
 pub use-rule-spec : {M : Type 1} → statement M
