@@ -1,8 +1,8 @@
 -- Where a walk stands: the whole walk comes to what the terms that wait make of the current term's walk. The cells made so far are passed on as they are; where they lie is the flattener's own.
-use Prim.Native.Nat.{ℕ, _+_, _*_, _≤_}
+use Prim.Native.Nat.{ℕ, _+_, _*_, _-_, _≤_}
 use mathlib.Core.Path.{_≡_}
 use mathlib.Core.List.{List}
-use lib.ListN.{length}
+use lib.ListN.{length, getD}
 use Rattle.words.specs.Kept.{Kept}
 use Rattle.format.specs.Limits.{mostBytes, mostTermFields}
 use Rattle.format.specs.Refusals.{Cause, number}
@@ -62,6 +62,21 @@ Gave act x A s w at low given end frames arity uses = (f : List Waiting) × Gave
 -- the term at another place is to begin, with all else the same: how a term is named without the labels around it
 abbrev pub placed : Next → (at : ℕ) → Next
 placed n at = record { at = at; count = n .count; low = n .low; top = n .top; frames = n .frames; arity = n .arity; uses = n .uses }
+
+-- the walk's first term, on so many values, with nothing begun
+abbrev pub startOf : (at count : ℕ) → Next
+startOf at count = record { at = at; count = count; low = 0; top = stackEnd - count * 2; frames = stackEnd; arity = framesEnd; uses = 0 }
+
+-- a field with a tag that is no label's, no sequence's and no tensor's
+abbrev pub Leaf : List ℕ → (at : ℕ) → Type 0
+Leaf s at = (getD s at 0 ≡ 18 → ⊥) × (getD s at 0 ≡ 19 → ⊥) × (getD s at 0 ≡ 20 → ⊥)
+
+-- A term acted in a work space w, with the cells A, and left w′ and A′: so many values given, at most seven more than taken for an atomic, and so many uses.
+pub record Acted (act : Act) (A A′ : List Cell) (w w′ : List ℕ) (n : Next) (t : Term) (given used : ℕ) : Type 0 where
+  pub comes : act t (n .at) A (valuesAt w (n .top) (n .count)) ≡ gives (out A′ (valuesAt w′ (n .low) given))
+  pub used-is : used ≡ atomics t
+  pub few : given ≤ n .count + 7 * used
+  pub kept : Kept w w′ (n .low) (n .top + n .count * 2)
 
 -- how a step ended that left the work space w: at the walk's end, or at the next term, which is not before the place `at`
 unfoldable pub Turned : Act → Aim → List Cell → List ℕ → List ℕ → (at : ℕ) → Turn → Type 0

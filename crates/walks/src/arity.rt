@@ -49,6 +49,14 @@ fn next_at(s: &[u8], at: usize) -> usize
     at + 3 + load16(s, at + 1) as usize
 }
 
+// The place behind the first inner term of the field at a place.
+fn second_at(s: &[u8], at: usize) -> usize
+    requires { ⌜ at + 5 < length (now s) ⌝ }
+    ensures { λ r. ⌜ r ≡ at + 6 + word (now (s .entry)) (at + 4) ⌝ }
+{
+    at + 6 + load16(s, at + 4) as usize
+}
+
 // The arity of the term at a place, where those of its inner terms are noted.
 fn arity_of(s: &[u8], at: usize, work: &[u8]) -> usize
     requires { ⌜ ((t : Term) × (g : List Term) × Stands (now s) at t × Owns (now work) (at + width t) (after t g) × (slot (at + size t) ≤ length (now work)) × (at + size t ≤ 65535)) ⌝ }
@@ -59,7 +67,7 @@ fn arity_of(s: &[u8], at: usize, work: &[u8]) -> usize
         return noted(work, at + 3);
     }
     if tag == 20 {
-        let next = at + 6 + load16(s, at + 4) as usize;
+        let next = second_at(s, at);
         let left = noted(work, at + 3);
         let right = noted(work, next);
         return left + right;

@@ -1,15 +1,33 @@
-// A sequence or a tensor begins: it waits for its left term, which is next. Both are handed the term's own place beside the state, which may name a label around it.
+// The walk's first term, and a sequence or a tensor that begins: it waits for its left term, which is next. Its own place is handed over beside the state, which may name a label around it.
 ghost use mathlib.Core.Path.{_≡_};
 ghost use mathlib.Core.List.{List};
-ghost use Prim.Native.Nat.{ℕ, _+_};
+ghost use Prim.Native.Nat.{ℕ, _+_, _≤_};
 ghost use lib.ListN.{getD};
 ghost use Rattle.hitac.proofs.Nodes.{Cell};
 ghost use Rattle.walks.specs.Walks.{Act};
-ghost use Rattle.walks.specs.Loops.{Aim, Roomy, placed, Begins, Steps};
+ghost use Rattle.walks.specs.Loops.{Aim, Roomy, Begins, placed, startOf, Steps};
+use crate::layout::FRAMES_END;
+use crate::layout::STACK_END;
 use crate::state::Next;
 use crate::state::Turn;
 use crate::waiting::push;
 use words::load16;
+
+// The walk begins with the term at a place, on so many values at the end of the stacks.
+pub fn start(at: usize, count: usize) -> Next
+    requires { ⌜ count ≤ 256 ⌝ }
+    ensures { λ r. ⌜ r ≡ startOf at count ⌝ }
+{
+    Next {
+        at,
+        count,
+        low: 0,
+        top: STACK_END - count * 2,
+        frames: STACK_END,
+        arity: FRAMES_END,
+        uses: 0,
+    }
+}
 
 // A sequence's left term takes all of its values.
 pub fn begin_sequence(work: &mut [u8], n: Next, at: usize) -> Turn
