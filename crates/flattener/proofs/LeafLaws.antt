@@ -1,12 +1,14 @@
 -- One law for each way in which a term without inner terms returns, by the cases of what it does to nodes.
 -- Assumes nothing.
 use mathlib.Core.Path.{_≡_, refl, sym, subst, ap, ap₂, _∙_}
+use mathlib.Core.Bool.{Bool, true, false}
 use mathlib.Core.Option.{Option, none, some}
 use mathlib.Core.List.{List, [], _∷_, _++_, map}
 use Prim.Native.Nat.{ℕ, zero, suc, _+_, _*_, _≤_, _<_}
 use native.Mathlib.Omega.{arith}
-use lib.ListN.{length, set}
-use borrow.Author.Tests.{lt-ltb}
+use lib.Dec.{ltb}
+use lib.ListN.{length, set, getD}
+use borrow.Author.Tests.{lt-ltb, ltb-true}
 use Rattle.words.specs.Word.{word, putWord}
 use Rattle.words.specs.Kept.{Kept}
 use Rattle.words.proofs.WordLaws.{word-same}
@@ -16,9 +18,12 @@ use Rattle.format.specs.declared.values.Goal.{Goal}
 use Rattle.format.specs.Refusals.{number, ruleMissing, goalCountWrong}
 use Rattle.format.specs.Results.{Result, gives, refused}
 use Rattle.format.specs.Values.{ruleName, goal}
-use Rattle.format.specs.Terms.{Term, atomic, id, empty}
+use Rattle.format.specs.Terms.{Term, atomic, id, label, sequence, tensor, empty, alternation, assert, defined}
+use Rattle.format.specs.Standing.{Stands}
 use Rattle.format.specs.Goals.{goalsAt}
 use Rattle.format.proofs.GoalsLaws.{length-goalsAt}
+use Rattle.format.proofs.StandsLaws.{tagOf, known}
+use Rattle.format.proofs.ByTag.{by-tag}
 use Rattle.tables.specs.Tables.{Table}
 use Rattle.tables.specs.Lookup.{foundRule, findRule}
 use Rattle.hitac.specs.Hiproofs.{atomics}
@@ -27,11 +32,13 @@ use Rattle.walks.specs.declared.state.Next.{Next}
 use Rattle.walks.specs.Layout.{indexEnd}
 use Rattle.walks.specs.Values.{valuesAt}
 use Rattle.walks.specs.Walks.{Out, out, onOneValue}
-use Rattle.walks.proofs.ValueLaws.{length-values, one-value}
-use Rattle.flattener.specs.declared.leaf.Acted.the-variants as A
+use Rattle.walks.specs.Loops.{Leaf}
+use Rattle.walks.proofs.ValueLaws.{length-values, values-below, one-value}
+use Rattle.flattener.specs.declared.leaf.Taken.{Taken}
+use Rattle.flattener.specs.declared.leaf.Taken.the-variants as A
 use Rattle.flattener.specs.Space.{mostNodes, cellPlace, cellsEnd, cellsOf, putUse, putOpens, putRange, grown}
 use Rattle.flattener.specs.NodeActs.{useFound, useNode, onNoNode, nodeAct}
-use Rattle.flattener.specs.Leaves.{LeafRoom, actIn, Given, Acts}
+use Rattle.flattener.specs.Leaves.{LeafRoom, NodeRoom, actIn, Fitting, Given, Takes}
 use Rattle.flattener.proofs.RowLaws.{kept-range, nodes-range}
 use Rattle.flattener.proofs.CellLaws.{goal-in, length-cells, cell-of, cells-above, length-use, kept-use, cells-use, length-opens, kept-opens, cells-opens}
 
@@ -49,16 +56,16 @@ some-node p A [] z = absurd (z refl)
 some-node p A (n ∷ ns) z = refl
 
 module _ (T : Table) (at : ℕ) (w w′ : List ℕ) (n : Next) (next : ℕ) where
-  pub atomic-count : (a : RuleName) → (n .count ≡ 1 → ⊥) → Acts T (atomic a) at w w′ n next A.Refused
-  unfolding Acts nodeAct number
+  pub atomic-count : (a : RuleName) → (n .count ≡ 1 → ⊥) → Takes T (atomic a) at w w′ n next A.Refused
+  unfolding Takes nodeAct number
   atomic-count a z = (goalCountWrong, refl, not-one at _ (valuesAt w (n .top) (n .count)) (λ e. z (sym (length-values w (n .top) (n .count)) ∙ e)))
 
-  pub id-count : (n .count ≡ 1 → ⊥) → Acts T id at w w′ n next A.Refused
-  unfolding Acts nodeAct number
+  pub id-count : (n .count ≡ 1 → ⊥) → Takes T id at w w′ n next A.Refused
+  unfolding Takes nodeAct number
   id-count z = (goalCountWrong, refl, not-one at _ (valuesAt w (n .top) (n .count)) (λ e. z (sym (length-values w (n .top) (n .count)) ∙ e)))
 
-  pub empty-count : (n .count ≡ 0 → ⊥) → Acts T empty at w w′ n next A.Refused
-  unfolding Acts nodeAct number
+  pub empty-count : (n .count ≡ 0 → ⊥) → Takes T empty at w w′ n next A.Refused
+  unfolding Takes nodeAct number
   empty-count z = (goalCountWrong, refl, some-node at _ (valuesAt w (n .top) (n .count)) (λ e. z (sym (length-values w (n .top) (n .count)) ∙ e)))
 
 -- ---- an atomic
@@ -97,8 +104,8 @@ module _ (T : Table) (a : RuleName) (at : ℕ) (w : List ℕ) (n : Next) (next :
         let m : length A₀ + 7 < mostNodes = omega (arith, nodeFits .1, length-cells next w indexEnd) in
         rw (one-value w (n .top) (n .count) one, lt-ltb node (length A₀) l, lt-ltb (length A₀ + 7) mostNodes m, goal-there there)
 
-    pub atomic-missing : (w′ : List ℕ) → findRule T a goalHere ≡ none → Acts T (atomic a) at w w′ n next A.Refused
-    unfolding Acts useFound number
+    pub atomic-missing : (w′ : List ℕ) → findRule T a goalHere ≡ none → Takes T (atomic a) at w w′ n next A.Refused
+    unfolding Takes useFound number
     atomic-missing w′ e = (ruleMissing, refl, looked-up ∙ ap (useFound a at A₀ node) e)
 
     module _ (h : List Goal) (found : findRule T a goalHere ≡ some (foundRule h)) (few : length h ≤ 8) (room : LeafRoom w n 1) where
@@ -125,6 +132,9 @@ module _ (T : Table) (a : RuleName) (at : ℕ) (w : List ℕ) (n : Next) (next :
           kept-both w w₁ w₂ (cellPlace node) (cellPlace node + 8) (cellPlace next) (cellPlace (next + k)) indexEnd cellsEnd (kept-use w node (a .0) next k) (kept-opens h w₁ next)
           (omega arith) (omega arith) (omega (arith, nodeFits)) (omega (arith, nodeFits))
 
+      same-values : valuesAt w₂ (n .top) (n .count) ≡ valuesAt w (n .top) (n .count)
+      same-values = values-below w w₂ indexEnd cellsEnd (n .top) (n .count) kept-cells (omega (arith, room .below))
+
       kept-stacks : Kept w₂ w₃ (n .low) (n .top + n .count * 2)
       kept-stacks =
           kept-both w₂ w₃ w₃ (n .low) (n .low + k * 2) (n .low) (n .low + k * 2) (n .low) (n .top + n .count * 2) (kept-range k w₂ (n .low) next) (kept-same w₃ (n .low) (n .low + k * 2))
@@ -150,30 +160,24 @@ module _ (T : Table) (a : RuleName) (at : ℕ) (w : List ℕ) (n : Next) (next :
       grown-gives = record {
         between = w₂;
         in-cells = kept-cells;
-        on-stacks = kept-stacks;
-        outcome = outcome;
-        uses-are = refl;
-        few = omega (arith, one);
+        acted = record { comes = ap (nodeAct T (atomic a) at A₀) same-values ∙ outcome; used-is = refl; few = omega (arith, one); kept = kept-stacks };
       }
 
       -- the same in the code's words
-      pub atomic-gives : (w′ : List ℕ) (i j : ℕ) → i ≡ node → j ≡ a .0 → w′ ≡ grown w i j next h (n .low) → (c : ℕ) → length h ≡ c → Acts T (atomic a) at w w′ n next (A.Gives c 1 (next + c))
-      unfolding Acts
+      pub atomic-gives : (w′ : List ℕ) (i j : ℕ) → i ≡ node → j ≡ a .0 → w′ ≡ grown w i j next h (n .low) → (c : ℕ) → length h ≡ c → Takes T (atomic a) at w w′ n next (A.Gives c 1 (next + c))
+      unfolding Takes
       atomic-gives w′ i j p q made c l =
           subst (λ (d : ℕ). Given T (atomic a) at w w′ n next d 1 (next + d)) l
           (subst (λ (v : List ℕ). Given T (atomic a) at w v n next k 1 (next + k)) (sym (made ∙ ap₂ (λ (x y : ℕ). grown w x y next h (n .low)) p q)) grown-gives)
 
 -- ---- an id
 
-pub id-gives : (T : Table) (at : ℕ) (w w′ : List ℕ) (n : Next) (next v : ℕ) → LeafRoom w n 0 → n .count ≡ 1 → v ≡ word w (n .top) → w′ ≡ putWord w (n .low) v → Acts T id at w w′ n next (A.Gives 1 0 next)
-unfolding Acts nodeAct onOneValue atomics
+pub id-gives : (T : Table) (at : ℕ) (w w′ : List ℕ) (n : Next) (next v : ℕ) → LeafRoom w n 0 → n .count ≡ 1 → v ≡ word w (n .top) → w′ ≡ putWord w (n .low) v → Takes T id at w w′ n next (A.Gives 1 0 next)
+unfolding Takes nodeAct onOneValue atomics
 id-gives T at w w′ n next v room one e made = rw made (record {
   between = w;
   in-cells = kept-same w indexEnd cellsEnd;
-  on-stacks = k;
-  outcome = rw (cells-above w x (n .low) (n .top + n .count * 2) next k (omega (arith, room .below)), one-value w (n .top) (n .count) one, one-value x (n .low) 1 refl, word-same w (n .low) v (omega (arith, room .apart, room .below, room .space)), e);
-  uses-are = refl;
-  few = omega (arith, one);
+  acted = record { comes = rw (cells-above w x (n .low) (n .top + n .count * 2) next k (omega (arith, room .below)), one-value w (n .top) (n .count) one, one-value x (n .low) 1 refl, word-same w (n .low) v (omega (arith, room .apart, room .below, room .space)), e); used-is = refl; few = omega (arith, one); kept = k };
 })
   where
     x : List ℕ
@@ -184,13 +188,64 @@ id-gives T at w w′ n next v room one e made = rw made (record {
 
 -- ---- empty
 
-pub empty-gives : (T : Table) (at : ℕ) (w : List ℕ) (n : Next) (next : ℕ) → n .count ≡ 0 → Acts T empty at w w n next (A.Gives 0 0 next)
-unfolding Acts nodeAct onNoNode atomics goalsAt
+pub empty-gives : (T : Table) (at : ℕ) (w : List ℕ) (n : Next) (next : ℕ) → n .count ≡ 0 → Takes T empty at w w n next (A.Gives 0 0 next)
+unfolding Takes nodeAct onNoNode atomics goalsAt
 empty-gives T at w n next z = record {
   between = w;
   in-cells = kept-same w indexEnd cellsEnd;
-  on-stacks = kept-same w (n .low) (n .top + n .count * 2);
-  outcome = rw z;
-  uses-are = refl;
-  few = omega arith;
+  acted = record { comes = rw z; used-is = refl; few = omega arith; kept = kept-same w (n .low) (n .top + n .count * 2) };
 }
+
+-- ---- by the tag
+
+-- no term without inner terms that is none of the three can take its nodes
+module _ (T : Table) (at : ℕ) (w : List ℕ) (n : Next) (next : ℕ) (s : List ℕ) where
+  pub other-refused : (getD s at 0 ≡ 16 → ⊥) → (getD s at 0 ≡ 17 → ⊥) → (getD s at 0 ≡ 21 → ⊥) → Leaf s at → (t : Term) → Stands s at t → Takes T t at w w n next A.Refused
+  unfolding Takes nodeAct number tagOf
+  other-refused a b c l (atomic x) st = absurd (a (known s at (atomic x) st .tag-is))
+  other-refused a b c l id st = absurd (b (known s at id st .tag-is))
+  other-refused a b c l (label x t) st = absurd (l .0 (known s at (label x t) st .tag-is))
+  other-refused a b c l (sequence t u) st = absurd (l .1 (known s at (sequence t u) st .tag-is))
+  other-refused a b c l (tensor t u) st = absurd (l .2 (known s at (tensor t u) st .tag-is))
+  other-refused a b c l empty st = absurd (c (known s at empty st .tag-is))
+  other-refused a b c l (alternation t u) st = (goalCountWrong, refl, refl)
+  other-refused a b c l (assert γ) st = (goalCountWrong, refl, refl)
+  other-refused a b c l (defined x) st = (goalCountWrong, refl, refl)
+
+  -- an atomic by the name that stands in the file
+  abbrev named : RuleName
+  named = ruleName (word s (at + 3))
+
+  node-fits : (a : RuleName) → Fitting T (atomic a) at w n next → NodeRoom w n next
+  unfolding nodeAct onOneValue useNode
+  node-fits a f one = go (ltb (word w (n .top)) (length (cellsOf w next))) (ltb (length (cellsOf w next) + 7) mostNodes) refl refl
+    where
+      go : (b c : Bool) → ltb (word w (n .top)) (length (cellsOf w next)) ≡ b → ltb (length (cellsOf w next) + 7) mostNodes ≡ c → (word w (n .top) < next) × (next + 8 ≤ mostNodes)
+      go true true p q = (omega (arith, ltb-true (word w (n .top)) (length (cellsOf w next)) p, length-cells next w indexEnd), omega (arith, ltb-true (length (cellsOf w next) + 7) mostNodes q, length-cells next w indexEnd))
+      go true false p q = absurd (f at (rw (one-value w (n .top) (n .count) one, p, q)))
+      go false c p q = absurd (f at (rw (one-value w (n .top) (n .count) one, p)))
+
+  pub record AtomicReady : Type 0 where
+    pub inside : at + 4 < length s
+    pub room : LeafRoom w n 1
+    pub node-room : NodeRoom w n next
+
+  pub some-atomic : getD s at 0 ≡ 16 → (t : Term) → Stands s at t → LeafRoom w n (atomics t) → Fitting T t at w n next → AtomicReady
+  unfolding atomics
+  some-atomic e t st r f =
+      by-tag s at (λ t. LeafRoom w n (atomics t) → Fitting T t at w n next → AtomicReady) 16
+      (λ a v r f. record { inside = omega (arith, v .inside); room = r; node-room = node-fits a f }) e t st r f
+
+  pub some-id : getD s at 0 ≡ 17 → (t : Term) → Stands s at t → LeafRoom w n (atomics t) → LeafRoom w n 0
+  unfolding atomics
+  some-id e t st r = by-tag s at (λ t. LeafRoom w n (atomics t) → LeafRoom w n 0) 17 (λ r. r) e t st r
+
+  module _ (w′ : List ℕ) (r : Taken) where
+    pub atomic-takes : getD s at 0 ≡ 16 → Takes T (atomic named) at w w′ n next r → (t : Term) → Stands s at t → Takes T t at w w′ n next r
+    atomic-takes e k = by-tag s at (λ t. Takes T t at w w′ n next r) 16 (λ a v. subst (λ (x : ℕ). Takes T (atomic (ruleName x)) at w w′ n next r) (v .value-is) k) e
+
+    pub id-takes : getD s at 0 ≡ 17 → Takes T id at w w′ n next r → (t : Term) → Stands s at t → Takes T t at w w′ n next r
+    id-takes e k = by-tag s at (λ t. Takes T t at w w′ n next r) 17 k e
+
+    pub empty-takes : getD s at 0 ≡ 21 → Takes T empty at w w′ n next r → (t : Term) → Stands s at t → Takes T t at w w′ n next r
+    empty-takes e k = by-tag s at (λ t. Takes T t at w w′ n next r) 21 k e

@@ -5,17 +5,17 @@ use mathlib.Core.List.{List}
 use lib.ListN.{length}
 use Rattle.words.specs.Word.{word}
 use Rattle.words.specs.Kept.{Kept}
-use Rattle.format.specs.Refusals.{Cause, number}
-use Rattle.format.specs.Results.{Result, gives, refused}
+use Rattle.format.specs.Refusals.{Cause, number, inputTooLong}
+use Rattle.format.specs.Results.{Result, refused}
 use Rattle.format.specs.Terms.{Term}
 use Rattle.tables.specs.Tables.{Table}
-use Rattle.hitac.specs.Hiproofs.{atomics}
 use Rattle.walks.specs.declared.state.Next.{Next}
 use Rattle.walks.specs.Layout.{stackEnd, indexEnd}
 use Rattle.walks.specs.Values.{valuesAt}
-use Rattle.walks.specs.Walks.{Out, out}
-use Rattle.flattener.specs.declared.leaf.Acted.{Acted}
-use Rattle.flattener.specs.declared.leaf.Acted.the-variants as A
+use Rattle.walks.specs.Walks.{Out}
+use Rattle.walks.specs.Loops.{placed, Acted}
+use Rattle.flattener.specs.declared.leaf.Taken.{Taken}
+use Rattle.flattener.specs.declared.leaf.Taken.the-variants as A
 use Rattle.flattener.specs.Space.{mostNodes, cellsEnd, cellsOf}
 use Rattle.flattener.specs.NodeActs.{nodeAct}
 
@@ -33,16 +33,17 @@ NodeRoom w n next = n .count ≡ 1 → (word w (n .top) < next) × (next + 8 ≤
 abbrev pub actIn : Table → Term → (at : ℕ) → List ℕ → Next → (next : ℕ) → Result Out
 actIn T t at w n next = nodeAct T t at (cellsOf w next) (valuesAt w (n .top) (n .count))
 
--- The term gave so many nodes: it wrote among the cells, then on the stacks between what it gives and the end of what it takes.
+-- the walk is not at an end for want of a node or of room
+abbrev pub Fitting : Table → Term → (at : ℕ) → List ℕ → Next → (next : ℕ) → Type 0
+Fitting T t at w n next = (p : ℕ) → actIn T t at w n next ≡ refused inputTooLong p → ⊥
+
+-- The term at a place gave: it wrote among the cells, then on the stacks, and so many cells are made.
 pub record Given (T : Table) (t : Term) (at : ℕ) (w w′ : List ℕ) (n : Next) (next given uses made : ℕ) : Type 0 where
   pub between : List ℕ
   pub in-cells : Kept w between indexEnd cellsEnd
-  pub on-stacks : Kept between w′ (n .low) (n .top + n .count * 2)
-  pub outcome : actIn T t at w n next ≡ gives (out (cellsOf w′ made) (valuesAt w′ (n .low) given))
-  pub uses-are : uses ≡ atomics t
-  pub few : given ≤ n .count + 7 * uses
+  pub acted : Acted (nodeAct T) (cellsOf w next) (cellsOf w′ made) between w′ (placed n at) t given uses
 
 -- the code's answer: 20 at the term's place, or what it gave
-unfoldable pub Acts : Table → Term → (at : ℕ) → (w w′ : List ℕ) → Next → (next : ℕ) → Acted → Type 0
-Acts T t at w w′ n next A.Refused = (c : Cause) × (number c ≡ 20) × (actIn T t at w n next ≡ refused c at)
-Acts T t at w w′ n next (A.Gives given uses made) = Given T t at w w′ n next given uses made
+unfoldable pub Takes : Table → Term → (at : ℕ) → (w w′ : List ℕ) → Next → (next : ℕ) → Taken → Type 0
+Takes T t at w w′ n next A.Refused = (c : Cause) × (number c ≡ 20) × (actIn T t at w n next ≡ refused c at)
+Takes T t at w w′ n next (A.Gives given uses made) = Given T t at w w′ n next given uses made
