@@ -1,6 +1,6 @@
 -- One law for each way in which a term without inner terms returns, by the cases of what it does to nodes.
 -- Assumes nothing.
-use mathlib.Core.Path.{_≡_, refl, sym, subst, ap, ap₂, _∙_}
+use mathlib.Core.Path.{_≡_, refl, sym, subst, subst₂, ap, _∙_}
 use mathlib.Core.Bool.{Bool, true, false}
 use mathlib.Core.Option.{Option, none, some}
 use mathlib.Core.List.{List, [], _∷_, _++_, map}
@@ -32,13 +32,13 @@ use Rattle.walks.specs.declared.state.Next.{Next}
 use Rattle.walks.specs.Layout.{indexEnd}
 use Rattle.walks.specs.Values.{valuesAt}
 use Rattle.walks.specs.Walks.{Out, out, onOneValue}
-use Rattle.walks.specs.Loops.{Leaf}
+use Rattle.walks.specs.Loops.{placed, Leaf, Acted}
 use Rattle.walks.proofs.ValueLaws.{length-values, values-below, one-value}
 use Rattle.flattener.specs.declared.leaf.Taken.{Taken}
 use Rattle.flattener.specs.declared.leaf.Taken.the-variants as A
-use Rattle.flattener.specs.Space.{mostNodes, cellPlace, cellsEnd, cellsOf, putUse, putOpens, putRange, grown}
+use Rattle.flattener.specs.Space.{mostNodes, cellPlace, cellsEnd, cellsOf, putUse, putOpens, putRange, planted, grown}
 use Rattle.flattener.specs.NodeActs.{useFound, useNode, onNoNode, nodeAct}
-use Rattle.flattener.specs.Leaves.{LeafRoom, NodeRoom, actIn, Fitting, Given, Takes}
+use Rattle.flattener.specs.Leaves.{LeafRoom, NodeRoom, actIn, Fitting, Takes}
 use Rattle.flattener.proofs.RowLaws.{kept-range, nodes-range}
 use Rattle.flattener.proofs.CellLaws.{goal-in, length-cells, cell-of, cells-above, length-use, kept-use, cells-use, length-opens, kept-opens, cells-opens}
 
@@ -55,18 +55,18 @@ unfolding onNoNode
 some-node p A [] z = absurd (z refl)
 some-node p A (n ∷ ns) z = refl
 
-module _ (T : Table) (at : ℕ) (w w′ : List ℕ) (n : Next) (next : ℕ) where
-  pub atomic-count : (a : RuleName) → (n .count ≡ 1 → ⊥) → Takes T (atomic a) at w w′ n next A.Refused
+module _ (T : Table) (at : ℕ) (w : List ℕ) (n : Next) (next : ℕ) where
+  pub atomic-count : (a : RuleName) → (n .count ≡ 1 → ⊥) → Takes T (atomic a) at w w w n next A.Refused
   unfolding Takes nodeAct number
-  atomic-count a z = (goalCountWrong, refl, not-one at _ (valuesAt w (n .top) (n .count)) (λ e. z (sym (length-values w (n .top) (n .count)) ∙ e)))
+  atomic-count a z = (goalCountWrong, refl, not-one at _ (valuesAt w (n .top) (n .count)) (λ e. z (sym (length-values w (n .top) (n .count)) ∙ e)), refl)
 
-  pub id-count : (n .count ≡ 1 → ⊥) → Takes T id at w w′ n next A.Refused
+  pub id-count : (n .count ≡ 1 → ⊥) → Takes T id at w w w n next A.Refused
   unfolding Takes nodeAct number
-  id-count z = (goalCountWrong, refl, not-one at _ (valuesAt w (n .top) (n .count)) (λ e. z (sym (length-values w (n .top) (n .count)) ∙ e)))
+  id-count z = (goalCountWrong, refl, not-one at _ (valuesAt w (n .top) (n .count)) (λ e. z (sym (length-values w (n .top) (n .count)) ∙ e)), refl)
 
-  pub empty-count : (n .count ≡ 0 → ⊥) → Takes T empty at w w′ n next A.Refused
+  pub empty-count : (n .count ≡ 0 → ⊥) → Takes T empty at w w w n next A.Refused
   unfolding Takes nodeAct number
-  empty-count z = (goalCountWrong, refl, some-node at _ (valuesAt w (n .top) (n .count)) (λ e. z (sym (length-values w (n .top) (n .count)) ∙ e)))
+  empty-count z = (goalCountWrong, refl, some-node at _ (valuesAt w (n .top) (n .count)) (λ e. z (sym (length-values w (n .top) (n .count)) ∙ e)), refl)
 
 -- ---- an atomic
 
@@ -76,8 +76,13 @@ found-by T a γ x y p q = λ i. findRule T (record { 0 = p i }) (record { 0 = q 
 
 pub grown-is : (w w₁ w₂ w₃ : List ℕ) (n a f : ℕ) (table : List ℕ) (place count low : ℕ) → w₁ ≡ putUse w n a f count → w₂ ≡ putOpens w₁ f (goalsAt table place count) → w₃ ≡ putRange w₂ low f count
     → w₃ ≡ grown w n a f (goalsAt table place count) low
-unfolding grown
 grown-is w w₁ w₂ w₃ n a f table place count low p q r = r ∙ rw (q, p, length-goalsAt count table place)
+
+pub kept-planted : (w : List ℕ) (i j next : ℕ) (h : List Goal) → i < next → next + length h ≤ mostNodes → Kept w (planted w i j next h) indexEnd cellsEnd
+kept-planted w i j next h l m =
+    let u = putUse w i j next (length h) in
+    kept-both w u (putOpens u next h) (cellPlace i) (cellPlace i + 8) (cellPlace next) (cellPlace (next + length h)) indexEnd cellsEnd (kept-use w i j next (length h)) (kept-opens h u next)
+    (omega arith) (omega arith) (omega arith) (omega arith)
 
 module _ (T : Table) (a : RuleName) (at : ℕ) (w : List ℕ) (n : Next) (next : ℕ) where
   abbrev A₀ : List Cell
@@ -104,9 +109,9 @@ module _ (T : Table) (a : RuleName) (at : ℕ) (w : List ℕ) (n : Next) (next :
         let m : length A₀ + 7 < mostNodes = omega (arith, nodeFits .1, length-cells next w indexEnd) in
         rw (one-value w (n .top) (n .count) one, lt-ltb node (length A₀) l, lt-ltb (length A₀ + 7) mostNodes m, goal-there there)
 
-    pub atomic-missing : (w′ : List ℕ) → findRule T a goalHere ≡ none → Takes T (atomic a) at w w′ n next A.Refused
+    pub atomic-missing : findRule T a goalHere ≡ none → Takes T (atomic a) at w w w n next A.Refused
     unfolding Takes useFound number
-    atomic-missing w′ e = (ruleMissing, refl, looked-up ∙ ap (useFound a at A₀ node) e)
+    atomic-missing e = (ruleMissing, refl, looked-up ∙ ap (useFound a at A₀ node) e, refl)
 
     module _ (h : List Goal) (found : findRule T a goalHere ≡ some (foundRule h)) (few : length h ≤ 8) (room : LeafRoom w n 1) where
       abbrev k : ℕ
@@ -128,9 +133,7 @@ module _ (T : Table) (a : RuleName) (at : ℕ) (w : List ℕ) (n : Next) (next :
       l₂ = length-opens h w₁ next ∙ l₁
 
       kept-cells : Kept w w₂ indexEnd cellsEnd
-      kept-cells =
-          kept-both w w₁ w₂ (cellPlace node) (cellPlace node + 8) (cellPlace next) (cellPlace (next + k)) indexEnd cellsEnd (kept-use w node (a .0) next k) (kept-opens h w₁ next)
-          (omega arith) (omega arith) (omega (arith, nodeFits)) (omega (arith, nodeFits))
+      kept-cells = kept-planted w node (a .0) next h there (omega (arith, nodeFits))
 
       same-values : valuesAt w₂ (n .top) (n .count) ≡ valuesAt w (n .top) (n .count)
       same-values = values-below w w₂ indexEnd cellsEnd (n .top) (n .count) kept-cells (omega (arith, room .below))
@@ -155,29 +158,30 @@ module _ (T : Table) (a : RuleName) (at : ℕ) (w : List ℕ) (n : Next) (next :
           looked-up ∙ ap (useFound a at A₀ node) found
           ∙ rw (goal-there there, length-cells next w indexEnd, made-cells, made-nodes)
 
-      grown-gives : Given T (atomic a) at w (grown w node (a .0) next h (n .low)) n next k 1 (next + k)
-      unfolding grown atomics
-      grown-gives = record {
-        between = w₂;
-        in-cells = kept-cells;
-        acted = record { comes = ap (nodeAct T (atomic a) at A₀) same-values ∙ outcome; used-is = refl; few = omega (arith, one); kept = kept-stacks };
-      }
+      abbrev Gave : (v w′ : List ℕ) → (c : ℕ) → Type 0
+      Gave v w′ c = Acted (nodeAct T) A₀ (cellsOf w′ (next + c)) v w′ (placed n at) (atomic a) c 1
+
+      grown-gives : Gave w₂ w₃ k
+      unfolding atomics
+      grown-gives = record { comes = ap (nodeAct T (atomic a) at A₀) same-values ∙ outcome; used-is = refl; few = omega (arith, one); kept = kept-stacks }
 
       -- the same in the code's words
-      pub atomic-gives : (w′ : List ℕ) (i j : ℕ) → i ≡ node → j ≡ a .0 → w′ ≡ grown w i j next h (n .low) → (c : ℕ) → length h ≡ c → Takes T (atomic a) at w w′ n next (A.Gives c 1 (next + c))
+      pub atomic-gives : (w′ : List ℕ) (i j : ℕ) → i ≡ node → j ≡ a .0 → w′ ≡ grown w i j next h (n .low) → (c : ℕ) → length h ≡ c → Takes T (atomic a) at w (planted w i j next h) w′ n next (A.Gives c 1 (next + c))
       unfolding Takes
       atomic-gives w′ i j p q made c l =
-          subst (λ (d : ℕ). Given T (atomic a) at w w′ n next d 1 (next + d)) l
-          (subst (λ (v : List ℕ). Given T (atomic a) at w v n next k 1 (next + k)) (sym (made ∙ ap₂ (λ (x y : ℕ). grown w x y next h (n .low)) p q)) grown-gives)
+          subst (Gave (planted w i j next h) w′) l
+          (subst (λ (v : List ℕ). Gave (planted w i j next h) v k) (sym made)
+          (subst₂ (λ (x y : ℕ). Gave (planted w x y next h) (grown w x y next h (n .low)) k) (sym p) (sym q) grown-gives))
 
 -- ---- an id
 
-pub id-gives : (T : Table) (at : ℕ) (w w′ : List ℕ) (n : Next) (next v : ℕ) → LeafRoom w n 0 → n .count ≡ 1 → v ≡ word w (n .top) → w′ ≡ putWord w (n .low) v → Takes T id at w w′ n next (A.Gives 1 0 next)
+pub id-gives : (T : Table) (at : ℕ) (w w′ : List ℕ) (n : Next) (next v : ℕ) → LeafRoom w n 0 → n .count ≡ 1 → v ≡ word w (n .top) → w′ ≡ putWord w (n .low) v → Takes T id at w w w′ n next (A.Gives 1 0 next)
 unfolding Takes nodeAct onOneValue atomics
 id-gives T at w w′ n next v room one e made = rw made (record {
-  between = w;
-  in-cells = kept-same w indexEnd cellsEnd;
-  acted = record { comes = rw (cells-above w x (n .low) (n .top + n .count * 2) next k (omega (arith, room .below)), one-value w (n .top) (n .count) one, one-value x (n .low) 1 refl, word-same w (n .low) v (omega (arith, room .apart, room .below, room .space)), e); used-is = refl; few = omega (arith, one); kept = k };
+  comes = rw (cells-above w x (n .low) (n .top + n .count * 2) next k (omega (arith, room .below)), one-value w (n .top) (n .count) one, one-value x (n .low) 1 refl, word-same w (n .low) v (omega (arith, room .apart, room .below, room .space)), e);
+  used-is = refl;
+  few = omega (arith, one);
+  kept = k;
 })
   where
     x : List ℕ
@@ -188,19 +192,15 @@ id-gives T at w w′ n next v room one e made = rw made (record {
 
 -- ---- empty
 
-pub empty-gives : (T : Table) (at : ℕ) (w : List ℕ) (n : Next) (next : ℕ) → n .count ≡ 0 → Takes T empty at w w n next (A.Gives 0 0 next)
+pub empty-gives : (T : Table) (at : ℕ) (w : List ℕ) (n : Next) (next : ℕ) → n .count ≡ 0 → Takes T empty at w w w n next (A.Gives 0 0 next)
 unfolding Takes nodeAct onNoNode atomics goalsAt
-empty-gives T at w n next z = record {
-  between = w;
-  in-cells = kept-same w indexEnd cellsEnd;
-  acted = record { comes = rw z; used-is = refl; few = omega arith; kept = kept-same w (n .low) (n .top + n .count * 2) };
-}
+empty-gives T at w n next z = record { comes = rw z; used-is = refl; few = omega arith; kept = kept-same w (n .low) (n .top + n .count * 2) }
 
 -- ---- by the tag
 
 -- no term without inner terms that is none of the three can take its nodes
 module _ (T : Table) (at : ℕ) (w : List ℕ) (n : Next) (next : ℕ) (s : List ℕ) where
-  pub other-refused : (getD s at 0 ≡ 16 → ⊥) → (getD s at 0 ≡ 17 → ⊥) → (getD s at 0 ≡ 21 → ⊥) → Leaf s at → (t : Term) → Stands s at t → Takes T t at w w n next A.Refused
+  pub other-refused : (getD s at 0 ≡ 16 → ⊥) → (getD s at 0 ≡ 17 → ⊥) → (getD s at 0 ≡ 21 → ⊥) → Leaf s at → (t : Term) → Stands s at t → Takes T t at w w w n next A.Refused
   unfolding Takes nodeAct number tagOf
   other-refused a b c l (atomic x) st = absurd (a (known s at (atomic x) st .tag-is))
   other-refused a b c l id st = absurd (b (known s at id st .tag-is))
@@ -208,9 +208,9 @@ module _ (T : Table) (at : ℕ) (w : List ℕ) (n : Next) (next : ℕ) (s : List
   other-refused a b c l (sequence t u) st = absurd (l .1 (known s at (sequence t u) st .tag-is))
   other-refused a b c l (tensor t u) st = absurd (l .2 (known s at (tensor t u) st .tag-is))
   other-refused a b c l empty st = absurd (c (known s at empty st .tag-is))
-  other-refused a b c l (alternation t u) st = (goalCountWrong, refl, refl)
-  other-refused a b c l (assert γ) st = (goalCountWrong, refl, refl)
-  other-refused a b c l (defined x) st = (goalCountWrong, refl, refl)
+  other-refused a b c l (alternation t u) st = (goalCountWrong, refl, refl, refl)
+  other-refused a b c l (assert γ) st = (goalCountWrong, refl, refl, refl)
+  other-refused a b c l (defined x) st = (goalCountWrong, refl, refl, refl)
 
   -- an atomic by the name that stands in the file
   abbrev named : RuleName
@@ -222,8 +222,8 @@ module _ (T : Table) (at : ℕ) (w : List ℕ) (n : Next) (next : ℕ) (s : List
     where
       go : (b c : Bool) → ltb (word w (n .top)) (length (cellsOf w next)) ≡ b → ltb (length (cellsOf w next) + 7) mostNodes ≡ c → (word w (n .top) < next) × (next + 8 ≤ mostNodes)
       go true true p q = (omega (arith, ltb-true (word w (n .top)) (length (cellsOf w next)) p, length-cells next w indexEnd), omega (arith, ltb-true (length (cellsOf w next) + 7) mostNodes q, length-cells next w indexEnd))
-      go true false p q = absurd (f at (rw (one-value w (n .top) (n .count) one, p, q)))
-      go false c p q = absurd (f at (rw (one-value w (n .top) (n .count) one, p)))
+      go true false p q = absurd (f (rw (one-value w (n .top) (n .count) one, p, q)))
+      go false c p q = absurd (f (rw (one-value w (n .top) (n .count) one, p)))
 
   pub record AtomicReady : Type 0 where
     pub inside : at + 4 < length s
@@ -240,12 +240,12 @@ module _ (T : Table) (at : ℕ) (w : List ℕ) (n : Next) (next : ℕ) (s : List
   unfolding atomics
   some-id e t st r = by-tag s at (λ t. LeafRoom w n (atomics t) → LeafRoom w n 0) 17 (λ r. r) e t st r
 
-  module _ (w′ : List ℕ) (r : Taken) where
-    pub atomic-takes : getD s at 0 ≡ 16 → Takes T (atomic named) at w w′ n next r → (t : Term) → Stands s at t → Takes T t at w w′ n next r
-    atomic-takes e k = by-tag s at (λ t. Takes T t at w w′ n next r) 16 (λ a v. subst (λ (x : ℕ). Takes T (atomic (ruleName x)) at w w′ n next r) (v .value-is) k) e
+  module _ (v w′ : List ℕ) (r : Taken) where
+    pub atomic-takes : getD s at 0 ≡ 16 → Takes T (atomic named) at w v w′ n next r → (t : Term) → Stands s at t → Takes T t at w v w′ n next r
+    atomic-takes e k = by-tag s at (λ t. Takes T t at w v w′ n next r) 16 (λ a y. subst (λ (x : ℕ). Takes T (atomic (ruleName x)) at w v w′ n next r) (y .value-is) k) e
 
-    pub id-takes : getD s at 0 ≡ 17 → Takes T id at w w′ n next r → (t : Term) → Stands s at t → Takes T t at w w′ n next r
-    id-takes e k = by-tag s at (λ t. Takes T t at w w′ n next r) 17 k e
+    pub id-takes : getD s at 0 ≡ 17 → Takes T id at w v w′ n next r → (t : Term) → Stands s at t → Takes T t at w v w′ n next r
+    id-takes e k = by-tag s at (λ t. Takes T t at w v w′ n next r) 17 k e
 
-    pub empty-takes : getD s at 0 ≡ 21 → Takes T empty at w w′ n next r → (t : Term) → Stands s at t → Takes T t at w w′ n next r
-    empty-takes e k = by-tag s at (λ t. Takes T t at w w′ n next r) 21 k e
+    pub empty-takes : getD s at 0 ≡ 21 → Takes T empty at w v w′ n next r → (t : Term) → Stands s at t → Takes T t at w v w′ n next r
+    empty-takes e k = by-tag s at (λ t. Takes T t at w v w′ n next r) 21 k e

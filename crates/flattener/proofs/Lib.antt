@@ -2,6 +2,7 @@ pub mod SpaceLaws
 pub mod RowLaws
 pub mod CellLaws
 pub mod LeafLaws
+pub mod WalkLaws
 pub mod GrowthLaws
 pub mod AgreeLaws
 pub mod PrintLaws

@@ -33,17 +33,15 @@ NodeRoom w n next = n .count ≡ 1 → (word w (n .top) < next) × (next + 8 ≤
 abbrev pub actIn : Table → Term → (at : ℕ) → List ℕ → Next → (next : ℕ) → Result Out
 actIn T t at w n next = nodeAct T t at (cellsOf w next) (valuesAt w (n .top) (n .count))
 
--- the walk is not at an end for want of a node or of room
+-- the walk does not end for want of a node or of room
 abbrev pub Fitting : Table → Term → (at : ℕ) → List ℕ → Next → (next : ℕ) → Type 0
-Fitting T t at w n next = (p : ℕ) → actIn T t at w n next ≡ refused inputTooLong p → ⊥
+Fitting T t at w n next = actIn T t at w n next ≡ refused inputTooLong at → ⊥
 
--- The term at a place gave: it wrote among the cells, then on the stacks, and so many cells are made.
-pub record Given (T : Table) (t : Term) (at : ℕ) (w w′ : List ℕ) (n : Next) (next given uses made : ℕ) : Type 0 where
-  pub between : List ℕ
-  pub in-cells : Kept w between indexEnd cellsEnd
-  pub acted : Acted (nodeAct T) (cellsOf w next) (cellsOf w′ made) between w′ (placed n at) t given uses
+-- what holds where cells were written before the stacks were
+abbrev pub Through : List ℕ → (List ℕ → Type 0) → Type 0
+Through w P = (between : List ℕ) × Kept w between indexEnd cellsEnd × P between
 
--- the code's answer: 20 at the term's place, or what it gave
-unfoldable pub Takes : Table → Term → (at : ℕ) → (w w′ : List ℕ) → Next → (next : ℕ) → Taken → Type 0
-Takes T t at w w′ n next A.Refused = (c : Cause) × (number c ≡ 20) × (actIn T t at w n next ≡ refused c at)
-Takes T t at w w′ n next (A.Gives given uses made) = Given T t at w w′ n next given uses made
+-- the code's answer: 20 at the term's place; or the term wrote on the stacks, and so many cells are made
+unfoldable pub Takes : Table → Term → (at : ℕ) → (w between w′ : List ℕ) → Next → (next : ℕ) → Taken → Type 0
+Takes T t at w v w′ n next A.Refused = (c : Cause) × (number c ≡ 20) × (actIn T t at w n next ≡ refused c at) × (w′ ≡ w)
+Takes T t at w v w′ n next (A.Gives given uses made) = Acted (nodeAct T) (cellsOf w next) (cellsOf w′ made) v w′ (placed n at) t given uses

@@ -50,6 +50,10 @@ unfoldable pub putRange : List ℕ → (at first count : ℕ) → List ℕ
 putRange s at f zero = s
 putRange s at f (suc c) = putRange (putWord s at f) (at + 2) (suc f) c
 
--- a node made a use of its premises g, which become new nodes from f on and are put on a stack
-unfoldable pub grown : List ℕ → (node name f : ℕ) → (g : List Goal) → (low : ℕ) → List ℕ
-grown w n a f g low = putRange (putOpens (putUse w n a f (length g)) f g) low f (length g)
+-- a node made a use of its premises g, which become new nodes from f on
+abbrev pub planted : List ℕ → (node name f : ℕ) → (g : List Goal) → List ℕ
+planted w n a f g = putOpens (putUse w n a f (length g)) f g
+
+-- and are put on a stack
+abbrev pub grown : List ℕ → (node name f : ℕ) → (g : List Goal) → (low : ℕ) → List ℕ
+grown w n a f g low = putRange (planted w n a f g) low f (length g)

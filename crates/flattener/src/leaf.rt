@@ -15,7 +15,7 @@ ghost use Rattle.hitac.specs.Hiproofs.{atomics};
 ghost use Rattle.walks.specs.Layout.{aritiesEnd};
 ghost use Rattle.walks.specs.Loops.{Leaf};
 ghost use Rattle.flattener.specs.Space.{mostNodes, cellsEnd, grown};
-ghost use Rattle.flattener.specs.Leaves.{LeafRoom, NodeRoom, Fitting, Takes};
+ghost use Rattle.flattener.specs.Leaves.{LeafRoom, NodeRoom, Fitting, Through, Takes};
 use crate::nodes::CELLS;
 use crate::nodes::put_opens;
 use crate::nodes::put_range;
@@ -66,7 +66,7 @@ fn use_rule(
     next: usize,
 ) -> Taken
     requires { ⌜ ((T : Table) × TableStands (now table) first T) × RulesIndexed (now table) first (now work) aritiesEnd × (at + 4 < length (now proof)) × LeafRoom (now work) n 1 × NodeRoom (now work) n next ⌝ }
-    ensures { λ r. ⌜ ((T : Table) → TableStands (now (table .entry)) first T → Takes T (atomic (ruleName (word (now (proof .entry)) (at + 3)))) at (now (work .entry)) (now (work .exit)) n next r) ⌝ }
+    ensures { λ r. ⌜ Through (now (work .entry)) (λ (v : List ℕ). (T : Table) → TableStands (now (table .entry)) first T → Takes T (atomic (ruleName (word (now (proof .entry)) (at + 3)))) at (now (work .entry)) v (now (work .exit)) n next r) ⌝ }
 {
     if n.count != 1 {
         return Taken::Refused;
@@ -88,7 +88,7 @@ fn use_rule(
 // An id: one node, given back.
 fn keep_node(work: &mut [u8], n: Next, next: usize) -> Taken
     requires { ⌜ LeafRoom (now work) n 0 ⌝ }
-    ensures { λ r. ⌜ ((T : Table) (at : ℕ) → Takes T id at (now (work .entry)) (now (work .exit)) n next r) ⌝ }
+    ensures { λ r. ⌜ ((T : Table) (at : ℕ) → Takes T id at (now (work .entry)) (now (work .entry)) (now (work .exit)) n next r) ⌝ }
 {
     if n.count != 1 {
         return Taken::Refused;
@@ -100,7 +100,7 @@ fn keep_node(work: &mut [u8], n: Next, next: usize) -> Taken
 
 // Empty: no node, and none given.
 fn take_nothing(n: Next, next: usize) -> Taken
-    ensures { λ r. ⌜ ((T : Table) (at : ℕ) (w : List ℕ) → Takes T empty at w w n next r) ⌝ }
+    ensures { λ r. ⌜ ((T : Table) (at : ℕ) (w : List ℕ) → Takes T empty at w w w n next r) ⌝ }
 {
     if n.count != 0 {
         return Taken::Refused;
@@ -119,7 +119,7 @@ pub fn act(
     next: usize,
 ) -> Taken
     requires { ⌜ ((T : Table) × (t : Term) × TableStands (now table) first T × Stands (now proof) at t × LeafRoom (now work) n (atomics t) × Fitting T t at (now work) n next) × RulesIndexed (now table) first (now work) aritiesEnd × Leaf (now proof) at ⌝ }
-    ensures { λ r. ⌜ ((T : Table) (t : Term) → TableStands (now (table .entry)) first T → Stands (now (proof .entry)) at t → Takes T t at (now (work .entry)) (now (work .exit)) n next r) ⌝ }
+    ensures { λ r. ⌜ Through (now (work .entry)) (λ (v : List ℕ). (T : Table) (t : Term) → TableStands (now (table .entry)) first T → Stands (now (proof .entry)) at t → Takes T t at (now (work .entry)) v (now (work .exit)) n next r) ⌝ }
 {
     let tag = proof[at];
     if tag == 16 {

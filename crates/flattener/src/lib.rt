@@ -3,3 +3,4 @@
 pub mod leaf;
 pub mod nodes;
 pub mod print;
+pub mod walk;

@@ -4,6 +4,7 @@ use mathlib.Core.Path.{_≡_}
 use native.Mathlib.Omega.{arith}
 use denote.Ref.{now}
 use borrow.Author.Needs.{needs}
+use Rattle.words.proofs.KeptLaws.{kept-same}
 use Rattle.format.proofs.StandsLaws.{known}
 use Rattle.flattener.proofs.LeafLaws.{other-refused, AtomicReady, some-atomic, some-id, atomic-takes, id-takes, empty-takes}
 use Rattle.flattener.proofs.leaf.act.Statement.{statement}
@@ -22,7 +23,9 @@ same-length : tie.Need-same-length
 same-length c = search needs
 
 returns : tie.Need-returns
-returns c = λ T t ts st. atomic-takes T _ _ _ _ _ _ _ (c .before .before .before .before .if1 .taken) (c .before .before .use-rule .ensures T ts) t st
+returns c =
+    let u = c .before .before .use-rule .ensures in
+    (u .0, u .1, λ T t ts st. atomic-takes T _ _ _ _ _ _ _ _ (c .before .before .before .before .if1 .taken) (u .2 T ts) t st)
 
 keep-node-requires : tie.Need-keep-node-requires
 keep-node-requires c κs = let i = c .before .before .before .before .before .before .before in some-id (i .pre .0 .0) _ _ _ (i .args .next) _ (c .before .if2 .taken) (i .pre .0 .1) (i .pre .0 .3) (i .pre .0 .4)
@@ -31,18 +34,18 @@ same-length-2 : tie.Need-same-length-2
 same-length-2 c = search needs
 
 returns-2 : tie.Need-returns-2
-returns-2 c = λ T t ts st. id-takes T _ _ _ _ _ _ _ (c .before .before .before .before .if2 .taken) (c .before .before .keep-node .ensures T _) t st
+returns-2 c = (_, kept-same _ _ _, λ T t ts st. id-takes T _ _ _ _ _ _ _ _ (c .before .before .before .before .if2 .taken) (c .before .before .keep-node .ensures T _) t st)
 
 take-nothing-requires : tie.Need-take-nothing-requires
 take-nothing-requires c κs = search needs
 
 returns-3 : tie.Need-returns-3
-returns-3 c = λ T t ts st. empty-takes T _ _ _ _ _ _ _ (c .before .if3 .taken) (c .take-nothing .ensures T _ _) t st
+returns-3 c = (_, kept-same _ _ _, λ T t ts st. empty-takes T _ _ _ _ _ _ _ _ (c .before .if3 .taken) (c .take-nothing .ensures T _ _) t st)
 
 returns-4 : tie.Need-returns-4
 returns-4 c =
     let i = c .before .before .before .before .before .before .before in
-    λ T t ts st. other-refused T _ _ _ _ _ (c .before .before .if1 .left) (c .before .if2 .left) (c .if3 .left) (i .pre .2) t st
+    (_, kept-same _ _ _, λ T t ts st. other-refused T _ _ _ _ _ (c .before .before .if1 .left) (c .before .if2 .left) (c .if3 .left) (i .pre .2) t st)
 
 pub act-spec : {M : Type 1} → statement M
 act-spec =

@@ -6,7 +6,7 @@ use Rattle.flattener.proofs.leaf.keep_node.Statement.{statement}
 use Rattle.flattener.proofs.leaf.keep_node.Tie as tie
 
 returns : tie.Need-returns
-returns c = λ T at. id-count T at _ _ _ _ (c .if1 .taken)
+returns c = λ T at. id-count T at _ _ _ (c .if1 .taken)
 
 load16-requires : tie.Need-load16-requires
 load16-requires c κs = search needs

@@ -5,7 +5,7 @@ use Rattle.flattener.proofs.leaf.take_nothing.Statement.{statement}
 use Rattle.flattener.proofs.leaf.take_nothing.Tie as tie
 
 returns : tie.Need-returns
-returns c = λ T at w. empty-count T at w w _ _ (c .if1 .taken)
+returns c = λ T at w. empty-count T at w _ _ (c .if1 .taken)
 
 returns-2 : tie.Need-returns-2
 returns-2 c = λ T at w. empty-gives T at w _ _ (c .if1 .left)

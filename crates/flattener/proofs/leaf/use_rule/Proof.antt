@@ -9,6 +9,7 @@ use lib.ListN.{length}
 use denote.Ref.{now}
 use borrow.Author.Needs.{needs}
 use Rattle.words.specs.Word.{word}
+use Rattle.words.proofs.KeptLaws.{kept-same}
 use Rattle.format.specs.declared.values.RuleName.{RuleName}
 use Rattle.format.specs.Values.{ruleName, goal}
 use Rattle.format.specs.Goals.{goalsAt}
@@ -17,13 +18,13 @@ use Rattle.tables.specs.Tables.{Table}
 use Rattle.tables.specs.Lookup.{foundRule, findRule}
 use Rattle.tables.specs.Found.{ruleFound, FoundInside}
 use Rattle.tables.specs.Standing.{TableStands}
-use Rattle.flattener.specs.Space.{mostNodes, cellPlace}
-use Rattle.flattener.proofs.LeafLaws.{atomic-count, node, goalHere, found-by, atomic-missing, atomic-gives}
+use Rattle.flattener.specs.Space.{mostNodes, cellPlace, planted}
+use Rattle.flattener.proofs.LeafLaws.{atomic-count, node, goalHere, found-by, kept-planted, atomic-missing, atomic-gives}
 use Rattle.flattener.proofs.leaf.use_rule.Statement.{statement}
 use Rattle.flattener.proofs.leaf.use_rule.Tie as tie
 
 returns : tie.Need-returns
-returns c = λ T st. atomic-count T _ _ _ _ _ _ (c .if1 .taken)
+returns c = (_, kept-same _ _ _, λ T st. atomic-count T _ _ _ _ _ (c .if1 .taken))
 
 load16-requires : tie.Need-load16-requires
 load16-requires c κs = let i = c .before .before .before .before .before .before in omega (arith, i .pre .3 .below, i .pre .3 .space, c .before .if1 .left)
@@ -102,8 +103,11 @@ returns-2 : tie.Need-returns-2
 unfolding ruleFound
 returns-2 c =
     let i = c .before .before .before .before .before .before .before .before .before .before .before .before .before .before in
-    λ T st. atomic-missing T _ _ _ _ _ (c .before .before .before .before .before .before .before .before .before .if1 .left) (i .pre .4 (c .before .before .before .before .before .before .before .before .before .if1 .left)) _
-    (looked (c .before .before) T st ∙ ap (ruleFound (now (i .args .table))) (c .enum-told .given .1))
+    let e = c .before .before .before .before .before .before .before .before .before .if1 .left in (
+      _,
+      kept-same _ _ _,
+      (λ T st. atomic-missing T _ _ _ _ _ e (i .pre .4 e) (looked (c .before .before) T st ∙ ap (ruleFound (now (i .args .table))) (c .enum-told .given .1))),
+    )
 
 same-length-2 : tie.Need-same-length-2
 same-length-2 c = search needs
@@ -113,9 +117,13 @@ returns-3 c =
     let i = c .before .before .before .before .before .before .before .before .before .before .before .before .before .before .before .before .before .before .before in
     let d = c .before .before .before .before in
     let n = c .before .before .before .before .before .before .before .before .before .before .before .before in
-    let l = length-goalsAt (d .before .found .given .0 .1 .0) (now (i .args .table)) (d .before .found .given .0 .0) in
-    λ T st. atomic-gives T _ _ _ _ _ (c .before .before .before .before .before .before .before .before .before .before .before .before .before .before .if1 .left) (i .pre .4 (c .before .before .before .before .before .before .before .before .before .before .before .before .before .before .if1 .left)) (goalsAt (now (i .args .table)) (d .before .found .given .0 .0) (d .before .found .given .0 .1 .0)) (premises d T st) (omega (arith, l, inside d)) (i .pre .3)
-    _ _ _ (n .load16 .ensures) (c .before .before .before .before .before .before .before .before .before .before .before .rule-name-at .ensures) (c .before .before .grow .ensures) _ l
+    let e = c .before .before .before .before .before .before .before .before .before .before .before .before .before .before .if1 .left in
+    let h = goalsAt (now (i .args .table)) (d .before .found .given .0 .0) (d .before .found .given .0 .1 .0) in
+    let l = length-goalsAt (d .before .found .given .0 .1 .0) (now (i .args .table)) (d .before .found .given .0 .0) in (
+      planted (now (i .args .work)) (n .load16 .result) (c .before .before .before .before .before .before .before .before .before .before .before .rule-name-at .result .0) (i .args .next) h,
+      kept-planted _ _ _ _ h (there n .0) (omega (arith, there n, l, inside d)),
+      (λ T st. atomic-gives T _ _ _ _ _ e (i .pre .4 e) h (premises d T st) (omega (arith, l, inside d)) (i .pre .3) _ _ _ (n .load16 .ensures) (c .before .before .before .before .before .before .before .before .before .before .before .rule-name-at .ensures) (c .before .before .grow .ensures) _ l),
+    )
 
 pub use-rule-spec : {M : Type 1} → statement M
 use-rule-spec =

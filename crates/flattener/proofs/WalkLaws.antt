@@ -1,0 +1,112 @@
+-- One law for each way in which a step of the walk over nodes returns: the shared walk's laws say where it stands, and the cells and the index are kept.
+-- Assumes nothing.
+use mathlib.Core.Path.{_≡_, refl, sym, subst, ap, _∙_}
+use mathlib.Core.List.{List}
+use Prim.Native.Nat.{ℕ, _+_, _*_, _≤_, _<_}
+use native.Mathlib.Omega.{arith}
+use lib.ListN.{length, getD}
+use Rattle.words.specs.Word.{word}
+use Rattle.words.specs.Kept.{Kept}
+use Rattle.format.specs.Limits.{mostBytes}
+use Rattle.format.specs.Refusals.{number, inputTooLong}
+use Rattle.format.specs.Terms.{Term, size}
+use Rattle.format.specs.Standing.{Stands}
+use Rattle.format.proofs.StandsLaws.{known}
+use Rattle.tables.specs.Tables.{Table}
+use Rattle.index.specs.Build.{RulesIndexed}
+use Rattle.index.proofs.IndexKept.{tree-kept}
+use Rattle.hitac.specs.Hiproofs.{atomics}
+use Rattle.hitac.proofs.Nodes.{Cell}
+use Rattle.walks.specs.declared.state.Next.{Next}
+use Rattle.walks.specs.declared.state.Turn.{Turn}
+use Rattle.walks.specs.declared.state.Turn.the-variants as U
+use Rattle.walks.specs.Layout.{framesEnd, aritiesEnd, indexEnd}
+use Rattle.walks.specs.Loops.{Aim, Roomy, Begins, Gave, placed, Leaf, Acted, Turned, Steps}
+use Rattle.walks.proofs.LeafLaws.{leaf-refused, leaf-gave, begins-behind, turned-later}
+use Rattle.flattener.specs.declared.walk.Stepped.{Stepped}
+use Rattle.flattener.specs.declared.leaf.Taken.{Taken}
+use Rattle.flattener.specs.declared.leaf.Taken.the-variants as A
+use Rattle.flattener.specs.Space.{cellsEnd, cellsOf}
+use Rattle.flattener.specs.NodeActs.{nodeAct}
+use Rattle.flattener.specs.Leaves.{LeafRoom, Fitting, Takes}
+use Rattle.flattener.specs.Walks.{Walkable, Goes}
+use Rattle.flattener.proofs.CellLaws.{cells-above}
+
+abbrev SameIndex : (w w′ : List ℕ) → Type 0
+SameIndex w w′ = (i : ℕ) → aritiesEnd ≤ i → i < indexEnd → getD w′ i 0 ≡ getD w i 0
+
+-- the rules stay indexed
+indexed-still : (table : List ℕ) (first : ℕ) (w w′ : List ℕ) → length w′ ≡ length w → SameIndex w w′ → RulesIndexed table first w aritiesEnd → RulesIndexed table first w′ aritiesEnd
+indexed-still table first w w′ e k ix = (
+  ix .0,
+  ix .1,
+  (ix .2 .0, tree-kept 6 table (ix .0) w w′ aritiesEnd (ix .2 .0) (omega arith) (λ i a b. k i a (omega (arith, ix .2 .1 .sound .few))) (ix .2 .1)),
+)
+
+-- the next term is behind an earlier place too
+pub goes-later : (T : Table) (x : Aim) (s w w′ : List ℕ) (at at′ : ℕ) (r : Stepped) → at′ ≤ at → Goes T x s w w′ at r → Goes T x s w w′ at′ r
+goes-later T x s w w′ at at′ r h g = record { turned = turned-later (nodeAct T) x (cellsOf w′ (r .next)) s w′ at at′ (r .turn) h (g .turned); index-kept = g .index-kept }
+
+module _ (T : Table) (x : Aim) (table : List ℕ) (first : ℕ) (s w : List ℕ) (k : Walkable T x table first s w) where
+  pub roomy : Roomy s w
+  roomy = record { file = k .file; space = omega (arith, k .space) }
+
+  pub walkable-still : (w′ : List ℕ) (at : ℕ) (r : Stepped) → length w′ ≡ length w → Goes T x s w w′ at r → Walkable T x table first s w′
+  walkable-still w′ at r e g = record {
+    table-stands = k .table-stands;
+    indexed = indexed-still table first w w′ e (g .index-kept) (k .indexed);
+    sound = k .sound;
+    file = k .file;
+    space = omega (arith, k .space);
+  }
+
+  module _ (next : ℕ) where
+    abbrev A₀ : List Cell
+    A₀ = cellsOf w next
+
+    -- a step that wrote on the stacks and the frames alone
+    pub steps-go : (w′ : List ℕ) (at at′ : ℕ) (r : Turn) → at′ ≤ at → Steps (nodeAct T) x A₀ s w w′ at r → Goes T x s w w′ at′ (record { turn = r; next = next })
+    steps-go w′ at at′ r h z = record {
+      turned = subst (λ (B : List Cell). Turned (nodeAct T) x B s w′ at′ r) (sym (cells-above w w′ 0 framesEnd next (z .kept) (omega arith))) (turned-later (nodeAct T) x A₀ s w′ at at′ r h (z .turned));
+      index-kept = λ i a b. z .kept .above i (omega arith);
+    }
+
+    -- a term without inner terms
+    module _ (n : Next) (at : ℕ) (b : Begins (nodeAct T) x A₀ s w (placed n at)) (l : Leaf s at) where
+      pub leaf-inside : (at + 3 + word s (at + 1) ≤ length s) × (length s ≤ mostBytes)
+      leaf-inside = let t = known s at (b .0) (b .2 .stands) in (omega (arith, t .inside, t .length-is), k .file)
+
+      pub leaf-room : LeafRoom w n (atomics (b .0))
+      leaf-room = record { apart = omega (arith, b .2 .room); below = b .2 .below; space = k .space }
+
+      pub leaf-fits : Fitting T (b .0) at w n next
+      unfolding Turned number
+      leaf-fits e =
+          let z = leaf-refused (nodeAct T) x A₀ s w (placed n at) b l inputTooLong 1 at refl (omega (arith, leaf-inside)) e w at in
+          omega (arith, k .sound (z .0) at (z .2), z .1)
+
+      pub refused-goes : (v w′ : List ℕ) → Takes T (b .0) at w v w′ n next A.Refused → Goes T x s w w′ (at + 1) (record { turn = U.Refused 20 at; next = next })
+      unfolding Takes
+      refused-goes v w′ t = subst (λ (y : List ℕ). Goes T x s w y (at + 1) (record { turn = U.Refused 20 at; next = next })) (sym (t .3)) (record {
+        turned = leaf-refused (nodeAct T) x A₀ s w (placed n at) b l (t .0) 20 at (t .1) (omega (arith, leaf-inside)) (t .2) w (at + 1);
+        index-kept = λ i p q. refl;
+      })
+
+      -- it gave, after cells were written
+      module _ (v w′ : List ℕ) (in-cells : Kept w v indexEnd cellsEnd) (given used made : ℕ) (t : (t : Term) → Stands s at t → Takes T t at w v w′ n next (A.Gives given used made)) where
+        b₁ : Begins (nodeAct T) x A₀ s v (placed n at)
+        b₁ = begins-behind (nodeAct T) x A₀ s w (placed n at) b v indexEnd cellsEnd in-cells (omega arith)
+
+        acted : Acted (nodeAct T) A₀ (cellsOf w′ made) v w′ (placed n at) (b₁ .0) given used
+        unfolding Takes
+        acted = t (b₁ .0) (b₁ .2 .stands)
+
+        pub leaf-gives : (behind : ℕ) → behind ≡ at + 3 + word s (at + 1) → Gave (nodeAct T) x (cellsOf w′ made) s w′ behind (n .low) given (n .top + n .count * 2) (n .frames) (n .arity) (n .uses + used) × (n .uses + used ≤ mostBytes)
+        leaf-gives behind e =
+            leaf-gave (nodeAct T) x A₀ s v (placed n at) b₁ l (cellsOf w′ made) w′ given used acted behind (omega (arith, e, known s at (b₁ .0) (b₁ .2 .stands) .length-is))
+
+        pub gave-goes : (w″ : List ℕ) (behind : ℕ) (r : Turn) → behind ≡ at + 3 + word s (at + 1) → Steps (nodeAct T) x (cellsOf w′ made) s w′ w″ behind r → Goes T x s w w″ (at + 1) (record { turn = r; next = made })
+        gave-goes w″ behind r e z = record {
+          turned = subst (λ (B : List Cell). Turned (nodeAct T) x B s w″ (at + 1) r) (sym (cells-above w′ w″ 0 framesEnd made (z .kept) (omega arith))) (turned-later (nodeAct T) x (cellsOf w′ made) s w″ behind (at + 1) r (omega (arith, e)) (z .turned));
+          index-kept = λ i p q. z .kept .above i (omega arith) ∙ acted .kept .above i (omega (arith, b .2 .below)) ∙ in-cells .below i (omega arith);
+        }
