@@ -34,12 +34,10 @@ pub fn first(table: &[u8], flat: &[u8], entries: usize, work: &[u8], pending: Pe
     requires { ⌜ Pends (now table) (now flat) entries (now work) pending × (0 < pending .lists + pending .roots) ⌝ }
     ensures { λ r. ⌜ pendingIn (now (table .entry)) (now (flat .entry)) entries (now (work .entry)) pending ≡ r ∷ drop 1 (pendingIn (now (table .entry)) (now (flat .entry)) entries (now (work .entry)) pending) ⌝ }
 {
-    let lists = pending.lists;
-    if lists == 0 {
-        let roots = pending.roots;
-        return goal_at(flat, entries - roots * 2);
+    if pending.lists == 0 {
+        return goal_at(flat, entries - pending.roots * 2);
     }
-    let top = CURSORS + lists * 4 - 4;
+    let top = CURSORS + pending.lists * 4 - 4;
     let end = load16(work, top) as usize;
     let left = load16(work, top + 2) as usize;
     goal_at(table, end - left * 2)
@@ -50,24 +48,19 @@ pub fn pass(work: &mut [u8], pending: Pending) -> Pending
     requires { ⌜ ((table flat : List ℕ) × (entries : ℕ) × Pends table flat entries (now work) pending) × (0 < pending .lists + pending .roots) ⌝ }
     ensures { λ r. ⌜ ((table flat : List ℕ) (entries : ℕ) → Pends table flat entries (now (work .entry)) pending → Passes table flat entries (now (work .entry)) (now (work .exit)) pending r) ⌝ }
 {
-    let lists = pending.lists;
-    let roots = pending.roots;
-    if lists == 0 {
-        return Pending {
-            lists,
-            roots: roots - 1,
-        };
+    let mut others = pending;
+    if others.lists == 0 {
+        others.roots -= 1;
+        return others;
     }
-    let top = CURSORS + lists * 4 - 4;
+    let top = CURSORS + others.lists * 4 - 4;
     let left = load16(work, top + 2);
     if left == 1 {
-        return Pending {
-            lists: lists - 1,
-            roots,
-        };
+        others.lists -= 1;
+        return others;
     }
     store16(work, top + 2, left - 1);
-    pending
+    others
 }
 
 // Puts the premises of the rule at a place in front of the pending goals.
@@ -80,13 +73,11 @@ pub fn push(table: &[u8], rule: usize, work: &mut [u8], pending: Pending) -> Pen
     if count == 0 {
         return pending;
     }
-    let lists = pending.lists;
-    let roots = pending.roots;
-    let top = CURSORS + lists * 4;
-    store16(work, top, (rule + 7 + count * 2) as u16);
+    let mut all = pending;
+    let top = CURSORS + all.lists * 4;
+    let end = rule + 7 + count * 2;
+    store16(work, top, end as u16);
     store16(work, top + 2, count as u16);
-    Pending {
-        lists: lists + 1,
-        roots,
-    }
+    all.lists += 1;
+    all
 }

@@ -3,9 +3,7 @@ ghost use mathlib.Core.Path.{_≡_};
 ghost use Prim.Native.Nat.{_+_, _≤_};
 ghost use lib.ListN.{length};
 ghost use Rattle.words.specs.Word.{word};
-ghost use Rattle.format.specs.Values.{ruleName, goal};
-ghost use Rattle.tables.specs.Found.{isCarried};
-ghost use Rattle.index.specs.Keys.{digits};
+ghost use Rattle.index.specs.Keys.{isKey, digits};
 ghost use Rattle.derivation.specs.Pending.{pendingIn, Pends};
 ghost use Rattle.derivation.specs.Walks.{EntryInside, carriedGoal, carriesFirst, Ready, Walks};
 use crate::layout::INDEX;
@@ -63,7 +61,7 @@ fn digits_at(flat: &[u8], at: usize) -> u32
 // Whether the rule at one place has the name and the goal of the use at another.
 fn is_rule_of(table: &[u8], rule: usize, flat: &[u8], at: usize) -> bool
     requires { ⌜ (rule + 7 ≤ length (now table)) × (at + 7 ≤ length (now flat)) ⌝ }
-    ensures { λ r. ⌜ r ≡ isCarried (now (table .entry)) rule (ruleName (word (now (flat .entry)) (at + 3))) (goal (word (now (flat .entry)) (at + 5))) ⌝ }
+    ensures { λ r. ⌜ r ≡ isKey 6 (now (table .entry)) (word (now (flat .entry)) (at + 3)) (word (now (flat .entry)) (at + 5)) rule ⌝ }
 {
     let name = rule_name_at(flat, at + 3);
     let goal = goal_at(flat, at + 5);

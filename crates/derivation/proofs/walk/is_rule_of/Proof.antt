@@ -4,6 +4,7 @@ use mathlib.Core.Path.{_∙_}
 use borrow.Author.Needs.{needs}
 use Rattle.format.specs.Values.{ruleName, goal}
 use Rattle.tables.specs.Found.{isCarried}
+use Rattle.index.specs.Keys.{secondOf, isKey}
 use Rattle.derivation.proofs.walk.is_rule_of.Statement.{statement}
 use Rattle.derivation.proofs.walk.is_rule_of.Tie as tie
 use Rattle.derivation.proofs.walk.is_rule_of.Reads as reads
@@ -28,6 +29,7 @@ carries-requires : tie.Need-carries-requires
 carries-requires c κs = search needs
 
 returns : tie.Need-returns
+unfolding isCarried isKey secondOf
 returns c =
     let a = c .before .before .before .before .before .args in
     let n = c .before .before .rule-name-at .ensures in
