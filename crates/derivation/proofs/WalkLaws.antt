@@ -81,6 +81,27 @@ pub record Reached (T : Table) (flat : List ℕ) (whole : Result (List Goal)) (a
   pub few : used + usesIn rest ≤ mostUses
   pub bound : lists ≤ used
 
+-- at the first entry
+module _ (table : List ℕ) (rules : ℕ) (flat : List ℕ) (roots : ℕ) (w : List ℕ) (T : Table) (es : List Entry) where
+  abbrev allRoots : Pending
+  allRoots = record { lists = 0; roots = roots }
+
+  roots-pending : goalsAt flat 3 roots ≡ pendingIn table flat (firstEntry roots) w allRoots
+  unfolding waiting
+  roots-pending =
+      let begin : 3 ≡ firstEntry roots - roots * 2 = omega arith in
+      ap (λ (k : ℕ). goalsAt flat k roots) begin
+
+  pub reached-first : Given table rules flat roots T es → Reached T flat (flatWalk T (firstEntry roots) (goalsAt flat 3 roots) es) (firstEntry roots) 0 (pendingIn table flat (firstEntry roots) w allRoots)
+  reached-first g = record {
+    rest = es;
+    stand = g .entries-stand;
+    same = ap (λ (h : List Goal). flatWalk T (firstEntry roots) h es) roots-pending;
+    used = 0;
+    few = omega (arith, g .few-uses);
+    bound = omega arith;
+  }
+
 -- where a walk stops
 abbrev pub StopsAt : List ℕ → Result (List Goal) → (at : ℕ) → List Goal → Type 0
 StopsAt flat whole at pending = whole ≡ walked (length flat) at pending
