@@ -2,3 +2,4 @@ pub mod PendingLaws
 pub mod EntryLaws
 pub mod RuleLaws
 pub mod WalkLaws
+pub mod CheckLaws

@@ -15,7 +15,6 @@ use Rattle.words.specs.Kept.{Kept}
 use Rattle.words.proofs.WordLaws.{length-putWord, word-same, word-other}
 use Rattle.words.proofs.KeptLaws.{kept-put, kept-same, kept-both, word-below}
 use Rattle.format.specs.declared.values.Goal.{Goal}
-use Rattle.format.specs.Limits.{mostBytes}
 use Rattle.format.specs.Values.{goal}
 use Rattle.format.specs.Goals.{goalsAt}
 use Rattle.derivation.specs.declared.pending.Pending.{Pending}
@@ -161,7 +160,7 @@ module _ (table flat : List ℕ) (entries : ℕ) (w : List ℕ) (p : Pending) (h
                 ∙ ap₂ (λ (a b : List Goal). (a ++ b) ++ behind) (ap₂ (λ (a b : ℕ). goalsBefore table a b) end-same left-less) (waiting-kept table w w′ low (low + 2) kept-more d (omega arith)));
             pends = record {
               cursors = λ i l. cursors-next table w w′ low (low + 2) kept-more d (omega arith) (λ j m. h .cursors j (omega arith))
-              (record { some-left = omega (arith, left-less, top .some-left); begins = omega (arith, left-less, end-same, top .begins); ends = omega (arith, end-same, top .ends) }) i (omega arith);
+                  (record { some-left = omega (arith, left-less, top .some-left); begins = omega (arith, left-less, end-same, top .begins); ends = omega (arith, end-same, top .ends) }) i (omega arith);
               room = omega (arith, size-same, h .room);
               roots-begin = h .roots-begin;
               roots-end = h .roots-end;
@@ -169,6 +168,14 @@ module _ (table flat : List ℕ) (entries : ℕ) (w : List ℕ) (p : Pending) (h
             few = omega arith;
             kept = record { below = λ i l. kept-more .below i (omega arith); above = λ i l. kept-more .above i (omega arith) };
           }
+
+  -- where something is pending, there is a first goal
+  pub some-first : 0 < p .lists + p .roots → (γ : Goal) × (others : List Goal) × (goals ≡ γ ∷ others)
+  some-first some = go (split 0 (p .lists))
+    where
+      go : (0 < p .lists) ⊎ (p .lists ≤ 0) → (γ : Goal) × (others : List Goal) × (goals ≡ γ ∷ others)
+      go (inl l) = let z : p .lists ≡ suc (p .lists - 1) = omega arith in (_, _, from-list (p .lists - 1) z)
+      go (inr l) = let z : p .lists ≡ 0 = omega arith in (_, _, from-root z some)
 
   -- the same by what the code reads at the last cursor
   module _ (n : p .lists ≡ 0 → ⊥) where
@@ -270,7 +277,7 @@ module _ (table flat : List ℕ) (entries : ℕ) (w : List ℕ) (rule : ℕ) (p 
               ∙ ap (λ (l : ℕ). goalsAt table (rule + 7) (l / 2 - 2) ++ pendingIn table flat entries w p) len-is;
           pends = record {
             cursors = λ i l. cursors-next table w w₂ new (new + 4) kept-stored (p .lists) (omega arith) (h .cursors)
-            (record { some-left = omega (arith, left-stored); begins = omega (arith, left-stored, end-stored); ends = omega (arith, left-stored, end-stored, len-is, ri) }) i (omega arith);
+                (record { some-left = omega (arith, left-stored); begins = omega (arith, left-stored, end-stored); ends = omega (arith, left-stored, end-stored, len-is, ri) }) i (omega arith);
             room = omega (arith, size-second);
             roots-begin = h .roots-begin;
             roots-end = h .roots-end;

@@ -1,72 +1,90 @@
+-- `check::check_within` meets its contract: what the two files read as says which case of the outcome holds.
+-- Assumes nothing.
+use mathlib.Core.Path.{_≡_, sym, _∙_}
+use native.Mathlib.Omega.{arith}
+use denote.Ref.{now}
 use borrow.Author.Needs.{needs}
+use Rattle.format.specs.Refusals.{Cause, number}
+use Rattle.format.specs.Results.{gives, refused}
+use Rattle.tables.proofs.ToldTable.{ToldRefused, told-refuses}
+use Rattle.index.proofs.ReadLaws.{Told, told-indexed}
+use Rattle.files.specs.Derivations.{Derivation, readFlat}
+use Rattle.files.specs.Shapes.{flatPartsOf}
+use Rattle.files.proofs.Answers.{flat-read, flat-refused}
+use Rattle.files.proofs.RefusedFiles.{Flat-refused}
+use Rattle.derivation.specs.Layout.{indexPlace}
+use Rattle.derivation.proofs.CheckLaws.{refused-table, refused-flat, both-read, read-at}
 use Rattle.derivation.proofs.check.check_within.Statement.{statement}
 use Rattle.derivation.proofs.check.check_within.Tie as tie
-use Rattle.derivation.proofs.check.check_within.Reads as reads
-use Rattle.derivation.proofs.check.check_within.Lts as lts
-use Rattle.answers.proofs.refusal.Reads as refusal-reads
-use Rattle.derivation.proofs.check.check_entries.Reads as check-entries-reads
-use Rattle.files.proofs.flats.read_flat.Reads as read-flat-reads
-use Rattle.index.proofs.table.read_table.Reads as read-table-reads
 
--- src/check.rt:62:9
+-- what was read
+table-refused : (c : tie.After-read) → ToldRefused (now (c .before .before .before .before .before .before .before .before .before .args .table)) (c .read .given .0 .0) (c .read .given .0 .1 .0)
+table-refused c = told-refuses _ _ _ (sym (c .before .before .before .before .read-table .ensures .answer) ∙ c .read .given .1)
+
+table-read : (c : tie.After-read2) → Told (now (c .before .before .before .before .before .before .before .before .before .args .table)) (c .before .before .before .before .read-table .last .1 .0) 0 indexPlace (c .read2 .given .0 .0) (c .read2 .given .0 .1 .0) (c .read2 .given .0 .1 .1 .0)
+table-read c = told-indexed _ _ _ _ _ _ _ _ _ (c .before .before .before .before .read-table .ensures) (c .read2 .given .1)
+
+file-refused : (c : tie.After-file) → (k : Cause) × (readFlat (now (c .before .before .before .before .before .before .before .before .before .before .before .before .before .args .flat)) ≡ refused k (c .file .given .0 .1 .0)) × (number k ≡ c .file .given .0 .0)
+file-refused c = flat-refused _ _ _ (sym (c .before .before .read-flat .ensures) ∙ c .file .given .1)
+
+file-read : (c : tie.After-file2) → (d : Derivation) × (readFlat (now (c .before .before .before .before .before .before .before .before .before .before .before .before .before .args .flat)) ≡ gives d) × (flatPartsOf d ≡ c .file2 .given .0 .0)
+file-read c = flat-read _ _ (sym (c .before .before .read-flat .ensures) ∙ c .file2 .given .1)
+
 read-table-requires : tie.Need-read-table-requires
-read-table-requires c κs = search needs
+read-table-requires c κs = (omega arith, omega (arith, c .before .before .before .before .pre))
 
--- src/check.rt:64:28
 enum-known-read : tie.Need-enum-known-read
 enum-known-read c = search needs
 
--- src/check.rt:64:46
 refusal-requires : tie.Need-refusal-requires
-refusal-requires c κs = ?
+refusal-requires c κs = (table-refused (c .before) .refusal .below, omega arith)
 
--- src/check.rt:65:31
 enum-known-read-2 : tie.Need-enum-known-read-2
 enum-known-read-2 c = search needs
 
--- src/check.rt:66:17
 read-flat-requires : tie.Need-read-flat-requires
 read-flat-requires c κs = search needs
 
--- src/check.rt:68:35
 enum-known-file : tie.Need-enum-known-file
 enum-known-file c = search needs
 
--- src/check.rt:68:53
 refusal-requires-2 : tie.Need-refusal-requires-2
-refusal-requires-2 c κs = ?
+refusal-requires-2 c κs = let f = file-refused (c .before) in (Flat-refused _ (f .0) _ (f .1) .below, omega arith)
 
--- src/check.rt:69:32
 enum-known-file-2 : tie.Need-enum-known-file-2
 enum-known-file-2 c = search needs
 
--- src/check.rt:69:42
 check-entries-requires : tie.Need-check-entries-requires
-check-entries-requires c κs = ?
+check-entries-requires c κs =
+    let t = table-read (c .before .before .before .before .before .before) in
+    let f = file-read (c .before .before) in (
+      (t .read .table, t .read .stands),
+      ((f .0, read-at _ _ (f .0) (f .1) (f .2)), ((t .read .facts .size, omega (arith, c .before .before .before .before .before .before .before .before .before .before .before .before .before .before .before .pre, c .before .before .before .before .before .before .before .before .before .before .read-table .kept .1 .0)), t .rules)),
+    )
 
--- src/check.rt:58:1
 same-length : tie.Need-same-length
 same-length c = search needs
 
--- src/check.rt:58:1
 returns : tie.Need-returns
-returns c = ?
+returns c = let t = table-refused (c .before .before) in c .refusal .ensures ∙ refused-table _ _ (t .cause) _ _ (t .refuses) (t .number-is)
 
--- src/check.rt:58:1
 same-length-2 : tie.Need-same-length-2
 same-length-2 c = search needs
 
--- src/check.rt:58:1
 returns-2 : tie.Need-returns-2
-returns-2 c = ?
+returns-2 c =
+    let t = table-read (c .before .before .before .before .before .before) .read in
+    let f = file-refused (c .before .before) in
+    c .refusal2 .ensures ∙ refused-flat _ _ (t .table) (t .reads) (f .0) _ _ (f .1) (f .2)
 
--- src/check.rt:58:1
 same-length-3 : tie.Need-same-length-3
 same-length-3 c = search needs
 
--- src/check.rt:58:1
 returns-3 : tie.Need-returns-3
-returns-3 c = ?
+returns-3 c =
+    let t = table-read (c .before .before .before .before .before .before .before .before .before) .read in
+    let f = file-read (c .before .before .before .before .before) in
+    c .before .before .check-entries .ensures .0 (t .table) (f .0) (t .stands) (read-at _ _ (f .0) (f .1) (f .2)) ∙ both-read _ _ (t .table) (t .reads) (f .0) (f .1)
 
 pub check-within-spec : {M : Type 1} → statement M
 check-within-spec =

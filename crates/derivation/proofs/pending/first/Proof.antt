@@ -7,60 +7,43 @@ use Rattle.derivation.proofs.PendingLaws.{first-root, first-listed, lis
 use borrow.Author.Needs.{needs}
 use Rattle.derivation.proofs.pending.first.Statement.{statement}
 use Rattle.derivation.proofs.pending.first.Tie as tie
-use Rattle.derivation.proofs.pending.first.Reads as reads
-use Rattle.derivation.proofs.pending.first.Lts as lts
-use Rattle.format.proofs.values.goal_at.Reads as goal-at-reads
-use Rattle.words.proofs.load16.Reads as load16-reads
 
--- src/pending.rt:40:40
 mul-goal-at : tie.Need-mul-goal-at
 mul-goal-at c = search needs
 
--- src/pending.rt:40:30
 sub-goal-at : tie.Need-sub-goal-at
 sub-goal-at c = search needs
 
--- src/pending.rt:40:9
 goal-at-requires : tie.Need-goal-at-requires
 goal-at-requires c κs = search needs
 
--- src/pending.rt:40:9
 returns : tie.Need-returns
 returns c = let i = c .before .before .before .before .before .before .before in first-root _ _ _ _ _ (i .pre .0) (c .before .before .if1 .taken) (i .pre .1) _ (c .goal-at .ensures)
 
--- src/pending.rt:42:25
 mul-top : tie.Need-mul-top
 mul-top c = search needs
 
--- src/pending.rt:42:15
 add-top : tie.Need-add-top
 add-top c = search needs
 
--- src/pending.rt:42:15
 sub-top : tie.Need-sub-top
 sub-top c = search needs
 
--- src/pending.rt:43:15
 load16-requires : tie.Need-load16-requires
 load16-requires c κs = search needs
 
--- src/pending.rt:43:15
 cast-end : tie.Need-cast-end
 cast-end c = search needs
 
--- src/pending.rt:44:29
 add-load16 : tie.Need-add-load16
 add-load16 c = search needs
 
--- src/pending.rt:44:16
 load16-requires-2 : tie.Need-load16-requires-2
 load16-requires-2 c κs = search needs
 
--- src/pending.rt:44:16
 cast-left : tie.Need-cast-left
 cast-left c = search needs
 
--- src/pending.rt:45:26
 mul-goal-at-2 : tie.Need-mul-goal-at-2
 mul-goal-at-2 c = search needs
 
@@ -68,15 +51,12 @@ mul-goal-at-2 c = search needs
 inside : (c : tie.After-load162) → Cursor (now (c .before .before .before .before .before .before .before .before .args .table)) (c .before .load16 .result) (c .load162 .result)
 inside c = let i = c .before .before .before .before .before .before .before .before in list-inside _ _ _ _ _ (i .pre .0) (c .before .before .before .if1 .left) _ (c .load162 .ensures) _ (c .before .load16 .ensures)
 
--- src/pending.rt:45:20
 sub-goal-at-2 : tie.Need-sub-goal-at-2
 sub-goal-at-2 c = omega (arith, inside c .begins)
 
--- src/pending.rt:45:5
 goal-at-requires-2 : tie.Need-goal-at-requires-2
 goal-at-requires-2 c κs = omega (arith, inside c)
 
--- src/pending.rt:33:1
 returns-2 : tie.Need-returns-2
 returns-2 c = let i = c .before .before .before .before .before .before .before .before .before in first-listed _ _ _ _ _ (i .pre .0) (c .before .before .before .before .if1 .left) _ (c .before .load162 .ensures) _ (c .before .before .load16 .ensures) _ (c .goal-at2 .ensures)
 

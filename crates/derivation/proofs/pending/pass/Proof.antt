@@ -5,68 +5,49 @@ use Rattle.derivation.proofs.PendingLaws.{some-left, pass-root, pass-la
 use borrow.Author.Needs.{needs}
 use Rattle.derivation.proofs.pending.pass.Statement.{statement}
 use Rattle.derivation.proofs.pending.pass.Tie as tie
-use Rattle.derivation.proofs.pending.pass.Reads as reads
-use Rattle.derivation.proofs.pending.pass.Lts as lts
-use Rattle.words.proofs.load16.Reads as load16-reads
-use Rattle.words.proofs.store16.Reads as store16-reads
 
--- src/pending.rt:53:9
 sub-others : tie.Need-sub-others
 sub-others c = search needs
 
--- src/pending.rt:54:9
 returns : tie.Need-returns
 returns c = λ table flat entries h. pass-root _ _ _ _ _ h (c .before .if1 .taken) (c .before .before .before .before .pre .1)
 
--- src/pending.rt:56:25
 mul-top : tie.Need-mul-top
 mul-top c = search needs
 
--- src/pending.rt:56:15
 add-top : tie.Need-add-top
 add-top c = search needs
 
--- src/pending.rt:56:15
 sub-top : tie.Need-sub-top
 sub-top c = search needs
 
--- src/pending.rt:57:29
 add-load16 : tie.Need-add-load16
 add-load16 c = search needs
 
--- src/pending.rt:57:9
 load16-requires : tie.Need-load16-requires
 load16-requires c κs = search needs
 
--- src/pending.rt:59:9
 sub-others-2 : tie.Need-sub-others-2
 sub-others-2 c = search needs
 
--- src/pending.rt:60:9
 same-length : tie.Need-same-length
 same-length c = search needs
 
--- src/pending.rt:60:9
 returns-2 : tie.Need-returns-2
 returns-2 c = λ table flat entries h. pass-last _ _ _ _ _ h (c .before .before .before .before .before .if1 .left) _ (c .before .before .load16 .ensures) (c .before .if2 .taken)
 
--- src/pending.rt:62:19
 add-store16 : tie.Need-add-store16
 add-store16 c = search needs
 
--- src/pending.rt:62:28
 sub-store16 : tie.Need-sub-store16
 sub-store16 c = let i = c .before .before .before .before .before .before .before .before in omega (arith, some-left _ _ _ _ _ (i .pre .0 .3) (c .before .before .before .before .before .if1 .left) _ (c .before .before .load16 .ensures))
 
--- src/pending.rt:62:5
 store16-requires : tie.Need-store16-requires
 store16-requires c κs = search needs
 
--- src/pending.rt:47:1
 same-length-2 : tie.Need-same-length-2
 same-length-2 c = search needs
 
--- src/pending.rt:47:1
 returns-3 : tie.Need-returns-3
 returns-3 c = λ table flat entries h. pass-one _ _ _ _ _ h (c .before .before .before .before .before .before .before .before .if1 .left) _ (c .before .before .before .before .before .load16 .ensures) (c .before .before .before .before .if2 .left) _ (c .before .before .store16 .ensures)
 

@@ -9,52 +9,37 @@ use Rattle.derivation.proofs.EntryLaws.{use-goal, open-goal, compared, 
 use borrow.Author.Needs.{needs}
 use Rattle.derivation.proofs.walk.carries_first.Statement.{statement}
 use Rattle.derivation.proofs.walk.carries_first.Tie as tie
-use Rattle.derivation.proofs.walk.carries_first.Reads as reads
-use Rattle.derivation.proofs.walk.carries_first.Lts as lts
-use Rattle.derivation.proofs.pending.first.Reads as first-reads
-use Rattle.derivation.proofs.pending.some_pending.Reads as some-pending-reads
-use Rattle.format.proofs.values.goal_at.Reads as goal-at-reads
 
--- src/walk.rt:43:9
 some-pending-requires : tie.Need-some-pending-requires
 some-pending-requires c κs = search needs
 
--- src/walk.rt:44:9
 returns : tie.Need-returns
 returns c =
     let p = c .before .before .before .before .before .args .pending in
     let none = ltb-false 0 (p .lists + p .roots) (sym (c .before .some-pending .ensures) ∙ not-true _ (c .if1 .taken)) in
     none-carried _ _ (none-pending _ _ _ _ p (omega (arith, none)))
 
--- src/walk.rt:46:9
 first-requires : tie.Need-first-requires
 first-requires c κs = (c .before .before .before .before .before .pre .1, ltb-true _ _ (sym (c .before .some-pending .ensures) ∙ not-false _ (c .if1 .left)))
 
--- src/walk.rt:47:8
 shared-slice-read-if2 : tie.Need-shared-slice-read-if2
 shared-slice-read-if2 c = search needs
 
--- src/walk.rt:48:34
 add-goal-at : tie.Need-add-goal-at
 add-goal-at c = search needs
 
--- src/walk.rt:48:13
 goal-at-requires : tie.Need-goal-at-requires
 goal-at-requires c κs = omega (arith, c .before .before .before .before .before .before .before .before .pre .0 .some-use (c .if2 .taken))
 
--- src/walk.rt:49:9
 returns-2 : tie.Need-returns-2
 returns-2 c = compared _ _ _ _ _ _ _ (c .before .before .before .before .before .first .ensures) (use-goal _ _ (c .before .before .before .if2 .taken)) (c .before .before .goal-at .ensures)
 
--- src/walk.rt:51:30
 add-goal-at-2 : tie.Need-add-goal-at-2
 add-goal-at-2 c = search needs
 
--- src/walk.rt:51:9
 goal-at-requires-2 : tie.Need-goal-at-requires-2
 goal-at-requires-2 c κs = search needs
 
--- src/walk.rt:32:1
 returns-3 : tie.Need-returns-3
 returns-3 c = compared _ _ _ _ _ _ _ (c .before .before .before .before .before .first .ensures) (open-goal _ _ (c .before .before .before .if2 .left)) (c .before .before .goal-at2 .ensures)
 

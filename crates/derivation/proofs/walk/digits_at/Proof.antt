@@ -5,32 +5,22 @@ use Rattle.index.specs.Keys.{digits}
 use borrow.Author.Needs.{needs}
 use Rattle.derivation.proofs.walk.digits_at.Statement.{statement}
 use Rattle.derivation.proofs.walk.digits_at.Tie as tie
-use Rattle.derivation.proofs.walk.digits_at.Reads as reads
-use Rattle.derivation.proofs.walk.digits_at.Lts as lts
-use Rattle.index.proofs.seek.digits_of.Reads as digits-of-reads
-use Rattle.words.proofs.load16.Reads as load16-reads
 
--- src/walk.rt:60:28
 add-load16 : tie.Need-add-load16
 add-load16 c = search needs
 
--- src/walk.rt:60:15
 load16-requires : tie.Need-load16-requires
 load16-requires c κs = search needs
 
--- src/walk.rt:60:50
 add-load16-2 : tie.Need-add-load16-2
 add-load16-2 c = search needs
 
--- src/walk.rt:60:37
 load16-requires-2 : tie.Need-load16-requires-2
 load16-requires-2 c κs = search needs
 
--- src/walk.rt:60:5
 digits-of-requires : tie.Need-digits-of-requires
 digits-of-requires c κs = search needs
 
--- src/walk.rt:56:1
 returns : tie.Need-returns
 returns c = c .digits-of .ensures ∙ ap₂ digits (c .before .before .load16 .ensures) (c .before .load162 .ensures)
 

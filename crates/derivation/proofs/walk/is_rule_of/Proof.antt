@@ -7,11 +7,6 @@ use Rattle.tables.specs.Found.{isCarried}
 use Rattle.index.specs.Keys.{secondOf, isKey}
 use Rattle.derivation.proofs.walk.is_rule_of.Statement.{statement}
 use Rattle.derivation.proofs.walk.is_rule_of.Tie as tie
-use Rattle.derivation.proofs.walk.is_rule_of.Reads as reads
-use Rattle.derivation.proofs.walk.is_rule_of.Lts as lts
-use Rattle.format.proofs.values.goal_at.Reads as goal-at-reads
-use Rattle.format.proofs.values.rule_name_at.Reads as rule-name-at-reads
-use Rattle.tables.proofs.lookup.carries.Reads as carries-reads
 
 add-rule-name-at : tie.Need-add-rule-name-at
 add-rule-name-at c = search needs

@@ -1,14 +1,13 @@
 -- `walk::walk` meets its contract. The invariant: the walk from the first entry on is the walk from here on over the pending goals, of which there are at most as many lists as uses so far; outside the cursors the work space is as it was.
 -- The inner loop's: the search for the use's name and goal comes to this node.
 -- Assumes nothing.
-use mathlib.Core.Path.{_≡_, refl, sym, subst, ap, _∙_}
+use mathlib.Core.Path.{_≡_, sym, _∙_}
 use mathlib.Core.Bool.{true, false}
-use mathlib.Core.Option.{some}
 use mathlib.Core.List.{List}
-use Prim.Native.Nat.{ℕ, _+_, _*_, _-_, _/_, _≤_, _<_}
+use Prim.Native.Nat.{ℕ, _+_, _*_, _-_, _≤_, _<_}
 use native.Mathlib.Omega.{arith}
 use denote.Ref.{now}
-use lib.ListN.{length, getD, drop}
+use lib.ListN.{length, getD}
 use borrow.Author.Tests.{not-true, not-false}
 use borrow.Author.Needs.{needs}
 use Rattle.words.specs.Word.{word}
@@ -17,7 +16,6 @@ use Rattle.format.specs.Limits.{mostRules, mostUses}
 use Rattle.format.specs.Results.{Result}
 use Rattle.format.specs.Goals.{goalsAt}
 use Rattle.tables.specs.Tables.{Table}
-use Rattle.tables.specs.Standing.{TableStands}
 use Rattle.index.specs.Keys.{isKey}
 use Rattle.index.specs.Build.{RulesIndexed}
 use Rattle.files.specs.Derivations.{Entry}
@@ -25,7 +23,7 @@ use Rattle.files.proofs.EntryBytes.{entries-end}
 use Rattle.hitac.specs.FlatWalk.{flatWalk}
 use Rattle.derivation.specs.declared.pending.Pending.{Pending}
 use Rattle.derivation.specs.Layout.{indexPlace}
-use Rattle.derivation.specs.Pending.{pendingIn, Passes, RuleInside, Pushes}
+use Rattle.derivation.specs.Pending.{pendingIn, Passes, RuleInside}
 use Rattle.derivation.specs.Walks.{firstEntry, EntryInside, carriedGoal, carriesFirst, Given, Ready}
 use Rattle.derivation.proofs.RuleLaws.{indexed-still, Descends, at-first, none-at-all, AtNode, node-few, node-inside, rule-here, rule-inside, rule-found, none-found, goes-down, higher}
 use Rattle.derivation.proofs.WalkLaws.{some-pending, Keeps, keeps-first, keeps-passed, keeps-pushed, Reached, reached-first, here-inside, lists-few, at-end, entry-inside, not-first, goes-open, no-rule, room-for, goes-use}
@@ -311,7 +309,7 @@ walk-again-2 c =
     let pushes = push .ensures _ _ (keeps p .pends) in (
       keeps-pushed _ _ _ _ _ _ _ _ (keeps p) (push .kept .1 .1 .0) _ (one-more h) pushes,
       λ T es g. goes-use _ _ _ _ _ _ (head e .walk .inv .1 T es g) (more e) (carried e) (is-use (node (hit h))) _ _ _ _
-      (rule-found (at-node (node (hit h))) (place (hit h)) (told (hit h)) (is-key h) T (g .rules-stand)) (passes p .others) (pushes .in-front) (omega (arith, pushes .few, passes p .few)),
+          (rule-found (at-node (node (hit h))) (place (hit h)) (told (hit h)) (is-key h) T (g .rules-stand)) (passes p .others) (pushes .in-front) (omega (arith, pushes .few, passes p .few)),
     )
 
 same-length : tie.Need-same-length Inv-loop μ-loop Inv-walk μ-walk
@@ -361,7 +359,7 @@ returns-4 c =
     let w = head e in
     record {
       result = λ T es g. no-rule _ _ _ _ _ _ (w .walk .inv .1 T es g) (more e) (carried e) (is-use (node m))
-      (none-found (at-node (node m)) (place m) (told m) (other-key (c .before .before .before)) _ (c .before .link .ensures) (c .if6 .taken) T (g .rules-stand)) _;
+          (none-found (at-node (node m)) (place m) (told m) (other-key (c .before .before .before)) _ (c .before .link .ensures) (c .if6 .taken) T (g .rules-stand)) _;
       inside = within w;
       pends = keeps p .pends;
       kept = keeps p .kept;
