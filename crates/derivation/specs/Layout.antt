@@ -1,13 +1,13 @@
--- The regions of the work space of check_flat and write_proof: the room of the searches that read the table, the index over its rules, the cursors of the pending goals.
+-- The regions of the work space of check_flat and write_proof: what reading the table takes, the index over its rules, the cursors of the pending goals.
 use Prim.Native.Nat.{ℕ, _+_, _*_}
-use Rattle.format.specs.Limits.{mostRules, mostDefinitions, mostUses}
+use Rattle.format.specs.Limits.{mostUses}
+use Rattle.index.specs.Layout.{rulesRoom, readingScratch}
 
--- five bytes for each rule or definition in an index
 abbrev pub indexPlace : ℕ
-indexPlace = 5 * mostRules + 5 * mostDefinitions
+indexPlace = readingScratch
 
 abbrev pub cursorsPlace : ℕ
-cursorsPlace = indexPlace + 5 * mostRules
+cursorsPlace = indexPlace + rulesRoom
 
 -- four bytes for a cursor, of which each use adds at most one
 abbrev pub cursorsEnd : ℕ
