@@ -2,6 +2,7 @@
 import unittest
 
 from depth.follow import Call, measured
+from depth.limits import bounds_of, header_of, judged
 from depth.listing import NotUnderstood, functions_of
 from depth.paths import Paths, cycles_of
 
@@ -165,6 +166,24 @@ class Searching(unittest.TestCase):
     def test_components_come_behind_those_that_they_call(self):
         graph = {1: [2, 4], 2: [3], 3: [2, 5], 4: [4], 5: []}
         self.assertEqual([sorted(cycle) for cycle in cycles_of(1, graph.get)], [[5], [2, 3], [4], [1]])
+
+
+class Judging(unittest.TestCase):
+    def test_the_header(self):
+        text = "/* hitac_run */\n#define HITAC_RUN_STACK 12 /* for hitac_run */\nstruct hitac_answer hitac_run(int a);\n"
+        self.assertEqual(header_of(text), ({"RUN_STACK": 12}, ["run"]))
+
+    def test_the_bounds(self):
+        bounds = bounds_of({"MOST_ENTRIES": 2048, "MOST_TERM_FIELDS": 4096})
+        self.assertEqual(list(bounds.values()), [2048, 2049, 2048])
+
+    def test_constants_and_limits(self):
+        self.assertEqual(judged("run", 5000, {"RUN_STACK": 5000}), ([], []))
+        self.assertEqual(len(judged("run", 5001, {"RUN_STACK": 5000})[0]), 1)
+        self.assertEqual(len(judged("run", 5000, {})[0]), 1)
+        self.assertEqual(len(judged("check", 5000, {"CHECK_STACK": 5000})[0]), 1)
+        self.assertEqual(judged("check", 2000, {"CHECK_STACK": 4096})[0], [])
+        self.assertEqual(len(judged("check", 2000, {"CHECK_STACK": 4096})[1]), 1)
 
 
 if __name__ == "__main__":
