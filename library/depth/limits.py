@@ -1,8 +1,8 @@
 """What library/stack knows beside the machine code: outside functions, bounds of cycles, limits, the header's constants."""
 import re
 
-# The functions of the C library that may be called. Each is written in assembler in glibc and musl and uses nothing but its
-# return address; 64 bytes leave it room for seven registers.
+# The functions of the C library that may be called. In glibc 2.36, in the variants for AVX2, which were disassembled, each uses
+# nothing but its return address; 64 bytes leave others room for seven registers.
 OUTSIDE = {name: 64 for name in ("memset", "memcpy", "memmove", "memcmp")}
 
 # The most that an entry may take.
