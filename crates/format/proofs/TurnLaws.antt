@@ -28,7 +28,8 @@ use Rattle.format.proofs.HeaderLaws.{IsField, is-field}
 use Rattle.format.specs.declared.waiting.State.{State}
 use Rattle.format.specs.Waiting.{readingRoom, goOn, reads, closing, endOf, putWaiting, resumed, beginning, refusing, told, outcome, Waits, Going, weight, Moved, Enters, Turned}
 use Rattle.format.proofs.Lengths.{short-field}
-use Rattle.format.proofs.ShapeLaws.{within, reads-refused, reads-leaf, reads-inner, reads-any}
+use Rattle.format.proofs.TermLaws.{within}
+use Rattle.format.proofs.ShapeLaws.{reads-refused, reads-leaf, reads-inner, reads-any}
 use Rattle.format.proofs.WaitLaws.{resumed-refused, resumed-top, waits-top, waits-on, waits-lower, waits-inside, resumed-below, waits-below, waiting-kept, waiting-length, waiting-place, waiting-left}
 
 -- the outcome by the mode

@@ -93,14 +93,14 @@ fn leave(x: State, s: &[u8], work: &mut [u8], base: usize) -> State
     let top = x.top;
     let below = x.depth - 1;
     let low = base + below * 4;
-    let gap = load16(work, low) as usize;
+    let around = top - load16(work, low) as usize;
     let left = load16(work, low + 2);
     let end = top + 3 + load16(s, top + 1) as usize;
     r.end = end;
     if left == 0 {
         if x.at == end {
             r.depth = below;
-            r.top = top - gap;
+            r.top = around;
             return r;
         }
         return refused(x, 4, top);

@@ -20,14 +20,14 @@ abbrev S : Type 0
 S = tie.Start
 
 abbrev K : Type 0
-K = tie.After-load162
+K = tie.After-load16
 
 abbrev start : K → S
-start c = c .before .before .before .before .before .before .before
+start c = c .before .before .before .before .before
 
 -- the field on top of those that wait lies in the file, and stands behind the one around it
-holds : (c : K) → (endOf (now (start c .args .s)) (start c .args .x .top) ≤ length (now (start c .args .s))) × (c .before .before .load16 .result ≤ start c .args .x .top)
-holds c = top-inside _ _ _ _ (start c .pre .0) (start c .args .x .depth - 1) _ (omega (arith, start c .pre .2)) (c .before .before .load16 .ensures)
+holds : (c : K) → (endOf (now (start c .args .s)) (start c .args .x .top) ≤ length (now (start c .args .s))) × (c .load16 .result ≤ start c .args .x .top)
+holds c = top-inside _ _ _ _ (start c .pre .0) (start c .args .x .depth - 1) _ (omega (arith, start c .pre .2)) (c .load16 .ensures)
 
 sub-below : tie.Need-sub-below
 sub-below c = search needs
@@ -41,8 +41,11 @@ add-low c = search needs
 load16-requires : tie.Need-load16-requires
 load16-requires c κs = search needs
 
-cast-gap : tie.Need-cast-gap
-cast-gap c = search needs
+cast-around : tie.Need-cast-around
+cast-around c = search needs
+
+sub-around : tie.Need-sub-around
+sub-around c = omega (arith, holds c)
 
 add-load16 : tie.Need-add-load16
 add-load16 c = search needs
@@ -52,25 +55,22 @@ load16-requires-2 c κs = search needs
 
 add-end : tie.Need-add-end
 unfolding endOf
-add-end c = omega (arith, holds c)
+add-end c = omega (arith, holds (c .before .before))
 
 add-load16-2 : tie.Need-add-load16-2
 unfolding endOf
-add-load16-2 c = omega (arith, holds c)
+add-load16-2 c = omega (arith, holds (c .before .before))
 
 load16-requires-3 : tie.Need-load16-requires-3
 unfolding endOf
-load16-requires-3 c κs = omega (arith, holds c)
+load16-requires-3 c κs = omega (arith, holds (c .before .before))
 
 cast-end : tie.Need-cast-end
 cast-end c = search needs
 
 add-end-2 : tie.Need-add-end-2
 unfolding endOf
-add-end-2 c = omega (arith, holds (c .before), c .load163 .ensures)
-
-sub-r : tie.Need-sub-r
-sub-r c = omega (arith, holds (c .before .before .before .before))
+add-end-2 c = omega (arith, holds (c .before .before .before), c .load163 .ensures)
 
 same-length : tie.Need-same-length
 same-length c = search needs
@@ -107,7 +107,8 @@ leave-spec =
     mul-low
     add-low
     load16-requires
-    cast-gap
+    cast-around
+    sub-around
     add-load16
     load16-requires-2
     add-end
@@ -115,7 +116,6 @@ leave-spec =
     load16-requires-3
     cast-end
     add-end-2
-    sub-r
     same-length
     returns
     refused-requires
