@@ -5,12 +5,15 @@ ghost use lib.ListN.{length};
 ghost use Rattle.tables.specs.Tables.{Table};
 ghost use Rattle.tables.specs.Standing.{TableStands};
 ghost use Rattle.files.specs.Derivations.{Derivation};
+ghost use Rattle.index.specs.Build.{RulesIndexed};
 ghost use Rattle.entries.specs.Outcomes.{done};
 ghost use Rattle.entries.specs.CheckFlat.{writeProofWork, writeOutcome, writeProof};
 ghost use Rattle.derivation.specs.CheckedEntries.{DerivationAt};
 ghost use Rattle.writer.specs.Right.{Right, proofOf};
 ghost use Rattle.writer.specs.Left.{leftIn, writtenEntries};
 use crate::file::write_file;
+use crate::plan::PLAN;
+use crate::plan::plan_entries;
 use crate::sizes::proof_size;
 use answers::Answer;
 use answers::refusal;
@@ -32,19 +35,23 @@ const MOST_ENTRIES: usize = 2048;
 fn write_right(
     table: &[u8],
     rules: usize,
+    work: &[u8],
     flat: &[u8],
     roots: usize,
     size: usize,
     out: &mut [u8],
 ) -> Answer
-    requires { ⌜ ((d : Right (now table) rules (now flat) roots) × (size ≡ length (proofOf d))) ⌝ }
-    ensures answer { λ r. ⌜ ((d : Right (now (table .entry)) rules (now (flat .entry)) roots) → size ≡ length (proofOf d) → r ≡ leftIn (now (out .entry)) (done (proofOf d)) .answer) ⌝ }
-    ensures out { λ _. ⌜ ((d : Right (now (table .entry)) rules (now (flat .entry)) roots) → size ≡ length (proofOf d) → now (out .exit) ≡ leftIn (now (out .entry)) (done (proofOf d)) .out) ⌝ }
+    requires { ⌜ RulesIndexed (now table) rules (now work) 21760 ⌝ }
+    requires { ⌜ ((d : Right (now flat) roots) × TableStands (now table) rules (d .table) × (size ≡ length (proofOf d))) ⌝ }
+    ensures answer { λ r. ⌜ ((d : Right (now (flat .entry)) roots) → TableStands (now (table .entry)) rules (d .table) → size ≡ length (proofOf d) → r ≡ leftIn (now (out .entry)) (done (proofOf d)) .answer) ⌝ }
+    ensures out { λ _. ⌜ ((d : Right (now (flat .entry)) roots) → TableStands (now (table .entry)) rules (d .table) → size ≡ length (proofOf d) → now (out .exit) ≡ leftIn (now (out .entry)) (done (proofOf d)) .out) ⌝ }
 {
     if out.len() < size {
         return refusal(26, 0, 0, 0);
     }
-    let len = write_file(table, rules, flat, roots, out);
+    let mut plan = [0u8; PLAN];
+    plan_entries(table, rules, work, flat, 3 + roots * 2, &mut plan);
+    let len = write_file(flat, roots, &plan, out);
     wrote(len, 0)
 }
 
@@ -74,7 +81,7 @@ fn write_entries(
         return checked;
     }
     let size = proof_size(roots, uses, opens);
-    write_right(table, rules, flat, roots, size, out)
+    write_right(table, rules, work, flat, roots, size, out)
 }
 
 // The writing itself: it may leave anything in the work space.
