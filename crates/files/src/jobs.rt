@@ -1,8 +1,10 @@
 // Reading a job file: a goal list, then one term.
 ghost use mathlib.Core.Path.{_≡_};
-ghost use Prim.Native.Nat.{_≤_};
+ghost use Prim.Native.Nat.{_+_, _≤_};
 ghost use lib.ListN.{length};
+ghost use Rattle.words.specs.Kept.{Kept};
 ghost use Rattle.format.specs.Tags.{tacticKind};
+ghost use Rattle.format.specs.Waiting.{readingRoom};
 ghost use Rattle.files.specs.Jobs.{readLastTerm, readJob};
 ghost use Rattle.files.specs.Shapes.{lastTermShape, jobShape};
 use crate::stated::read_stated;
@@ -24,13 +26,14 @@ pub enum JobRead {
     Read(JobParts),
 }
 
-// The term from a place to the end of the file, behind which nothing may be left. Kinds up to high may stand in it.
-pub fn read_last_term(s: &[u8], at: usize, high: u8) -> TermRead
-    requires { ⌜ (at ≤ length (now s)) × (high ≤ tacticKind) ⌝ }
+// The term from a place to the end of the file, behind which nothing may be left. Kinds up to high may stand in it. While it is read its fields wait in work, from base on.
+pub fn read_last_term(s: &[u8], at: usize, high: u8, work: &mut [u8], base: usize) -> TermRead
+    requires { ⌜ (at ≤ length (now s)) × (high ≤ tacticKind) × (base + readingRoom ≤ length (now work)) ⌝ }
     ensures { λ r. ⌜ r ≡ lastTermShape at (readLastTerm (now (s .entry)) high at) ⌝ }
+    ensures { λ _. ⌜ Kept (now (work .entry)) (now (work .exit)) base (base + readingRoom) ⌝ }
 {
     let end = s.len();
-    let last = read_term(s, at, end, high, 0);
+    let last = read_term(s, at, end, high, 0, work, base);
     let TermRead::Read(next, _) = last else {
         return last;
     };
@@ -41,14 +44,16 @@ pub fn read_last_term(s: &[u8], at: usize, high: u8) -> TermRead
 }
 
 // A job file.
-pub fn read_job(s: &[u8]) -> JobRead
+pub fn read_job(s: &[u8], work: &mut [u8], base: usize) -> JobRead
+    requires { ⌜ base + readingRoom ≤ length (now work) ⌝ }
     ensures { λ r. ⌜ r ≡ jobShape (readJob (now (s .entry))) ⌝ }
+    ensures { λ _. ⌜ Kept (now (work .entry)) (now (work .exit)) base (base + readingRoom) ⌝ }
 {
     let stated = read_stated(s);
     match stated {
         GoalsRead::Refused(number, place) => JobRead::Refused(number, place),
         GoalsRead::Read(goals, term) => {
-            let tactic = read_last_term(s, term, TACTIC);
+            let tactic = read_last_term(s, term, TACTIC, work, base);
             match tactic {
                 TermRead::Refused(number, place) => JobRead::Refused(number, place),
                 TermRead::Read(_, fields) => JobRead::Read(JobParts {

@@ -1,5 +1,9 @@
 // Reading a proof file: a goal list, one hiproof, a goal list of those remaining.
 ghost use mathlib.Core.Path.{_≡_};
+ghost use Prim.Native.Nat.{_+_, _≤_};
+ghost use lib.ListN.{length};
+ghost use Rattle.words.specs.Kept.{Kept};
+ghost use Rattle.format.specs.Waiting.{readingRoom};
 ghost use Rattle.files.specs.Proofs.{readProof};
 ghost use Rattle.files.specs.Shapes.{proofShape};
 use crate::stated::read_stated;
@@ -24,16 +28,18 @@ pub enum ProofRead {
     Read(ProofParts),
 }
 
-// A proof file; nothing may be left behind its last list.
-pub fn read_proof(s: &[u8]) -> ProofRead
+// A proof file; nothing may be left behind its last list. While its term is read the fields of it wait in work, from base on.
+pub fn read_proof(s: &[u8], work: &mut [u8], base: usize) -> ProofRead
+    requires { ⌜ base + readingRoom ≤ length (now work) ⌝ }
     ensures { λ r. ⌜ r ≡ proofShape (readProof (now (s .entry))) ⌝ }
+    ensures { λ _. ⌜ Kept (now (work .entry)) (now (work .exit)) base (base + readingRoom) ⌝ }
 {
     let end = s.len();
     let stated = read_stated(s);
     match stated {
         GoalsRead::Refused(number, place) => ProofRead::Refused(number, place),
         GoalsRead::Read(goals, term) => {
-            let hiproof = read_term(s, term, end, HIPROOF, 0);
+            let hiproof = read_term(s, term, end, HIPROOF, 0, work, base);
             match hiproof {
                 TermRead::Refused(number, place) => ProofRead::Refused(number, place),
                 TermRead::Read(rest, fields) => {

@@ -20,3 +20,7 @@ pub mod GoalsAt
 pub mod ByTag
 pub mod GoalListBytes
 pub mod EncodedBytes
+pub mod Lengths
+pub mod ShapeLaws
+pub mod WaitLaws
+pub mod TurnLaws

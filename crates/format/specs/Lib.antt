@@ -12,3 +12,4 @@ pub mod Encoding
 pub mod Standing
 pub mod Shapes
 pub mod Reader
+pub mod Waiting

@@ -1,7 +1,9 @@
 // Reading the fields of a table: any rules, then any definitions.
 ghost use mathlib.Core.Path.{_≡_};
-ghost use Prim.Native.Nat.{_+_, _<_};
+ghost use Prim.Native.Nat.{_+_, _≤_, _<_};
 ghost use lib.ListN.{length};
+ghost use Rattle.words.specs.Kept.{Kept};
+ghost use Rattle.format.specs.Waiting.{readingRoom};
 ghost use Rattle.tables.specs.ReadTables.{full, lowest, readField, readFields};
 ghost use Rattle.tables.specs.Shapes.{fieldShape, tableShape};
 use format::headers::HeaderRead;
@@ -44,10 +46,19 @@ fn lowest_kind(definitions: usize) -> u8
     if definitions == 0 { RULE } else { DEFINITION }
 }
 
-// One field of a table, after so many rules, definitions and term fields.
-pub fn read_field(s: &[u8], at: usize, rules: usize, definitions: usize, fields: usize) -> FieldRead
-    requires { ⌜ at < length (now s) ⌝ }
+// One field of a table, after so many rules, definitions and term fields. While the body of a definition is read its fields wait in work, from base on.
+pub fn read_field(
+    s: &[u8],
+    at: usize,
+    rules: usize,
+    definitions: usize,
+    fields: usize,
+    work: &mut [u8],
+    base: usize,
+) -> FieldRead
+    requires { ⌜ (at < length (now s)) × (base + readingRoom ≤ length (now work)) ⌝ }
     ensures { λ r. ⌜ r ≡ fieldShape (readField (now (s .entry)) at rules definitions fields) ⌝ }
+    ensures { λ _. ⌜ Kept (now (work .entry)) (now (work .exit)) base (base + readingRoom) ⌝ }
 {
     let end = s.len();
     let low = lowest_kind(definitions);
@@ -61,7 +72,7 @@ pub fn read_field(s: &[u8], at: usize, rules: usize, definitions: usize, fields:
             if tag == 1 {
                 return FieldRead::Rule(close);
             }
-            let body = read_term(s, at + 5, close, TACTIC, fields);
+            let body = read_term(s, at + 5, close, TACTIC, fields, work, base);
             match body {
                 TermRead::Refused(number, place) => FieldRead::Refused(number, place),
                 TermRead::Read(next, count) => {
@@ -76,8 +87,10 @@ pub fn read_field(s: &[u8], at: usize, rules: usize, definitions: usize, fields:
 }
 
 // All fields of a table, from the first on.
-pub fn read_fields(s: &[u8]) -> TableRead
+pub fn read_fields(s: &[u8], work: &mut [u8], base: usize) -> TableRead
+    requires { ⌜ base + readingRoom ≤ length (now work) ⌝ }
     ensures { λ r. ⌜ r ≡ tableShape (readFields (length (now (s .entry)) + 1) (now (s .entry)) 0 0 0 0) ⌝ }
+    ensures { λ _. ⌜ Kept (now (work .entry)) (now (work .exit)) base (base + readingRoom) ⌝ }
 {
     let mut at: usize = 0;
     let mut rules: usize = 0;
@@ -85,7 +98,7 @@ pub fn read_fields(s: &[u8]) -> TableRead
     let mut fields: usize = 0;
     let mut first: usize = 0;
     while at < s.len() {
-        let field = read_field(s, at, rules, definitions, fields);
+        let field = read_field(s, at, rules, definitions, fields, work, base);
         match field {
             FieldRead::Refused(number, place) => {
                 return TableRead::Refused(number, place);

@@ -6,6 +6,7 @@ use native.Mathlib.Omega.{arith}
 use lib.ListN.{length}
 use denote.Ref.{now}
 use borrow.Author.Needs.{needs}
+use Rattle.words.proofs.KeptLaws.{kept-same}
 use Rattle.format.specs.declared.goals.GoalsRead.the-variants as G
 use Rattle.format.specs.declared.terms.TermRead.{TermRead}
 use Rattle.format.specs.Inputs.{ofSize}
@@ -32,12 +33,12 @@ Stated = tie.After-known-told2
 abbrev Told : Type 0
 Told = tie.After-read-term
 
-stated : (c : Stated) → goalsShape (ofSize (now (c .before .before .before .before .before .args .s)) (readGoals (now (c .before .before .before .before .before .args .s)) 0 (length (now (c .before .before .before .before .before .args .s))))) ≡ G.Read (c .before .stated2 .given .0 .0) (c .before .stated2 .given .0 .1 .0)
+stated : (c : Stated) → goalsShape (ofSize (now (c .before .before .before .before .before .before .args .s)) (readGoals (now (c .before .before .before .before .before .before .args .s)) 0 (length (now (c .before .before .before .before .before .before .args .s))))) ≡ G.Read (c .before .stated2 .given .0 .0) (c .before .stated2 .given .0 .1 .0)
 stated c = sym (c .before .before .before .read-stated .ensures) ∙ c .before .stated2 .given .1
 
 hiproof : (c : Told) (r : TermRead) → c .read-term .result ≡ r
-    → termShape (readTerm (length (now (c .before .before .before .before .before .before .args .s)) + 1) (now (c .before .before .before .before .before .before .args .s)) hiproofKind (c .before .before .stated2 .given .0 .1 .0) (length (now (c .before .before .before .before .before .before .args .s))) 0) ≡ r
-hiproof c r e = sym (c .read-term .ensures .0 (length (now (c .before .before .before .before .before .before .args .s)) + 1) (omega arith)) ∙ e
+    → termShape (readTerm (length (now (c .before .before .before .before .before .before .before .before .args .s)) + 1) (now (c .before .before .before .before .before .before .before .before .args .s)) hiproofKind (c .before .before .before .stated2 .given .0 .1 .0) (length (now (c .before .before .before .before .before .before .before .before .args .s))) 0) ≡ r
+hiproof c r e = sym (c .read-term .ensures .0 (length (now (c .before .before .before .before .before .before .before .before .args .s)) + 1) (omega arith)) ∙ e
 
 read-stated-requires : tie.Need-read-stated-requires
 read-stated-requires c κs = search needs
@@ -49,7 +50,7 @@ enum-known-stated-2 : tie.Need-enum-known-stated-2
 enum-known-stated-2 c = search needs
 
 read-term-requires : tie.Need-read-term-requires
-read-term-requires c κs = omega (arith, stated-end (now (c .before .before .before .before .before .args .s)) _ _ (stated c))
+read-term-requires c κs = omega (arith, c .before .before .before .before .before .before .before .pre, stated-end (now (c .before .before .before .before .before .before .before .args .s)) _ _ (stated (c .before)))
 
 enum-known-hiproof : tie.Need-enum-known-hiproof
 enum-known-hiproof c = search needs
@@ -58,7 +59,7 @@ enum-known-hiproof-2 : tie.Need-enum-known-hiproof-2
 enum-known-hiproof-2 c = search needs
 
 read-goals-requires : tie.Need-read-goals-requires
-read-goals-requires c κs = omega (arith, within-read _ _ (c .before .hiproof2 .given .1) (c .before .before .before .read-term .ensures .1))
+read-goals-requires c κs = omega (arith, within-read _ _ (c .before .hiproof2 .given .1) (c .before .before .before .before .before .read-term .ensures .1 .0))
 
 enum-known-list : tie.Need-enum-known-list
 enum-known-list c = search needs
@@ -66,31 +67,43 @@ enum-known-list c = search needs
 enum-known-list-2 : tie.Need-enum-known-list-2
 enum-known-list-2 c = search needs
 
+same-length : tie.Need-same-length
+same-length c = search needs
+
 returns : tie.Need-returns
 returns c =
     let l = c .before .before .before .before in
-    let t = l .before .before .before .before in
-    sym (bytes-left _ _ _ (stated (t .before)) _ _ (hiproof t _ (l .before .before .hiproof2 .given .1)) _ _ (sym (l .read-goals .ensures) ∙ c .before .before .list2 .given .1) (λ q. omega (arith, c .if1 .taken, q)))
+    let t = l .before .before .before .before .before .before in
+    (sym (bytes-left _ _ _ (stated (t .before .before)) _ _ (hiproof t _ (l .before .before .hiproof2 .given .1)) _ _ (sym (l .read-goals .ensures) ∙ c .before .before .list2 .given .1) (λ q. omega (arith, c .if1 .taken, q))), t .read-term .ensures .1 .1)
 
 returns-2 : tie.Need-returns-2
-returns-2 c = sym (stated-refused _ _ _ (sym (c .before .before .before .read-stated .ensures) ∙ c .before .stated .given .1))
+returns-2 c = (sym (stated-refused _ _ _ (sym (c .before .before .before .read-stated .ensures) ∙ c .before .stated .given .1)), kept-same _ _ _)
+
+same-length-2 : tie.Need-same-length-2
+same-length-2 c = search needs
 
 returns-3 : tie.Need-returns-3
 returns-3 c =
-    let t = c .before .before .before in
-    sym (hiproof-refused _ _ _ (stated (t .before)) _ _ (hiproof t _ (c .before .hiproof .given .1)))
+    let t = c .before .before .before .before .before in
+    (sym (hiproof-refused _ _ _ (stated (t .before .before)) _ _ (hiproof t _ (c .before .hiproof .given .1))), t .read-term .ensures .1 .1)
+
+same-length-3 : tie.Need-same-length-3
+same-length-3 c = search needs
 
 returns-4 : tie.Need-returns-4
 returns-4 c =
     let l = c .before .before .before in
-    let t = l .before .before .before .before in
-    sym (list-refused _ _ _ (stated (t .before)) _ _ (hiproof t _ (l .before .before .hiproof2 .given .1)) _ _ (sym (l .read-goals .ensures) ∙ c .before .list .given .1))
+    let t = l .before .before .before .before .before .before in
+    (sym (list-refused _ _ _ (stated (t .before .before)) _ _ (hiproof t _ (l .before .before .hiproof2 .given .1)) _ _ (sym (l .read-goals .ensures) ∙ c .before .list .given .1)), t .read-term .ensures .1 .1)
+
+same-length-4 : tie.Need-same-length-4
+same-length-4 c = search needs
 
 returns-5 : tie.Need-returns-5
 returns-5 c =
     let l = c .before .before .before .before in
-    let t = l .before .before .before .before in
-    sym (proof-read _ _ _ (stated (t .before)) _ _ (hiproof t _ (l .before .before .hiproof2 .given .1)) _ _ (sym (l .read-goals .ensures) ∙ c .before .before .list2 .given .1) (omega (arith, c .if1 .left)))
+    let t = l .before .before .before .before .before .before in
+    (sym (proof-read _ _ _ (stated (t .before .before)) _ _ (hiproof t _ (l .before .before .hiproof2 .given .1)) _ _ (sym (l .read-goals .ensures) ∙ c .before .before .list2 .given .1) (omega (arith, c .if1 .left))), t .read-term .ensures .1 .1)
 
 pub read-proof-spec : {M : Type 1} → statement M
 read-proof-spec =
@@ -105,8 +118,8 @@ read-proof-spec =
     read-goals-requires
     enum-known-list
     enum-known-list-2
-    returns
+    same-length returns
     returns-2
-    returns-3
-    returns-4
-    returns-5)
+    same-length-2 returns-3
+    same-length-3 returns-4
+    same-length-4 returns-5)

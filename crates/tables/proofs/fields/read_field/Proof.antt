@@ -8,6 +8,7 @@ use denote.Ref.{now}
 use lib.ListN.{length}
 use borrow.Author.Needs.{needs}
 use borrow.Author.Tests.{eq-eqb, ne-eqb}
+use Rattle.words.proofs.KeptLaws.{kept-same}
 use Rattle.format.specs.Results.{gives}
 use Rattle.format.specs.Tags.{definitionKind}
 use Rattle.format.specs.Headers.{header, headerAt}
@@ -22,7 +23,7 @@ abbrev K : Type 0
 K = tie.After-known-told2
 
 abbrev start : K → tie.Start
-start c = c .before .before .before .before .before .before .before
+start c = c .before .before .before .before .before .before .before .before
 
 abbrev tagOf : K → ℕ
 tagOf c = c .before .header2 .given .0 .0
@@ -55,13 +56,13 @@ enum-known-header-2 c = search needs
 
 returns : tie.Need-returns
 unfolding readField
-returns c = sym (rule-read _ _ _ _ _ _ (header-is (c .before)) _ (field (c .before) .1) (c .if1 .taken))
+returns c = (sym (rule-read _ _ _ _ _ _ (header-is (c .before)) _ (field (c .before) .1) (c .if1 .taken)), kept-same _ _ _)
 
 add-read-term : tie.Need-add-read-term
 add-read-term c = search needs
 
 read-term-requires : tie.Need-read-term-requires
-read-term-requires c κs = omega (arith, field (c .before), behind-value _ _ _ _ (start (c .before) .args .fields) _ _ (field (c .before) .0))
+read-term-requires c κs = omega (arith, start (c .before .before) .pre .1, field (c .before .before), behind-value _ _ _ _ (start (c .before .before) .args .fields) _ _ (field (c .before .before) .0))
 
 enum-known-body : tie.Need-enum-known-body
 enum-known-body c = search needs
@@ -69,21 +70,41 @@ enum-known-body c = search needs
 enum-known-body-2 : tie.Need-enum-known-body-2
 enum-known-body-2 c = search needs
 
+same-length : tie.Need-same-length
+same-length c = search needs
+
 returns-2 : tie.Need-returns-2
 unfolding readField
-returns-2 c = sym (body-read _ _ _ _ _ _ (header-is (c .before .before .before .before .before .before)) _ (field (c .before .before .before .before .before .before) .1) (c .before .before .before .before .before .if1 .left) _ _ true (eq-eqb _ _ (c .if2 .taken)) (sym (c .before .before .before .before .read-term .ensures .0 (lenOf (c .before .before .before .before .before .before) + 1) (omega (arith, field (c .before .before .before .before .before .before)))) ∙ c .before .before .body2 .given .1))
+returns-2 c =
+    let r = c .before .before .before .before .before .before in
+    let k = r .before .before .before in
+    (sym (body-read _ _ _ _ _ _ (header-is k) _ (field k .1) (r .before .before .if1 .left) _ _ true (eq-eqb _ _ (c .if2 .taken)) (sym (r .read-term .ensures .0 (lenOf k + 1) (omega (arith, field k))) ∙ c .before .before .body2 .given .1)), r .read-term .ensures .1 .1)
 
 returns-3 : tie.Need-returns-3
 unfolding readField
-returns-3 c = rw (← c .before .before .before .before .before .lowest-kind .ensures, ← c .before .before .before .before .no-more .ensures) (sym (header-refused _ _ _ _ _ _ (sym (c .before .before .before .next-field .ensures .0) ∙ c .before .header .given .1)))
+returns-3 c =
+    let f = c .before .before .before in
+    (rw (← f .before .before .lowest-kind .ensures, ← f .before .no-more .ensures) (sym (header-refused _ _ _ _ _ _ (sym (f .next-field .ensures .0) ∙ c .before .header .given .1))), kept-same _ _ _)
+
+same-length-2 : tie.Need-same-length-2
+same-length-2 c = search needs
 
 returns-4 : tie.Need-returns-4
 unfolding readField
-returns-4 c = sym (body-refused _ _ _ _ _ _ (header-is (c .before .before .before .before .before)) _ (field (c .before .before .before .before .before) .1) (c .before .before .before .before .if1 .left) _ _ (sym (c .before .before .before .read-term .ensures .0 (lenOf (c .before .before .before .before .before) + 1) (omega (arith, field (c .before .before .before .before .before)))) ∙ c .before .body .given .1))
+returns-4 c =
+    let r = c .before .before .before .before .before in
+    let k = r .before .before .before in
+    (sym (body-refused _ _ _ _ _ _ (header-is k) _ (field k .1) (r .before .before .if1 .left) _ _ (sym (r .read-term .ensures .0 (lenOf k + 1) (omega (arith, field k))) ∙ c .before .body .given .1)), r .read-term .ensures .1 .1)
+
+same-length-3 : tie.Need-same-length-3
+same-length-3 c = search needs
 
 returns-5 : tie.Need-returns-5
 unfolding readField
-returns-5 c = sym (body-read _ _ _ _ _ _ (header-is (c .before .before .before .before .before .before)) _ (field (c .before .before .before .before .before .before) .1) (c .before .before .before .before .before .if1 .left) _ _ false (ne-eqb _ _ (c .if2 .left)) (sym (c .before .before .before .before .read-term .ensures .0 (lenOf (c .before .before .before .before .before .before) + 1) (omega (arith, field (c .before .before .before .before .before .before)))) ∙ c .before .before .body2 .given .1))
+returns-5 c =
+    let r = c .before .before .before .before .before .before in
+    let k = r .before .before .before in
+    (sym (body-read _ _ _ _ _ _ (header-is k) _ (field k .1) (r .before .before .if1 .left) _ _ false (ne-eqb _ _ (c .if2 .left)) (sym (r .read-term .ensures .0 (lenOf k + 1) (omega (arith, field k))) ∙ c .before .before .body2 .given .1)), r .read-term .ensures .1 .1)
 
 pub read-field-spec : {M : Type 1} → statement M
 read-field-spec =
@@ -99,7 +120,10 @@ read-field-spec =
     read-term-requires
     enum-known-body
     enum-known-body-2
+    same-length
     returns-2
     returns-3
+    same-length-2
     returns-4
+    same-length-3
     returns-5)

@@ -1,0 +1,81 @@
+-- Enclosing fields that wait while an inner term is read: what is still to be done with what the inner term comes to.
+use Prim.Native.Nat.{ℕ, zero, suc, _+_, _*_, _-_, _≤_, _<_}
+use mathlib.Core.Path.{_≡_}
+use mathlib.Core.Bool.{cond}
+use mathlib.Core.List.{List}
+use mathlib.Core.Logic.{_⊎_}
+use lib.Dec.{eqb}
+use lib.ListN.{length}
+use Rattle.words.specs.Word.{word, putWord}
+use Rattle.words.specs.Kept.{Kept}
+use Rattle.format.specs.declared.terms.TermRead.{TermRead}
+use Rattle.format.specs.declared.terms.TermRead.the-variants.{Refused, Read}
+use Rattle.format.specs.Limits.{mostTermFields}
+use Rattle.format.specs.ReadTerms.{readTerm}
+use Rattle.format.specs.Shapes.{termShape, ending}
+use Rattle.format.specs.declared.terms.State.{State}
+
+-- the bytes that the fields that wait take: at most every term field of a file waits, in four bytes
+abbrev pub readingRoom : ℕ
+readingRoom = mostTermFields * 4
+
+-- go on behind a term that was read; a refusal stands
+unfoldable pub goOn : TermRead → (ℕ → ℕ → TermRead) → TermRead
+goOn (Refused k p) next = Refused k p
+goOn (Read to n) next = next to n
+
+-- a term as the code tells it, at a depth that is enough for every term of the file
+unfoldable pub reads : List ℕ → (high at end count : ℕ) → TermRead
+reads s high at end n = termShape (readTerm (suc (length s)) s high at end n)
+
+-- what a field does with what its inner term came to: it ends there, or one more is read by rec first
+unfoldable pub closing : (rec : ℕ → ℕ → ℕ → TermRead) → (at end left : ℕ) → TermRead → TermRead
+closing rec at end zero r = goOn r (ending at end)
+closing rec at end (suc k) r = goOn r (λ next m. goOn (rec next end m) (ending at end))
+
+-- the end of the field at a place
+unfoldable pub endOf : List ℕ → (at : ℕ) → ℕ
+endOf s at = at + 3 + word s (at + 1)
+
+-- a field that waits takes four bytes: how far behind the place of the field around it it stands, and how many inner terms follow the one that is read now
+unfoldable pub putWaiting : List ℕ → (low gap left : ℕ) → List ℕ
+putWaiting w low gap left = putWord (putWord w low gap) (low + 2) left
+
+-- what all fields that wait, the innermost at the place top, do with what the innermost term came to
+unfoldable pub resumed : (s w : List ℕ) (high base top depth : ℕ) → TermRead → TermRead
+resumed s w high base top zero r = r
+resumed s w high base top (suc k) r =
+    resumed s w high base (top - word w (base + k * 4)) k (closing (reads s high) top (endOf s top) (word w (base + k * 4 + 2)) r)
+
+-- what the loop comes to from here on
+unfoldable pub outcome : (s w : List ℕ) (high base : ℕ) → State → TermRead
+outcome s w high base x =
+    cond (eqb (x .mode) 0) (Refused (x .number) (x .place))
+    (resumed s w high base (x .top) (x .depth) (cond (eqb (x .mode) 1) (reads s high (x .at) (x .end) (x .fields)) (Read (x .at) (x .fields))))
+
+-- fields that wait stand in one another, and the innermost, at the place top, holds what ends at `end`
+unfoldable pub Waits : (s w : List ℕ) (base top end depth : ℕ) → Type 0
+Waits s w base top end zero = end ≤ length s
+Waits s w base top end (suc k) =
+    (end ≤ endOf s top) × (endOf s top ≤ top + 65538) × (word w (base + k * 4) ≤ top) × Waits s w base (top - word w (base + k * 4)) (endOf s top) k
+
+-- what holds all along
+pub record Going (s w : List ℕ) (base : ℕ) (x : State) : Type 0 where
+  pub ordered : x .at ≤ x .end
+  pub waits : Waits s w base (x .top) (x .end) (x .depth)
+  pub few : x .depth ≤ x .fields
+  pub most : x .depth ≤ mostTermFields
+  pub behind : x .top ≤ x .at
+  pub near : x .mode ≡ 1 → (x .at ≡ x .top) ⊎ (x .end ≤ x .top + 65538)
+  pub room : base + readingRoom ≤ length w
+
+-- what falls with each turn
+unfoldable pub weight : List ℕ → State → ℕ
+weight s x = (length s - x .at) * 2 + x .depth + x .mode
+
+-- one turn
+pub record Moved (s w : List ℕ) (high base : ℕ) (x : State) (w′ : List ℕ) (r : State) : Type 0 where
+  pub going : Going s w′ base r
+  pub same : outcome s w′ high base r ≡ outcome s w high base x
+  pub kept : Kept w w′ base (base + readingRoom)
+  pub less : weight s r < weight s x
