@@ -9,8 +9,10 @@ ghost use Rattle.tables.specs.Tables.{Table};
 ghost use Rattle.tables.specs.Standing.{TableStands};
 ghost use Rattle.index.specs.Build.{RulesIndexed};
 ghost use Rattle.hitac.specs.Forest.{premisesOf};
+ghost use Rattle.derivation.specs.Layout.{indexPlace};
 ghost use Rattle.writer.specs.Plan.{planSize, Noted, Planned};
 ghost use Rattle.writer.specs.Leaves.{Rest};
+use derivation::layout::INDEX;
 use files::flats::USE;
 use format::values::RuleName;
 use format::values::goal_at;
@@ -18,8 +20,6 @@ use format::values::rule_name_at;
 use index::lookup::find_rule;
 use tables::lookup::RuleFound;
 use words::store16;
-
-const INDEX: usize = 21760;
 
 // The bytes of the plan: three for each of the most entries.
 pub const PLAN: usize = 6144;
@@ -47,7 +47,7 @@ fn plan_entry(plan: &mut [u8; PLAN], at: usize, name: RuleName, count: usize)
 // The number of premises of the use at a place of the flat file.
 fn premises_of(table: &[u8], rules: usize, work: &[u8], flat: &[u8], at: usize) -> usize
     requires { ⌜ at + 7 ≤ length (now flat) ⌝ }
-    requires { ⌜ ((T : Table) × TableStands (now table) rules T) × RulesIndexed (now table) rules (now work) 21760 ⌝ }
+    requires { ⌜ ((T : Table) × TableStands (now table) rules T) × RulesIndexed (now table) rules (now work) indexPlace ⌝ }
     ensures { λ r. ⌜ ((T : Table) → TableStands (now (table .entry)) rules T → r ≡ length (premisesOf T (ruleName (word (now (flat .entry)) (at + 3))) (goal (word (now (flat .entry)) (at + 5))))) ⌝ }
     ensures few { λ r. ⌜ r ≤ 8 ⌝ }
 {
@@ -69,7 +69,7 @@ pub fn plan_entries(
     from: usize,
     plan: &mut [u8; PLAN],
 )
-    requires { ⌜ ((T : Table) × TableStands (now table) rules T) × RulesIndexed (now table) rules (now work) 21760 ⌝ }
+    requires { ⌜ ((T : Table) × TableStands (now table) rules T) × RulesIndexed (now table) rules (now work) indexPlace ⌝ }
     requires { ⌜ ((r : Rest (now flat) from) × (length (r .entries) ≤ mostEntries)) ⌝ }
     ensures { λ _. ⌜ ((T : Table) (r : Rest (now (flat .entry)) from) → TableStands (now (table .entry)) rules T → Planned T (now (plan .exit)) 0 (r .entries)) ⌝ }
 {
