@@ -2,10 +2,10 @@
 -- Assumes nothing.
 use borrow.Author.Needs.{needs}
 use Rattle.format.specs.Waiting.{putWaiting}
-use Rattle.format.proofs.terms.push.Statement.{statement}
-use Rattle.format.proofs.terms.push.Tie as tie
-use Rattle.format.proofs.terms.push.Reads as reads
-use Rattle.format.proofs.terms.push.Lts as lts
+use Rattle.format.proofs.waiting.push.Statement.{statement}
+use Rattle.format.proofs.waiting.push.Tie as tie
+use Rattle.format.proofs.waiting.push.Reads as reads
+use Rattle.format.proofs.waiting.push.Lts as lts
 use Rattle.words.proofs.store16.Reads as store16-reads
 
 store16-requires : tie.Need-store16-requires
