@@ -1,9 +1,10 @@
--- `trees::premises_of` meets its contract: by what the look-up of its rule finds.
+-- `plan::premises_of` meets its contract: by what the look-up of its rule finds.
 -- Assumes nothing.
+use native.Mathlib.Omega.{arith}
 use borrow.Author.Needs.{needs}
-use Rattle.writer.proofs.FoundLaws.{missing-count, rule-count}
-use Rattle.writer.proofs.trees.premises_of.Statement.{statement}
-use Rattle.writer.proofs.trees.premises_of.Tie as tie
+use Rattle.writer.proofs.FoundLaws.{missing-count, rule-count, few-count}
+use Rattle.writer.proofs.plan.premises_of.Statement.{statement}
+use Rattle.writer.proofs.plan.premises_of.Tie as tie
 
 add-rule-name-at : tie.Need-add-rule-name-at
 add-rule-name-at c = search needs
@@ -27,12 +28,17 @@ enum-known-found : tie.Need-enum-known-found
 enum-known-found c = search needs
 
 returns : tie.Need-returns
-returns c =
-    λ T st. missing-count T _ _ _ _ _ _ (c .before .before .find-rule .ensures .found T st) (c .before .before .before .before .rule-name-at .ensures) (c .before .before .before .goal-at .ensures) (c .enum-told .given .1)
+returns c = (
+  λ T st. missing-count T _ _ _ _ _ _ (c .before .before .find-rule .ensures .found T st) (c .before .before .before .before .rule-name-at .ensures) (c .before .before .before .goal-at .ensures) (c .enum-told .given .1),
+  omega arith,
+)
 
 returns-2 : tie.Need-returns-2
 returns-2 c =
-    λ T st. rule-count T _ _ _ _ _ _ (c .before .before .before .find-rule .ensures .found T st) (c .before .before .before .before .before .rule-name-at .ensures) (c .before .before .before .before .goal-at .ensures) _ _ (c .before .found .given .1)
+    let f = c .before .before .before .find-rule .ensures in (
+      λ T st. rule-count T _ _ _ _ _ _ (f .found T st) (c .before .before .before .before .before .rule-name-at .ensures) (c .before .before .before .before .goal-at .ensures) _ _ (c .before .found .given .1),
+      few-count _ _ _ _ (f .inside) (c .before .found .given .1),
+    )
 
 pub premises-of-spec : {M : Type 1} → statement M
 premises-of-spec =
