@@ -1,16 +1,15 @@
 -- The walk over nodes and the walk of hitac over their goals come to the same: the same refusal at the same place, or the cells and nodes of hitac's walk over nodes,
 -- whose goals are those given. By induction over the term.
 -- Assumes nothing.
-use mathlib.Core.Path.{_≡_, refl, sym, ap, ap₂, subst, _∙_}
+use mathlib.Core.Path.{_≡_, refl, sym, ap₂, subst, _∙_}
 use mathlib.Core.Bool.{Bool, true, false, cond}
 use mathlib.Core.Option.{Option, none, some}
 use mathlib.Core.List.{List, [], _∷_, _++_}
 use Prim.Native.Nat.{ℕ, _+_, _*_, _≤_, _<_}
 use native.Mathlib.Omega.{arith}
 use lib.Dec.{ltb}
-use lib.ListN.{length, take, drop, length-append, take-append-drop}
-use lib.Seq.{length-take-le}
-use borrow.Author.Tests.{lt-ltb, ltb-true, ltb-false}
+use lib.ListN.{length, take, drop, length-append}
+use borrow.Author.Tests.{lt-ltb}
 use Rattle.format.specs.declared.values.RuleName.{RuleName}
 use Rattle.format.specs.declared.values.Goal.{Goal}
 use Rattle.format.specs.Refusals.{Cause, number, ruleMissing, goalCountWrong, goalsTooFew, joinedTooLong}
@@ -21,11 +20,10 @@ use Rattle.tables.specs.Tables.{Table}
 use Rattle.tables.specs.Lookup.{FoundRule, findRule}
 use Rattle.hitac.specs.Premises.{Finds, FewPremises}
 use Rattle.hitac.specs.Hiproofs.{inputArity, atomics}
-use Rattle.hitac.specs.Forest.{premisesIn}
 use Rattle.hitac.specs.Walk.{walk, onOneGoal, onNoGoal, premisesOr, joined, tooLong}
 use Rattle.hitac.proofs.WalkValidates.{finds-agrees, walk→validates}
 use Rattle.hitac.proofs.WalkBounds.{walk-grows}
-use Rattle.hitac.proofs.Nodes.{Cell, cellAt, goalOf, NodeWalk, markUse, nodeWalk}
+use Rattle.hitac.proofs.Nodes.{Cell, cellAt, goalOf, NodeWalk, nodeWalk}
 use Rattle.walks.specs.Walks.{Out, onOneValue, joinedValues, walkOf}
 use Rattle.flattener.specs.Space.{mostNodes}
 use Rattle.flattener.specs.NodeActs.{outOf, useFound, useNode, onNoNode, nodeAct}

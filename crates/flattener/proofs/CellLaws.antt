@@ -1,16 +1,16 @@
 -- Cells in bytes: one read, one made a use, open goals added behind them. By induction over their number.
 -- Assumes nothing.
-use mathlib.Core.Path.{_≡_, refl, sym, ap, ap₂, subst, _∙_}
+use mathlib.Core.Path.{_≡_, refl, sym, ap, ap₂, _∙_}
 use mathlib.Core.Logic.{_⊎_, inl, inr, ⊎-elim}
 use mathlib.Core.List.{List, [], _∷_, _++_, map, append-assoc, append-nil}
-use Prim.Native.Nat.{ℕ, zero, suc, _+_, _*_, _-_, _≤_, _<_}
+use Prim.Native.Nat.{ℕ, zero, suc, _+_, _*_, _≤_, _<_}
 use native.Mathlib.Omega.{arith}
 use lib.ListN.{length, getD, set, length-set}
 use lib.Seq.{ext-getD, getD-set-same, getD-set-other}
 use Rattle.words.specs.Word.{word, putWord}
 use Rattle.words.specs.Kept.{Kept}
 use Rattle.words.proofs.WordLaws.{length-putWord, word-same, word-other}
-use Rattle.words.proofs.KeptLaws.{kept-put, kept-same, kept-both, word-below, word-above}
+use Rattle.words.proofs.KeptLaws.{kept-put, kept-same, kept-both}
 use Rattle.format.specs.declared.values.Goal.{Goal}
 use Rattle.format.specs.Values.{ruleName, goal}
 use Rattle.hitac.proofs.Nodes.{Cell, openCell, useCell, noCell, cellAt, goalOf}

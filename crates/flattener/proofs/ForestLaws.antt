@@ -7,7 +7,6 @@ use native.Mathlib.Omega.{arith}
 use native.Mathlib.Nat.{add-zero}
 use lib.ListN.{length, drop, length-append, length-map}
 use lib.Seq.{sets, sets-eq, length-sets}
-use Rattle.format.specs.Results.{gives}
 use Rattle.format.specs.Goals.{goalsAt}
 use Rattle.format.specs.Encoding.{goalListBytes}
 use Rattle.tables.specs.Tables.{Table}
@@ -20,7 +19,6 @@ use Rattle.hitac.specs.Premises.{Finds}
 use Rattle.hitac.specs.Hiproofs.{atomics}
 use Rattle.hitac.specs.Forest.{entries, leaves, forest}
 use Rattle.hitac.specs.Counts.{uses, everyUse}
-use Rattle.hitac.specs.Walk.{walk}
 use Rattle.hitac.proofs.TermBounds.{atomics-fields}
 use Rattle.hitac.proofs.WalkValidates.{finds-agrees, walk→validates}
 use Rattle.hitac.proofs.Flatten.{forest-leaves, forest-all-uses}
@@ -28,7 +26,7 @@ use Rattle.hitac.proofs.FlatBounds.{forest-count}
 use Rattle.hitac.proofs.Nodes.{Cell, openCell, range, nodeEntries}
 use Rattle.hitac.proofs.NodeForest.{nodes-flatten}
 use Rattle.entries.specs.Check.{forestFile}
-use Rattle.walks.specs.Layout.{stackEnd, indexEnd}
+use Rattle.walks.specs.Layout.{indexEnd}
 use Rattle.walks.proofs.ProofLaws.{Small, standing, small}
 use Rattle.flattener.specs.Space.{cellsOf}
 use Rattle.flattener.specs.Prints.{Closed, forestEntries, Printable}

@@ -1,23 +1,23 @@
 -- What the walk over nodes leaves, of a hiproof that validates: nodes keep their goals, the nodes given carry the goals given, there is one node for each
 -- atomic and each goal given, and premises are among the nodes. By induction over Fig. 2.
 -- Assumes nothing.
-use mathlib.Core.Path.{_≡_, refl, sym, ap, ap₂, subst, subst₂, _∙_}
-use mathlib.Core.Logic.{_⊎_, inl, inr, ⊎-elim}
+use mathlib.Core.Path.{_≡_, refl, sym, ap, subst, subst₂, _∙_}
+use mathlib.Core.Logic.{_⊎_, inl, inr}
 use mathlib.Core.List.{List, [], _∷_, _++_, map}
-use Prim.Native.Nat.{ℕ, zero, suc, _+_, _*_, _≤_, _<_}
+use Prim.Native.Nat.{ℕ, zero, suc, _+_, _≤_, _<_}
 use native.Mathlib.Omega.{arith}
-use lib.ListN.{length, take, drop, set, getD, length-append, length-set, length-map, List·getD-append}
+use lib.ListN.{length, take, drop, set, length-append, length-set, length-map, List·getD-append}
 use lib.Seq.{take-at, drop-at, getD-set-same, getD-set-other, getD-append-seam, append-snoc}
 use Rattle.format.specs.declared.values.RuleName.{RuleName}
 use Rattle.format.specs.declared.values.Goal.{Goal}
-use Rattle.format.specs.Terms.{Term, atomic, id, label, sequence, tensor, empty}
+use Rattle.format.specs.Terms.{Term, atomic}
 use Rattle.tables.specs.Tables.{Table}
 use Rattle.hitac.specs.Hiproofs.{inputArity, atomics}
 use Rattle.hitac.specs.Validates.{V-Atomic, V-Identity, V-Label, V-Sequence, V-Tensor, V-Empty}
 use Rattle.hitac.specs.Forest.{premisesIn, premisesOf}
 use Rattle.hitac.proofs.ValidatesLaws.{arity-of}
 use Rattle.hitac.proofs.ForestLaws.{Takes}
-use Rattle.hitac.proofs.Nodes.{Cell, openCell, useCell, noCell, cellAt, goalOf, range, NodeWalk, markUse, nodeWalk}
+use Rattle.hitac.proofs.Nodes.{Cell, openCell, useCell, noCell, cellAt, goalOf, range, nodeWalk}
 use Rattle.flattener.specs.Prints.{Closed}
 use Rattle.flattener.proofs.CellLaws.{compared, differ}
 

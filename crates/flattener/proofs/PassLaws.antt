@@ -2,18 +2,15 @@
 -- Assumes nothing.
 use mathlib.Core.Path.{_≡_, refl, sym, ap, ap₂, subst, _∙_}
 use mathlib.Core.List.{List, [], _∷_, _++_, append-nil, append-assoc}
-use Prim.Native.Nat.{ℕ, zero, suc, _+_, _*_, _-_, _≤_, _<_}
+use Prim.Native.Nat.{ℕ, zero, suc, _+_, _*_, _≤_, _<_}
 use native.Mathlib.Omega.{arith}
 use native.Mathlib.Nat.{suc-add}
-use lib.ListN.{length, getD, length-append}
+use lib.ListN.{length, length-append}
 use lib.Seq.{sets, length-sets}
 use Rattle.words.specs.Word.{word}
-use Rattle.words.specs.Kept.{Kept}
-use Rattle.format.specs.declared.values.Goal.{Goal}
-use Rattle.format.specs.declared.values.RuleName.{RuleName}
 use Rattle.format.specs.Goals.{goalsAt}
-use Rattle.files.specs.Derivations.{Entry, entryBytes, entriesBytes}
-use Rattle.hitac.proofs.Nodes.{Cell, openCell, useCell, noCell, cellAt, entryOf, premiseNodes, range, nodeEntries}
+use Rattle.files.specs.Derivations.{Entry, entriesBytes}
+use Rattle.hitac.proofs.Nodes.{Cell, openCell, useCell, cellAt, premiseNodes, range, nodeEntries}
 use Rattle.walks.specs.Layout.{stackEnd, indexEnd}
 use Rattle.walks.specs.Values.{valuesAt}
 use Rattle.walks.proofs.ValueLaws.{length-values}

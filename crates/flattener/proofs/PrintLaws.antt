@@ -1,8 +1,8 @@
 -- Stores in a row, and the entry of a node: what was stored one after the other is a block of bytes stored at once.
 -- Assumes nothing.
-use mathlib.Core.Path.{_≡_, refl, sym, ap, ap₂, subst, _∙_}
-use mathlib.Core.List.{List, [], _∷_, _++_, append-nil}
-use Prim.Native.Nat.{ℕ, zero, suc, _+_, _*_, _-_, _/_, _%_, _≤_, _<_}
+use mathlib.Core.Path.{_≡_, refl, sym, ap, ap₂, _∙_}
+use mathlib.Core.List.{List, [], _∷_, _++_}
+use Prim.Native.Nat.{ℕ, zero, suc, _+_, _*_, _-_, _/_, _%_, _≤_}
 use native.Mathlib.Omega.{arith}
 use lib.ListN.{length, set}
 use lib.Seq.{sets}
@@ -13,13 +13,12 @@ use Rattle.format.specs.declared.values.RuleName.{RuleName}
 use Rattle.format.specs.declared.values.Goal.{Goal}
 use Rattle.format.specs.Values.{ruleName, goal}
 use Rattle.format.specs.Goals.{goalsAt}
-use Rattle.format.specs.Encoding.{wordBytes, fieldBytes, goalBytes, goalListBytes}
+use Rattle.format.specs.Encoding.{wordBytes, goalBytes, goalListBytes}
 use Rattle.format.proofs.GoalsLaws.{length-goalsAt}
 use Rattle.format.proofs.GoalBytes.{length-goalBytes}
-use Rattle.files.specs.Derivations.{Entry, useEntry, openEntry, entryBytes}
-use Rattle.hitac.proofs.Nodes.{Cell, openCell, useCell, entryOf, premiseNodes, range}
-use Rattle.flattener.specs.declared.print.Printed.{Printed}
-use Rattle.flattener.specs.Prints.{topCell, firstPremise, cellEntry, PrintReady, NodePrinted}
+use Rattle.files.specs.Derivations.{useEntry, openEntry, entryBytes}
+use Rattle.hitac.proofs.Nodes.{Cell, openCell, useCell, premiseNodes, range}
+use Rattle.flattener.specs.Prints.{topCell, cellEntry, NodePrinted}
 use Rattle.walks.specs.Layout.{stackEnd}
 use Rattle.walks.specs.Values.{valuesAt}
 use Rattle.walks.proofs.ValueLaws.{values-append, values-above}

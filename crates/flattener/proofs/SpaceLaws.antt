@@ -2,7 +2,7 @@
 -- Assumes nothing.
 use mathlib.Core.Path.{_≡_}
 use mathlib.Core.List.{List}
-use Prim.Native.Nat.{ℕ, suc, _+_, _*_}
+use Prim.Native.Nat.{ℕ, suc, _+_}
 use Rattle.words.specs.Word.{word, putWord}
 use Rattle.format.specs.Goals.{goalsAt}
 use Rattle.flattener.specs.Space.{cellPlace, putOpens, putRange}

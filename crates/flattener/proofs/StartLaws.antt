@@ -1,17 +1,17 @@
 -- The walk of a proof from its stated goals as the first nodes: it can begin, and what it comes to is what the entry flatten comes to.
 -- Assumes nothing.
-use mathlib.Core.Path.{_≡_, refl, sym, subst, ap, ap₂, _∙_}
+use mathlib.Core.Path.{_≡_, sym, subst, ap, ap₂, _∙_}
 use mathlib.Core.Bool.{Bool, true, false}
 use mathlib.Core.Logic.{inl, inr}
 use mathlib.Core.List.{List, [], map}
-use Prim.Native.Nat.{ℕ, _+_, _*_, _-_, _≤_, _<_}
+use Prim.Native.Nat.{ℕ, _+_, _*_, _-_, _≤_}
 use native.Mathlib.Omega.{arith}
 use lib.ListN.{length, length-map}
 use Rattle.words.specs.Kept.{Kept}
 use Rattle.format.specs.declared.values.Goal.{Goal}
 use Rattle.format.specs.Limits.{mostBytes}
-use Rattle.format.specs.Refusals.{Cause, number, remainingDiffer}
-use Rattle.format.specs.Results.{Result, gives, refused, andThen}
+use Rattle.format.specs.Refusals.{number}
+use Rattle.format.specs.Results.{Result, gives, andThen}
 use Rattle.format.specs.Goals.{goalsAt}
 use Rattle.format.proofs.GoalsLaws.{length-goalsAt}
 use Rattle.format.proofs.ResultLaws.{same-value}
@@ -26,10 +26,10 @@ use Rattle.hitac.proofs.TermBounds.{atomics-fields}
 use Rattle.hitac.proofs.WalkValidates.{finds-agrees, walk→validates}
 use Rattle.hitac.proofs.Nodes.{Cell, openCell, range, NodeWalk, nodeWalk}
 use Rattle.answers.specs.Answers as answer
-use Rattle.entries.specs.LentSpace.{Written, writeOut}
-use Rattle.entries.specs.Check.{sameGoals, remainingAre, checked, forestFile}
+use Rattle.entries.specs.LentSpace.{writeOut}
+use Rattle.entries.specs.Check.{sameGoals, remainingAre, checked}
 use Rattle.entries.proofs.SameGoals.{same-equal}
-use Rattle.walks.specs.Layout.{stackEnd, framesEnd, aritiesEnd, indexEnd}
+use Rattle.walks.specs.Layout.{stackEnd, framesEnd, indexEnd}
 use Rattle.walks.specs.Values.{valuesAt}
 use Rattle.walks.specs.Walks.{Out, walkOf}
 use Rattle.walks.specs.Arities.{Noted}

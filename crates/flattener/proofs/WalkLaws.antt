@@ -1,6 +1,6 @@
 -- One law for each way in which a step of the walk over nodes returns: the shared walk's laws say where it stands, and the cells and the index are kept.
 -- Assumes nothing.
-use mathlib.Core.Path.{_≡_, refl, sym, subst, ap, _∙_}
+use mathlib.Core.Path.{_≡_, refl, sym, subst, _∙_}
 use mathlib.Core.List.{List}
 use Prim.Native.Nat.{ℕ, _+_, _*_, _≤_, _<_}
 use native.Mathlib.Omega.{arith}
@@ -9,7 +9,7 @@ use Rattle.words.specs.Word.{word}
 use Rattle.words.specs.Kept.{Kept}
 use Rattle.format.specs.Limits.{mostBytes}
 use Rattle.format.specs.Refusals.{number, inputTooLong}
-use Rattle.format.specs.Terms.{Term, size}
+use Rattle.format.specs.Terms.{Term}
 use Rattle.format.specs.Standing.{Stands}
 use Rattle.format.proofs.StandsLaws.{known}
 use Rattle.tables.specs.Tables.{Table}
@@ -24,7 +24,6 @@ use Rattle.walks.specs.Layout.{framesEnd, aritiesEnd, indexEnd}
 use Rattle.walks.specs.Loops.{Aim, Roomy, Begins, Gave, placed, Leaf, Acted, Turned, Steps}
 use Rattle.walks.proofs.LeafLaws.{leaf-refused, leaf-gave, begins-behind, turned-later}
 use Rattle.flattener.specs.declared.walk.Stepped.{Stepped}
-use Rattle.flattener.specs.declared.leaf.Taken.{Taken}
 use Rattle.flattener.specs.declared.leaf.Taken.the-variants as A
 use Rattle.flattener.specs.Space.{cellsEnd, cellsOf}
 use Rattle.flattener.specs.NodeActs.{nodeAct}

@@ -8,7 +8,7 @@ use lib.ListN.{length}
 use Rattle.format.specs.declared.values.RuleName.{RuleName}
 use Rattle.format.specs.Refusals.{ruleMissing, goalCountWrong, inputTooLong}
 use Rattle.format.specs.Results.{Result, gives, refused}
-use Rattle.format.specs.Terms.{Term, atomic, id, label, sequence, tensor, empty, alternation, assert, defined}
+use Rattle.format.specs.Terms.{atomic, id, label, sequence, tensor, empty, alternation, assert, defined}
 use Rattle.tables.specs.Tables.{Table}
 use Rattle.tables.specs.Lookup.{FoundRule, findRule}
 use Rattle.hitac.proofs.Nodes.{Cell, cellAt, goalOf, NodeWalk, markUse}

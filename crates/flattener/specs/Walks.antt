@@ -1,5 +1,5 @@
 -- Where the walk over nodes stands, by what is shared with the checker's walk: the cells made so far are the first ones behind the index.
-use Prim.Native.Nat.{ℕ, _+_, _*_, _≤_, _<_}
+use Prim.Native.Nat.{ℕ, _*_, _≤_, _<_}
 use mathlib.Core.Path.{_≡_}
 use mathlib.Core.List.{List}
 use lib.ListN.{length, getD}

@@ -1,7 +1,5 @@
 // The walk of a hiproof over nodes as one loop, with the checker's refusals: each goal occurrence is a node, and an atomic makes its node a use.
-ghost use mathlib.Core.Path.{_≡_};
 ghost use Prim.Native.Nat.{_+_, _≤_};
-ghost use lib.ListN.{length};
 ghost use Rattle.tables.specs.Tables.{Table};
 ghost use Rattle.walks.specs.Loops.{Aim, Begins, placed, startOf, Leaf};
 ghost use Rattle.flattener.specs.Space.{cellsOf};

@@ -1,12 +1,11 @@
 -- `flatten::flatten_files` meets its contract: how the files read says which case of the entry's definition holds.
 -- Assumes nothing.
-use mathlib.Core.Path.{_≡_, sym, ap, _∙_}
+use mathlib.Core.Path.{sym, ap, _∙_}
 use Prim.Native.Nat.{ℕ, _≤_}
 use native.Mathlib.Omega.{arith}
 use lib.ListN.{length}
 use denote.Ref.{now}
 use borrow.Author.Needs.{needs}
-use Rattle.tables.specs.Tables.{Table}
 use Rattle.tables.proofs.ReadsTable.{reads-few-premises}
 use Rattle.tables.proofs.ToldTable.{ToldRefused, told-refuses}
 use Rattle.index.proofs.ReadLaws.{Told, told-indexed}

@@ -1,9 +1,6 @@
 -- `flatten::flatten_parts` meets its contract: the walk begins from the stated goals, and how it ended says which ending of the entry it is.
 -- Assumes nothing.
 use mathlib.Core.Path.{_≡_, sym, ap, _∙_}
-use mathlib.Core.Bool.{true, false}
-use mathlib.Core.List.{List}
-use Prim.Native.Nat.{ℕ, _+_, _*_, _≤_}
 use native.Mathlib.Omega.{arith}
 use lib.ListN.{length}
 use denote.Ref.{now}
@@ -11,7 +8,6 @@ use borrow.Author.Needs.{needs}
 use Rattle.format.specs.Results.{gives}
 use Rattle.tables.specs.Tables.{Table}
 use Rattle.files.specs.Proofs.{Proof, readProof}
-use Rattle.files.specs.Shapes.{partsOf}
 use Rattle.entries.specs.LentSpace.{Written}
 use Rattle.walks.proofs.ProofLaws.{Small, small, term-room}
 use Rattle.flattener.specs.Walks.{Ends}

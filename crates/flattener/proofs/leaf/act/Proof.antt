@@ -1,12 +1,10 @@
 -- `leaf::act` meets its contract: the tag says which term it is.
 -- Assumes nothing.
-use mathlib.Core.Path.{_≡_}
 use native.Mathlib.Omega.{arith}
-use denote.Ref.{now}
 use borrow.Author.Needs.{needs}
 use Rattle.words.proofs.KeptLaws.{kept-same}
 use Rattle.format.proofs.StandsLaws.{known}
-use Rattle.flattener.proofs.LeafLaws.{other-refused, AtomicReady, some-atomic, some-id, atomic-takes, id-takes, empty-takes}
+use Rattle.flattener.proofs.LeafLaws.{other-refused, some-atomic, some-id, atomic-takes, id-takes, empty-takes}
 use Rattle.flattener.proofs.leaf.act.Statement.{statement}
 use Rattle.flattener.proofs.leaf.act.Tie as tie
 

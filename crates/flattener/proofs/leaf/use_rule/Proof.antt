@@ -1,8 +1,7 @@
 -- `leaf::use_rule` meets its contract: the look-up by the index finds the rule that the definition finds, and its premises become new nodes.
 -- Assumes nothing.
 use mathlib.Core.Path.{_≡_, sym, subst, ap, _∙_}
-use mathlib.Core.Option.{none, some}
-use mathlib.Core.List.{List}
+use mathlib.Core.Option.{some}
 use Prim.Native.Nat.{ℕ, _+_, _*_, _≤_, _<_}
 use native.Mathlib.Omega.{arith}
 use lib.ListN.{length}
@@ -11,7 +10,7 @@ use borrow.Author.Needs.{needs}
 use Rattle.words.specs.Word.{word}
 use Rattle.words.proofs.KeptLaws.{kept-same}
 use Rattle.format.specs.declared.values.RuleName.{RuleName}
-use Rattle.format.specs.Values.{ruleName, goal}
+use Rattle.format.specs.Values.{ruleName}
 use Rattle.format.specs.Goals.{goalsAt}
 use Rattle.format.proofs.GoalsLaws.{length-goalsAt}
 use Rattle.tables.specs.Tables.{Table}
@@ -19,7 +18,7 @@ use Rattle.tables.specs.Lookup.{foundRule, findRule}
 use Rattle.tables.specs.Found.{ruleFound, FoundInside}
 use Rattle.tables.specs.Standing.{TableStands}
 use Rattle.flattener.specs.Space.{mostNodes, cellPlace, planted}
-use Rattle.flattener.proofs.LeafLaws.{atomic-count, node, goalHere, found-by, kept-planted, atomic-missing, atomic-gives}
+use Rattle.flattener.proofs.LeafLaws.{atomic-count, goalHere, found-by, kept-planted, atomic-missing, atomic-gives}
 use Rattle.flattener.proofs.leaf.use_rule.Statement.{statement}
 use Rattle.flattener.proofs.leaf.use_rule.Tie as tie
 

@@ -1,8 +1,8 @@
 -- `nodes::put_use` meets its contract: three values are stored.
 -- Assumes nothing.
-use mathlib.Core.Path.{_≡_, ap, _∙_}
+use mathlib.Core.Path.{ap, _∙_}
 use mathlib.Core.List.{List}
-use Prim.Native.Nat.{ℕ, _+_, _*_}
+use Prim.Native.Nat.{ℕ, _+_}
 use Rattle.words.specs.Word.{putWord}
 use Rattle.flattener.specs.Space.{cellPlace, putUse}
 use borrow.Author.Needs.{needs}

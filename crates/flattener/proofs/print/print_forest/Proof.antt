@@ -1,13 +1,12 @@
 -- `print::print_forest` meets its contract: the state of the pass is kept by each node that is printed.
 -- Assumes nothing.
-use mathlib.Core.Path.{_≡_, sym, ap, _∙_}
+use mathlib.Core.Path.{_≡_, ap, _∙_}
 use mathlib.Core.List.{List}
-use Prim.Native.Nat.{ℕ, suc, _+_, _*_, _-_, _≤_}
+use Prim.Native.Nat.{_+_, _*_, _-_}
 use native.Mathlib.Omega.{arith}
 use lib.ListN.{length}
 use lib.Seq.{sets, length-sets}
 use denote.Ref.{now}
-use borrow.Author.Needs.{needs}
 use Rattle.files.specs.Derivations.{entriesBytes}
 use Rattle.hitac.proofs.Nodes.{Cell, range, nodeEntries}
 use Rattle.walks.specs.Layout.{stackEnd}

@@ -1,7 +1,6 @@
 -- `walk::begin_leaf` meets its contract: the term's refusal, or where the walk stands behind it.
 -- Assumes nothing.
-use mathlib.Core.Path.{_≡_, refl, subst, ap, _∙_}
-use mathlib.Core.List.{List}
+use mathlib.Core.Path.{refl, subst, ap}
 use Prim.Native.Nat.{ℕ, _+_, _≤_}
 use native.Mathlib.Omega.{arith}
 use lib.ListN.{length}
@@ -12,7 +11,6 @@ use Rattle.format.specs.Terms.{Term}
 use Rattle.format.specs.Standing.{Stands}
 use Rattle.tables.specs.Tables.{Table}
 use Rattle.tables.specs.Standing.{TableStands}
-use Rattle.walks.specs.Loops.{Roomy}
 use Rattle.flattener.specs.declared.leaf.Taken.the-variants as A
 use Rattle.flattener.specs.Space.{cellsOf}
 use Rattle.flattener.specs.NodeActs.{nodeAct}

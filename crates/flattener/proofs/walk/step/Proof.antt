@@ -1,11 +1,8 @@
 -- `walk::step` meets its contract: a label on another count is refused, and the term inside the labels begins by its tag.
 -- Assumes nothing.
-use mathlib.Core.Path.{_≡_, sym, _∙_}
-use mathlib.Core.Bool.{Bool, true, false}
-use mathlib.Core.List.{List}
-use Prim.Native.Nat.{ℕ, _+_, _≤_, _<_}
+use mathlib.Core.Path.{sym, _∙_}
+use Prim.Native.Nat.{_+_, _≤_}
 use native.Mathlib.Omega.{arith}
-use lib.ListN.{length}
 use denote.Ref.{now}
 use borrow.Author.Needs.{needs}
 use Rattle.format.proofs.StandsLaws.{known}
@@ -15,7 +12,6 @@ use Rattle.walks.proofs.LabelLaws.{bare-behind}
 use Rattle.walks.proofs.LeafLaws.{label-stops, bare-begins, bare-no-label}
 use Rattle.flattener.specs.Space.{cellsOf}
 use Rattle.flattener.specs.NodeActs.{nodeAct}
-use Rattle.flattener.specs.Walks.{Walkable}
 use Rattle.flattener.proofs.WalkLaws.{roomy, steps-go, goes-later}
 use Rattle.flattener.proofs.walk.step.Statement.{statement}
 use Rattle.flattener.proofs.walk.step.Tie as tie

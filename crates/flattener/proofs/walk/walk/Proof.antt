@@ -1,15 +1,13 @@
 -- `walk::walk` meets its contract: each step leaves the whole walk's outcome as it is, and begins a term further on.
 -- Assumes nothing.
 use mathlib.Core.Path.{_≡_, refl, sym, subst, _∙_}
-use mathlib.Core.List.{List}
-use Prim.Native.Nat.{ℕ, _+_, _-_, _≤_, _<_}
+use Prim.Native.Nat.{_+_, _-_}
 use native.Mathlib.Omega.{arith}
 use lib.ListN.{length}
 use denote.Ref.{now}
 use borrow.Author.Needs.{needs}
 use Rattle.format.proofs.StandsLaws.{known}
 use Rattle.tables.specs.Tables.{Table}
-use Rattle.walks.specs.declared.state.Next.{Next}
 use Rattle.walks.specs.declared.state.Turn.{Turn}
 use Rattle.walks.specs.declared.state.Turn.the-variants as U
 use Rattle.walks.specs.Loops.{Aim, Begins, startOf, Turned}
