@@ -17,12 +17,6 @@ module _ {A : Type 0} (stands : ℕ → A → Type 0) (sizeOf : A → ℕ) where
   row-le [] from to row = omega arith
   row-le (x ∷ xs) from to row = omega (arith, row-le xs (from + sizeOf x) to (row .1))
 
-  -- one value more
-  pub row-more : (xs : List A) (from to : ℕ) (x : A) → InRow stands sizeOf from xs to → stands to x → InRow stands sizeOf from (xs ++ (x ∷ [])) (to + sizeOf x)
-  unfolding InRow
-  row-more [] from to x row st = (subst (λ (k : ℕ). stands k x) (sym row) st, omega arith)
-  row-more (y ∷ xs) from to x row st = (row .0, row-more xs (from + sizeOf y) to x (row .1) st)
-
   -- a row behind another
   pub row-append : (xs ys : List A) (from mid to : ℕ) → InRow stands sizeOf from xs mid → InRow stands sizeOf mid ys to → InRow stands sizeOf from (xs ++ ys) to
   unfolding InRow

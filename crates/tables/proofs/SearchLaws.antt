@@ -1,4 +1,4 @@
--- The turns of the two loops of the search for 6, 7, 8 and 9, over headers one behind the other: the inner one is a search in a row, the outer one takes one header more among the earlier ones.
+-- Laws of the search for 6, 7, 8 and 9 over headers one behind the other: the test of two fields, and the field at a place against those seen.
 -- Assumes nothing.
 use mathlib.Core.Path.{_≡_, refl, subst, ap, _∙_}
 use mathlib.Core.Bool.{Bool, true, false, cond, _&&_, not}
@@ -111,33 +111,7 @@ module _ (number : ℕ) (s : List ℕ) where
       let x = row.first-in-row stands (stepAt number s) ps at to h l in
       (x .1 .1, subst (λ (k : ℕ). at + stepAt number s k ≤ to) (x .1 .0) (x .2))
 
-  -- the inner loop: the field at a place against those before it
-  module _ (at : ℕ) where
-    abbrev any : List ℕ → Bool
-    any ps = clashesAny (clashAt number s) at ps
-
-    abbrev stop : ℕ → Bool
-    stop p = true
-
-    step : (p : ℕ) (ps : List ℕ) → any (p ∷ ps) ≡ cond (clashAt number s at p) true (any ps)
-    unfolding clashesAny
-    step p ps = refl
-
-    nil : any [] ≡ false
-    unfolding clashesAny
-    nil = refl
-
-    pub no-clash : (ps : List ℕ) (from to : ℕ) → Headers number s from ps to → to ≤ from → any ps ≡ false
-    no-clash ps from to = row.none-left stands (stepAt number s) any (clashAt number s at) stop false nil step ps from to (step-positive number s)
-
-    pub this-clash : (ps : List ℕ) (from to : ℕ) → Headers number s from ps to → from < to → clashAt number s at from ≡ true → any ps ≡ true
-    this-clash ps from to h l e = row.found-here stands (stepAt number s) any (clashAt number s at) stop false nil step ps from to h l (λ p st. rw (st .0) e) .2
-
-    pub next-earlier : (ps : List ℕ) (from to : ℕ) → Headers number s from ps to → from < to → clashAt number s at from ≡ false
-        → (left : List ℕ) × Headers number s (from + stepAt number s from) left to × (any ps ≡ any left)
-    next-earlier ps from to h l e = row.next-in-row stands (stepAt number s) any (clashAt number s at) stop false nil step ps from to _ h l (λ p st. rw (st .0) e) (λ p st. ap (stepAt number s) (st .0))
-
-  -- the outer loop: the fields from a place on, after those seen
+  -- the fields from a place on, after those seen
   module _ (at : ℕ) (seen : List ℕ) where
     abbrev firstOf : List ℕ → List ℕ → Option ℕ
     firstOf earlier ps = firstClash (clashAt number s) earlier (places ps)
@@ -151,15 +125,3 @@ module _ (number : ℕ) (s : List ℕ) where
     unfolding firstClash places InRow
     stops [] to h l e = absurd (omega arith)
     stops (p ∷ ps) to h l e = rw (h .0 .0, e)
-
-    pub goes-on : (ps : List ℕ) (from to : ℕ) → Headers number s from seen at → Headers number s at ps to → at < to → clashesAny (clashAt number s) at seen ≡ false
-        → (more left : List ℕ) × Headers number s from more (at + stepAt number s at) × Headers number s (at + stepAt number s at) left to × (firstOf seen ps ≡ firstOf more left)
-    unfolding firstClash places InRow
-    goes-on [] from to b h l e = absurd (omega arith)
-    goes-on (p ∷ ps) from to b h l e = (
-      seen ++ (at ∷ []),
-      ps,
-      row.row-more stands (stepAt number s) seen from at at b (refl, h .0 .1),
-      subst (λ (k : ℕ). Headers number s (at + stepAt number s k) ps to) (h .0 .0) (h .1),
-      rw (h .0 .0, e),
-    )

@@ -33,21 +33,9 @@ abbrev Finds : (number : ℕ) → List ℕ → (from to : ℕ) → Clash → Typ
 Finds number s from to r = (ps : List ℕ) → Headers number s from ps to → firstClash (clashAt number s) [] (places ps) ≡ clashTold r
 
 module _ (s : List ℕ) (first : ℕ) (T : Table) (st : TableStands s first T) where
-  abbrev Heads : (number from to : ℕ) → Type 0
-  Heads number from to = (ps : List ℕ) × Headers number s from ps to
-
   -- the headers to search
   abbrev rules : (number : ℕ) → ltb number 8 ≡ true → eqb number 9 ≡ false → Run (RuleStands s) (λ p. ⊥) number s 0 (placedRules 0 (T .rules)) first
   rules number few whole = rules-run s number few whole (T .rules) 0 first (st .rules-stand)
-
-  pub rule-heads : (number : ℕ) → ltb number 8 ≡ true → eqb number 9 ≡ false → Heads number 0 first
-  rule-heads number few whole = let r = rules number few whole in (r .at, r .headers)
-
-  pub definition-heads : Heads 8 first (length s)
-  definition-heads = let r = tactics-run s (T .definitions) first (length s) (st .definitions-stand) in (r .at, r .headers)
-
-  pub label-heads : Heads 9 first (length s)
-  label-heads = let r = labels-run s (T .definitions) first (length s) (st .definitions-stand) in (r .at, r .headers)
 
   -- the definitions begin where the rules end
   begins : first ≡ rulesSize (T .rules)

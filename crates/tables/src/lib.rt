@@ -3,4 +3,3 @@
 pub mod fields;
 pub mod lookup;
 pub mod repeats;
-pub mod table;

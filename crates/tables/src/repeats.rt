@@ -1,10 +1,6 @@
-// Refusals 6, 7, 8 and 9: a field that clashes with an earlier one. They are one search over the headers from a place to another, each compared with those before it; the refusal's number says which fields are meant, how far it is from one header to the next, and what clashes.
+// Refusals 6, 7, 8 and 9: a field that clashes with an earlier one. The refusal's number says which fields are meant, how far it is from one header to the next, and what clashes. Crate index searches by these.
 ghost use mathlib.Core.Path.{_≡_};
-ghost use mathlib.Core.List.{List, []};
-ghost use Prim.Native.Nat.{ℕ, _+_, _≤_};
-ghost use lib.ListN.{length};
-ghost use Rattle.tables.specs.Repeats.{clashesAny, firstClash};
-ghost use Rattle.tables.specs.Search.{searchedTag, stepAt, Room, clashAt, Headers, places, clashTold};
+ghost use Rattle.tables.specs.Search.{searchedTag, stepAt, Room, clashAt};
 use format::tags::least_of;
 use words::load16;
 
@@ -60,38 +56,4 @@ pub fn clashes(s: &[u8], at: usize, earlier: usize, number: u8) -> bool
         return load16(s, at + 1) != load16(s, earlier + 1);
     }
     true
-}
-
-// Whether the field at a place clashes with any from a place up to it.
-fn clashes_before(s: &[u8], from: usize, at: usize, number: u8) -> bool
-    requires { ⌜ Room (now s) at × ((ps : List ℕ) × Headers number (now s) from ps at) ⌝ }
-    ensures { λ r. ⌜ ((ps : List ℕ) → Headers number (now (s .entry)) from ps at → clashesAny (clashAt number (now (s .entry))) at ps ≡ r) ⌝ }
-{
-    // most headers of a body are no labels
-    if s[at] != searched(number) {
-        return false;
-    }
-    let mut earlier = from;
-    while earlier < at {
-        if clashes(s, at, earlier, number) {
-            return true;
-        }
-        earlier += step(s, earlier, number);
-    }
-    false
-}
-
-// The first field from a place to another that clashes with an earlier one of these.
-pub fn first_clash(s: &[u8], from: usize, to: usize, number: u8) -> Clash
-    requires { ⌜ ((ps : List ℕ) × Headers number (now s) from ps to) ⌝ }
-    ensures { λ r. ⌜ ((ps : List ℕ) → Headers number (now (s .entry)) from ps to → firstClash (clashAt number (now (s .entry))) [] (places ps) ≡ clashTold r) ⌝ }
-{
-    let mut at = from;
-    while at < to {
-        if clashes_before(s, from, at, number) {
-            return Clash::At(at);
-        }
-        at += step(s, at, number);
-    }
-    Clash::Nowhere
 }

@@ -1,0 +1,19 @@
+-- The room that an index takes in the work space: five bytes for each node, and as many nodes as document 01's limits let in.
+use Prim.Native.Nat.{ℕ, _+_, _*_}
+use Rattle.format.specs.Limits.{mostRules, mostDefinitions}
+
+-- as many as there are rules at most; there are no more labels, since there are no more term fields. A link of twelve bits says which.
+abbrev pub mostNodes : ℕ
+mostNodes = mostRules
+
+-- an index over the rules, their names, or the labels
+abbrev pub rulesRoom : ℕ
+rulesRoom = 5 * mostNodes
+
+-- an index over the definitions
+abbrev pub definitionsRoom : ℕ
+definitionsRoom = 5 * mostDefinitions
+
+-- what reading a table takes besides the index over the rules
+abbrev pub readingScratch : ℕ
+readingScratch = rulesRoom + definitionsRoom

@@ -1,0 +1,7 @@
+// The room that an index takes in the work space. specs/Layout says how each follows from the limits of document 01.
+
+// An index over the rules, their names, or the labels.
+pub const RULES_ROOM: usize = 20480;
+
+// What reading a table takes besides the index over the rules.
+pub const READING_SCRATCH: usize = 21760;
