@@ -14,6 +14,10 @@ rulesRoom = 5 * mostNodes
 abbrev pub definitionsRoom : ℕ
 definitionsRoom = 5 * mostDefinitions
 
+-- a table of what was seen: four bits for each value of two bytes
+abbrev pub seenRoom : ℕ
+seenRoom = 32768
+
 -- what reading a table takes besides the index over the rules
 abbrev pub readingScratch : ℕ
 readingScratch = rulesRoom + definitionsRoom

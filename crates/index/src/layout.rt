@@ -3,5 +3,8 @@
 // An index over the rules, their names, or the labels.
 pub const RULES_ROOM: usize = 20480;
 
+// A table of what was seen.
+pub const SEEN_ROOM: usize = 32768;
+
 // What reading a table takes besides the index over the rules.
 pub const READING_SCRATCH: usize = 21760;
