@@ -24,7 +24,7 @@ abbrev μ-loop : tie.MeasureT-loop
 μ-loop s w₀ base from to number at₀ w at = to - at
 
 clear-part-requires : tie.Need-clear-part-requires Inv-loop μ-loop
-clear-part-requires c κs = c .before .before .before .pre .1
+clear-part-requires c κs = omega (arith, c .before .before .before .pre .1)
 
 loop-holds : tie.Need-loop-holds Inv-loop μ-loop
 loop-holds c = (refl, kept-same _ _ _, λ ps h m. turn-first _ _ _ _ ps _ _ _ (c .before .before .clear-part .ensures) h m)
