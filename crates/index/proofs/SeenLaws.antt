@@ -7,7 +7,7 @@ use mathlib.Core.List.{List, [], _∷_, _++_, List·Memᴰ, List·Memᴰ·not-ni
 use Prim.Native.Nat.{ℕ, _+_, _*_, _-_, _/_, _%_, _≤_, _<_}
 use native.Mathlib.Omega.{arith}
 use lib.Dec.{eqb, ltb}
-use lib.ListN.{length, getD, set, length-set}
+use lib.ListN.{length, getD, set}
 use lib.Seq.{getD-set-same, getD-set-other}
 use borrow.Author.Tests.{ltb-true, ltb-false, lt-ltb, le-ltb, eqb-true, eqb-false, eq-eqb, ne-eqb}
 use Rattle.words.specs.Word.{word}
@@ -88,10 +88,6 @@ module _ (w : List ℕ) (base v m : ℕ) where
   unfolding seenAt
   high-room l z = high-half byte v l ∙ z
 
-  pub length-seen : length (putSeen w base v m) ≡ length w
-  unfolding putSeen
-  length-seen = simp length-set
-
   kept-seen : Kept w (putSeen w base v m) base (base + seenRoom)
   unfolding putSeen
   kept-seen = record {
@@ -124,6 +120,14 @@ module _ (number : ℕ) (s : List ℕ) (at : ℕ) where
   unfolding markOf
   mark-seven h = rw (ne-eqb _ _ h)
 
+-- numbers of which two are the doubles of the others
+doubled : (a b m n : ℕ) → a ≡ m * 2 → b ≡ n * 2 → eqb a b ≡ eqb m n
+doubled a b m n p q = go (eqb m n) refl
+  where
+    go : (t : Bool) → eqb m n ≡ t → eqb a b ≡ t
+    go true e = eq-eqb a b (omega (arith, eqb-true m n e))
+    go false e = ne-eqb a b (λ h. eqb-false m n e (omega arith))
+
 -- two fields of one value by their marks
 module _ (number : ℕ) (s : List ℕ) (p q : ℕ) (tp : Tagged number s p) (tq : Tagged number s q) (same : word s (p + 3) ≡ word s (q + 3)) where
   nine : number ≡ 9 → clashAt number s p q ≡ true
@@ -132,22 +136,13 @@ module _ (number : ℕ) (s : List ℕ) (p q : ℕ) (tp : Tagged number s p) (tq 
   lengths : number ≡ 7 → clashAt number s p q ≡ not (eqb (word s (p + 1)) (word s (q + 1)))
   lengths e = same-value number s p q tp tq same ∙ for-length number s p q (λ h. omega arith) e
 
-  module _ (mp : Marked number s p) (mq : Marked number s q) (not-9 : number ≡ 9 → ⊥) where
-    seven-other : (markOf number s p ≡ markOf number s q → ⊥) → clashAt number s p q ≡ true
-    seven-other h = go (mp .says) (mq .says)
-      where
-        go : (number ≡ 9) ⊎ ((number ≡ 7) × (word s (p + 1) ≡ markOf number s p * 2)) → (number ≡ 9) ⊎ ((number ≡ 7) × (word s (q + 1) ≡ markOf number s q * 2)) → clashAt number s p q ≡ true
-        go (inl e) b = absurd (not-9 e)
-        go (inr a) (inl e) = absurd (not-9 e)
-        go (inr a) (inr b) = lengths (a .0) ∙ ap not (ne-eqb (word s (p + 1)) (word s (q + 1)) (λ e. h (omega arith)))
-
-    seven-same : markOf number s p ≡ markOf number s q → clashAt number s p q ≡ false
-    seven-same h = go (mp .says) (mq .says)
-      where
-        go : (number ≡ 9) ⊎ ((number ≡ 7) × (word s (p + 1) ≡ markOf number s p * 2)) → (number ≡ 9) ⊎ ((number ≡ 7) × (word s (q + 1) ≡ markOf number s q * 2)) → clashAt number s p q ≡ false
-        go (inl e) b = absurd (not-9 e)
-        go (inr a) (inl e) = absurd (not-9 e)
-        go (inr a) (inr b) = lengths (a .0) ∙ ap not (eq-eqb (word s (p + 1)) (word s (q + 1)) (omega arith))
+  seven : Marked number s p → Marked number s q → (number ≡ 9 → ⊥) → clashAt number s p q ≡ not (eqb (markOf number s p) (markOf number s q))
+  seven mp mq not-9 = go (mp .says) (mq .says)
+    where
+      go : (number ≡ 9) ⊎ ((number ≡ 7) × (word s (p + 1) ≡ markOf number s p * 2)) → (number ≡ 9) ⊎ ((number ≡ 7) × (word s (q + 1) ≡ markOf number s q * 2)) → clashAt number s p q ≡ not (eqb (markOf number s p) (markOf number s q))
+      go (inl e) b = absurd (not-9 e)
+      go (inr a) (inl e) = absurd (not-9 e)
+      go (inr a) (inr b) = lengths (a .0) ∙ ap not (doubled (word s (p + 1)) (word s (q + 1)) (markOf number s p) (markOf number s q) (a .1) (b .1))
 
 -- what the table says of one field more
 module _ (number : ℕ) (s w : List ℕ) (base at : ℕ) where
@@ -207,10 +202,10 @@ module _ (number : ℕ) (s w : List ℕ) (base at : ℕ) where
         other-seen h ne =
             let q = x .only (word s (at + 3)) small h in
             let k = x .held (q .0) (q .1) (q .2) in
-            any-clash (clashAt number s) at seen (q .0) (q .1) (seven-other number s at (q .0) tag (q .2) (sym (q .3)) own (k .own) not-9 (λ e. ne (ap (seenAt w base) (sym (q .3)) ∙ k .there ∙ sym e)))
+            any-clash (clashAt number s) at seen (q .0) (q .1) (seven number s at (q .0) tag (q .2) (sym (q .3)) own (k .own) not-9 ∙ ap not (ne-eqb _ _ (λ e. ne (ap (seenAt w base) (sym (q .3)) ∙ k .there ∙ sym e))))
 
         same-seen : there ≡ markOf number s at → clashesAny (clashAt number s) at seen ≡ false
-        same-seen e = no-clash (clashAt number s) at seen (λ q m c. let h = same-there q m c in never (clashAt number s at q) c (seven-same number s at q tag (h .0) (h .1) own (h .2) not-9 (sym e ∙ h .3)))
+        same-seen e = no-clash (clashAt number s) at seen (λ q m c. let h = same-there q m c in never (clashAt number s at q) c (seven number s at q tag (h .0) (h .1) own (h .2) not-9 ∙ ap not (eq-eqb _ _ (sym e ∙ h .3))))
 
     -- one law for each return of the code
     module _ (value mark earlier : ℕ) (value-is : value ≡ word s (at + 3)) (mark-is : mark ≡ markOf number s at) (earlier-is : earlier ≡ seenAt w base value) where
