@@ -1,4 +1,4 @@
--- The room that an index takes in the work space: five bytes for each node, and as many nodes as document 01's limits let in.
+-- The room that an index takes in the work space: two bytes for each head, then five for each node, as many as document 01's limits let in.
 use Prim.Native.Nat.{ℕ, _+_, _*_}
 use Rattle.format.specs.Limits.{mostRules, mostDefinitions}
 
@@ -6,13 +6,20 @@ use Rattle.format.specs.Limits.{mostRules, mostDefinitions}
 abbrev pub mostNodes : ℕ
 mostNodes = mostRules
 
+-- the lowest ten digits of a key say its head
+abbrev pub heads : ℕ
+heads = 1024
+
+abbrev pub headsRoom : ℕ
+headsRoom = 2 * heads
+
 -- an index over the rules, their names, or the labels
 abbrev pub rulesRoom : ℕ
-rulesRoom = 5 * mostNodes
+rulesRoom = headsRoom + 5 * mostNodes
 
 -- an index over the definitions
 abbrev pub definitionsRoom : ℕ
-definitionsRoom = 5 * mostDefinitions
+definitionsRoom = headsRoom + 5 * mostDefinitions
 
 -- what reading a table takes besides the index over the rules
 abbrev pub readingScratch : ℕ

@@ -1,7 +1,13 @@
 // The room that an index takes in the work space. specs/Layout says how each follows from the limits of document 01.
 
+// The lowest ten digits of a key say its head.
+pub const HEADS: u32 = 1024;
+
+// The heads stand in front of the nodes.
+pub const HEADS_ROOM: usize = 2048;
+
 // An index over the rules, their names, or the labels.
-pub const RULES_ROOM: usize = 20480;
+pub const RULES_ROOM: usize = 22528;
 
 // What reading a table takes besides the index over the rules.
-pub const READING_SCRATCH: usize = 21760;
+pub const READING_SCRATCH: usize = 25856;
