@@ -9,5 +9,8 @@ pub const HEADS_ROOM: usize = 2048;
 // An index over the rules, their names, or the labels.
 pub const RULES_ROOM: usize = 22528;
 
+// A table of what was seen.
+pub const SEEN_ROOM: usize = 32768;
+
 // What reading a table takes besides the index over the rules.
 pub const READING_SCRATCH: usize = 25856;
