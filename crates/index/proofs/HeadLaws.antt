@@ -13,7 +13,8 @@ use Rattle.words.specs.Kept.{Kept}
 use Rattle.words.proofs.WordLaws.{length-putWord, word-same, word-other}
 use Rattle.words.proofs.KeptLaws.{kept-put}
 use Rattle.index.specs.Layout.{heads, headsRoom}
-use Rattle.index.specs.Nodes.{headOf, putHead, NoHeads}
+use Rattle.index.specs.Blank.{Blank}
+use Rattle.index.specs.Nodes.{headOf, putHead}
 use Rattle.index.proofs.NodeLaws.{Same, split}
 
 -- the digits behind the first ten do not matter
@@ -53,8 +54,7 @@ module _ (w : List ℕ) (base d node : ℕ) where
   pub head-nodes : (at : ℕ) → base + headsRoom ≤ at → Same w (putHead w base d node) at
   head-nodes at h = λ i a b. kept-head (base + headsRoom) (omega arith) .above i (omega arith)
 
--- clearing them: so many bytes are 0
-pub record Cleared (w w′ : List ℕ) (base n : ℕ) : Type 0 where
-  pub zero-there : (i : ℕ) → i < n → getD w′ (base + i) 0 ≡ 0
-  pub others : Kept w w′ base (base + headsRoom)
-  pub size : length w′ ≡ length w
+-- heads that were cleared have no node
+pub head-blank : (w w′ : List ℕ) (base d : ℕ) → Blank w w′ base headsRoom → headOf w′ base d ≡ 0
+unfolding headOf word
+head-blank w w′ base d b = ap₂ (λ (x y : ℕ). x * 256 + y) (b .zeros (base + d % heads * 2) (omega arith) (omega arith)) (b .zeros (base + d % heads * 2 + 1) (omega arith) (omega arith))
