@@ -18,7 +18,7 @@ use Rattle.tables.specs.declared.repeats.Clash.the-variants as C
 use Rattle.tables.specs.Repeats.{clashesAny, firstClash}
 use Rattle.tables.specs.Standing.{InRow}
 use Rattle.tables.specs.Within.{Every}
-use Rattle.tables.specs.Search.{searchedTag, stepAt, Room, besides, clashAt, Headers, places, clashTold}
+use Rattle.tables.specs.Search.{stepAt, Room, clashAt, Headers, places, clashTold}
 use Rattle.tables.proofs.SearchLaws.{silent, same-value, for-length, for-value, none-clashes, step-positive, header-here, no-more, stops}
 use Rattle.tables.proofs.RowLaws as row
 use Rattle.index.specs.Layout.{seenRoom}

@@ -7,9 +7,6 @@ use Rattle.index.proofs.BlankLaws.{blank-part}
 use borrow.Author.Needs.{needs}
 use Rattle.index.proofs.blank.clear_part.Statement.{statement}
 use Rattle.index.proofs.blank.clear_part.Tie as tie
-use Rattle.index.proofs.blank.clear_part.Reads as reads
-use Rattle.index.proofs.blank.clear_part.Lts as lts
-use Rattle.words.proofs.clear.Reads as clear-reads
 
 add-clear : tie.Need-add-clear
 add-clear c = search needs

@@ -1,8 +1,8 @@
 -- `seen::first_repeat` meets its contract. The invariant: the table has the headers seen, and the first clash of all is the first from here on.
 -- Assumes nothing.
-use mathlib.Core.Path.{_≡_, refl, sym, _∙_}
+use mathlib.Core.Path.{_≡_, refl, _∙_}
 use mathlib.Core.List.{List}
-use Prim.Native.Nat.{ℕ, _+_, _-_, _≤_, _<_}
+use Prim.Native.Nat.{ℕ, _+_, _-_, _≤_}
 use native.Mathlib.Omega.{arith}
 use denote.Ref.{now}
 use lib.ListN.{length}
@@ -24,7 +24,7 @@ abbrev μ-loop : tie.MeasureT-loop
 μ-loop s w₀ base from to number at₀ w at = to - at
 
 clear-part-requires : tie.Need-clear-part-requires Inv-loop μ-loop
-clear-part-requires c κs = c .before .before .before .pre .1
+clear-part-requires c κs = omega (arith, c .before .before .before .pre .1)
 
 loop-holds : tie.Need-loop-holds Inv-loop μ-loop
 loop-holds c = (refl, kept-same _ _ _, λ ps h m. turn-first _ _ _ _ ps _ _ _ (c .before .before .clear-part .ensures) h m)

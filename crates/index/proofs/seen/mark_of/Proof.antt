@@ -1,6 +1,6 @@
 -- `seen::mark_of` meets its contract: by the number.
 -- Assumes nothing.
-use mathlib.Core.Path.{_≡_, sym, ap, _∙_}
+use mathlib.Core.Path.{sym, ap, _∙_}
 use Prim.Native.Nat.{ℕ, _-_, _/_}
 use native.Mathlib.Omega.{arith}
 use denote.Ref.{now}
@@ -8,9 +8,6 @@ use Rattle.index.proofs.SeenLaws.{mark-nine, mark-seven}
 use borrow.Author.Needs.{needs}
 use Rattle.index.proofs.seen.mark_of.Statement.{statement}
 use Rattle.index.proofs.seen.mark_of.Tie as tie
-use Rattle.index.proofs.seen.mark_of.Reads as reads
-use Rattle.index.proofs.seen.mark_of.Lts as lts
-use Rattle.words.proofs.load16.Reads as load16-reads
 
 returns : tie.Need-returns
 returns c = sym (mark-nine _ _ _ (c .if1 .taken))

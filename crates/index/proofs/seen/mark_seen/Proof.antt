@@ -10,8 +10,6 @@ use Rattle.index.proofs.SeenLaws.{low-put, high-put}
 use borrow.Author.Needs.{needs}
 use Rattle.index.proofs.seen.mark_seen.Statement.{statement}
 use Rattle.index.proofs.seen.mark_seen.Tie as tie
-use Rattle.index.proofs.seen.mark_seen.Reads as reads
-use Rattle.index.proofs.seen.mark_seen.Lts as lts
 
 add-at : tie.Need-add-at
 add-at c = search needs

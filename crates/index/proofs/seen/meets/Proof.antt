@@ -1,8 +1,7 @@
 -- `seen::meets` meets its contract: one law for each return.
 -- Assumes nothing.
 use mathlib.Core.Path.{_≡_, sym, _∙_}
-use mathlib.Core.List.{List}
-use Prim.Native.Nat.{ℕ, _+_, _<_}
+use Prim.Native.Nat.{_+_, _<_}
 use native.Mathlib.Omega.{arith}
 use denote.Ref.{now}
 use lib.ListN.{getD}
@@ -14,13 +13,6 @@ use Rattle.index.proofs.SeenLaws.{passed, again, compared, marked}
 use borrow.Author.Needs.{needs}
 use Rattle.index.proofs.seen.meets.Statement.{statement}
 use Rattle.index.proofs.seen.meets.Tie as tie
-use Rattle.index.proofs.seen.meets.Reads as reads
-use Rattle.index.proofs.seen.meets.Lts as lts
-use Rattle.index.proofs.seen.mark_of.Reads as mark-of-reads
-use Rattle.index.proofs.seen.mark_seen.Reads as mark-seen-reads
-use Rattle.index.proofs.seen.seen_at.Reads as seen-at-reads
-use Rattle.tables.proofs.repeats.searched.Reads as searched-reads
-use Rattle.words.proofs.load16.Reads as load16-reads
 
 -- the field has the tag searched, a mark, and a value of two bytes
 tag : (c : tie.Else1) → getD (now (c .before .before .before .before .before .args .s)) (c .before .before .before .before .before .args .at) 0 ≡ searchedTag (c .before .before .before .before .before .args .number)

@@ -5,8 +5,6 @@ use Rattle.index.proofs.SeenLaws.{low-half, high-half}
 use borrow.Author.Needs.{needs}
 use Rattle.index.proofs.seen.seen_at.Statement.{statement}
 use Rattle.index.proofs.seen.seen_at.Tie as tie
-use Rattle.index.proofs.seen.seen_at.Reads as reads
-use Rattle.index.proofs.seen.seen_at.Lts as lts
 
 add-both : tie.Need-add-both
 add-both c = search needs
