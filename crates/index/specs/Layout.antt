@@ -2,7 +2,7 @@
 use Prim.Native.Nat.{ℕ, _+_, _*_}
 use Rattle.format.specs.Limits.{mostRules, mostDefinitions}
 
--- as many as there are rules at most; there are no more labels, since there are no more term fields. A link of twelve bits says which.
+-- as many as there are rules at most. A link of twelve bits says which.
 abbrev pub mostNodes : ℕ
 mostNodes = mostRules
 
@@ -13,7 +13,7 @@ heads = 1024
 abbrev pub headsRoom : ℕ
 headsRoom = 2 * heads
 
--- an index over the rules, their names, or the labels
+-- an index over the rules
 abbrev pub rulesRoom : ℕ
 rulesRoom = headsRoom + 5 * mostNodes
 
@@ -27,4 +27,4 @@ seenRoom = 32768
 
 -- what reading a table takes besides the index over the rules
 abbrev pub readingScratch : ℕ
-readingScratch = rulesRoom + definitionsRoom
+readingScratch = seenRoom + definitionsRoom

@@ -6,11 +6,11 @@ pub const HEADS: u32 = 1024;
 // The heads stand in front of the nodes.
 pub const HEADS_ROOM: usize = 2048;
 
-// An index over the rules, their names, or the labels.
+// An index over the rules.
 pub const RULES_ROOM: usize = 22528;
 
 // A table of what was seen.
 pub const SEEN_ROOM: usize = 32768;
 
 // What reading a table takes besides the index over the rules.
-pub const READING_SCRATCH: usize = 25856;
+pub const READING_SCRATCH: usize = 36096;

@@ -4,9 +4,6 @@ use Rattle.index.specs.Nodes.{headOf}
 use borrow.Author.Needs.{needs}
 use Rattle.index.proofs.node.head_of.Statement.{statement}
 use Rattle.index.proofs.node.head_of.Tie as tie
-use Rattle.index.proofs.node.head_of.Reads as reads
-use Rattle.index.proofs.node.head_of.Lts as lts
-use Rattle.words.proofs.load16.Reads as load16-reads
 
 cast-load16 : tie.Need-cast-load16
 cast-load16 c = search needs

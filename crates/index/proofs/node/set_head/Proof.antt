@@ -4,9 +4,6 @@ use Rattle.index.specs.Nodes.{putHead}
 use borrow.Author.Needs.{needs}
 use Rattle.index.proofs.node.set_head.Statement.{statement}
 use Rattle.index.proofs.node.set_head.Tie as tie
-use Rattle.index.proofs.node.set_head.Reads as reads
-use Rattle.index.proofs.node.set_head.Lts as lts
-use Rattle.words.proofs.store16.Reads as store16-reads
 
 cast-store16 : tie.Need-cast-store16
 cast-store16 c = search needs
