@@ -1,10 +1,10 @@
--- The table of what was seen: its four bits, the clash of a field with those seen by the marks, and the turns of the loop over headers one behind the other.
+-- The table of what was seen: its four bits, and the clash of a field with those seen by the marks.
 -- Assumes nothing.
 use mathlib.Core.Path.{_≡_, refl, sym, subst, ap, _∙_}
 use mathlib.Core.Bool.{Bool, true, false, cond, not}
 use mathlib.Core.Logic.{_⊎_, inl, inr, _≢_}
 use mathlib.Core.List.{List, [], _∷_, _++_, List·Memᴰ, List·Memᴰ·not-nil, List·Memᴰ·append-cases, List·Memᴰ·eq-of-singleton, List·Memᴰ·head, Memᴰ·append-left, Memᴰ·append-right}
-use Prim.Native.Nat.{ℕ, _+_, _*_, _-_, _/_, _%_, _≤_, _<_}
+use Prim.Native.Nat.{ℕ, _+_, _*_, _/_, _%_, _≤_, _<_}
 use native.Mathlib.Omega.{arith}
 use lib.Dec.{eqb, ltb}
 use lib.ListN.{length, getD, set}
@@ -14,17 +14,15 @@ use Rattle.words.specs.Word.{word}
 use Rattle.words.specs.Kept.{Kept}
 use Rattle.words.proofs.KeptLaws.{kept-same, kept-both}
 use Rattle.tables.specs.declared.repeats.Clash.{Clash}
-use Rattle.tables.specs.declared.repeats.Clash.the-variants as C
 use Rattle.tables.specs.Repeats.{clashesAny, firstClash}
-use Rattle.tables.specs.Standing.{InRow}
-use Rattle.tables.specs.Within.{Every}
-use Rattle.tables.specs.Search.{stepAt, Room, clashAt, Headers, places, clashTold}
-use Rattle.tables.proofs.SearchLaws.{silent, same-value, for-length, for-value, none-clashes, step-positive, header-here, no-more, stops}
-use Rattle.tables.proofs.RowLaws as row
+use Rattle.tables.specs.Search.{clashAt, Headers, places, clashTold}
+use Rattle.tables.proofs.SearchLaws.{silent, same-value, for-length, for-value, none-clashes}
 use Rattle.index.specs.Layout.{seenRoom}
 use Rattle.index.specs.Blank.{Blank}
-use Rattle.index.specs.Seen.{half, putHalf, seenAt, putSeen, markOf, Marked, Markable, Noted, Seen, Meets, Repeats}
-use Rattle.index.proofs.KeyLaws.{never, Tagged, key-says, clash-says, any-clash, no-clash}
+use Rattle.index.specs.Keys.{Tagged}
+use Rattle.index.specs.Seen.{half, putHalf, seenAt, putSeen, markOf, Marked, Noted, Seen, Meets, Repeats}
+use Rattle.index.proofs.TurnLaws.{headers-one}
+use Rattle.index.proofs.KeyLaws.{never, key-says, clash-says, any-clash, no-clash}
 
 -- the half of a byte, by the value
 pub low-half : (b v : ℕ) → v < seenRoom → b % 16 ≡ half b v
@@ -278,7 +276,7 @@ zero-half v = go (ltb v seenRoom)
     go true = refl
     go false = refl
 
-seen-nothing : (number : ℕ) (s w w′ : List ℕ) (base : ℕ) → Blank w w′ base seenRoom → Seen number s [] w′ base
+pub seen-nothing : (number : ℕ) (s w w′ : List ℕ) (base : ℕ) → Blank w w′ base seenRoom → Seen number s [] w′ base
 unfolding seenAt
 seen-nothing number s w w′ base b = record {
   held = λ p m t. absurd (List·Memᴰ·not-nil m);
@@ -287,81 +285,6 @@ seen-nothing number s w w′ base b = record {
   where
     none : (v : ℕ) → v < 65536 → 0 < half (getD w′ (base + v % seenRoom) 0) v → ⊥
     none v l h = let z = ap (λ (x : ℕ). half x v) (b .zeros (base + v % seenRoom) (omega arith) (omega arith)) ∙ zero-half v in omega (arith, z)
-
--- the headers one behind the other from a place to another are these alone
-module _ (number : ℕ) (s : List ℕ) where
-  headers-one : (ps qs : List ℕ) (from to : ℕ) → Headers number s from ps to → Headers number s from qs to → ps ≡ qs
-  unfolding InRow
-  headers-one [] [] from to h k = refl
-  headers-one [] (q ∷ qs) from to h k = absurd (omega (arith, step-positive number s q, row.row-le (λ at p. (p ≡ at) × Room s at) (stepAt number s) qs _ to (k .1)))
-  headers-one (p ∷ ps) [] from to h k = absurd (omega (arith, step-positive number s p, row.row-le (λ at p. (p ≡ at) × Room s at) (stepAt number s) ps _ to (h .1)))
-  headers-one (p ∷ ps) (q ∷ qs) from to h k =
-      let e = h .0 .0 ∙ sym (k .0 .0) in
-      let same = headers-one ps qs (from + stepAt number s p) to (h .1) (subst (λ (x : ℕ). Headers number s (from + stepAt number s x) qs to) (sym e) (k .1)) in
-      ap {B = List ℕ} (λ x. x ∷ ps) e ∙ ap {B = List ℕ} (λ l. q ∷ l) same
-
-module _ (number : ℕ) (s : List ℕ) (base to : ℕ) (ps : List ℕ) where
-  -- at a header, with the table of those seen
-  pub record Turn (w : List ℕ) (at : ℕ) : Type 0 where
-    pub seen : List ℕ
-    pub left : List ℕ
-    pub ahead : Headers number s at left to
-    pub markable : Every (Markable number s) left
-    pub told : firstClash (clashAt number s) [] (places ps) ≡ firstClash (clashAt number s) seen (places left)
-    pub table : Seen number s seen w base
-
-  pub turn-first : (w w′ : List ℕ) (from : ℕ) → Blank w w′ base seenRoom → Headers number s from ps to → Every (Markable number s) ps → Turn w′ from
-  turn-first w w′ from b h m = record { seen = []; left = ps; ahead = h; markable = m; told = refl; table = seen-nothing number s w w′ base b }
-
-  -- the header at this place, and those behind it
-  record Next (at : ℕ) (seen left : List ℕ) : Type 0 where
-    rest : List ℕ
-    behind : Headers number s (at + stepAt number s at) rest to
-    own : Markable number s at
-    more : Every (Markable number s) rest
-    goes-on : clashesAny (clashAt number s) at seen ≡ false → firstClash (clashAt number s) seen (places left) ≡ firstClash (clashAt number s) (seen ++ (at ∷ [])) (places rest)
-
-  next : (at : ℕ) (seen left : List ℕ) → Headers number s at left to → Every (Markable number s) left → at < to → Next at seen left
-  unfolding InRow Every firstClash places
-  next at seen [] h m l = absurd (omega arith)
-  next at seen (p ∷ rest) h m l =
-      let e = h .0 .0 in
-      record {
-        rest = rest;
-        behind = subst (λ (k : ℕ). Headers number s (at + stepAt number s k) rest to) e (h .1);
-        own = subst (λ (k : ℕ). Markable number s k) e (m .0);
-        more = m .1;
-        goes-on = λ c. rw (e, c);
-      }
-
-  module _ (w : List ℕ) (at : ℕ) (t : Turn w at) where
-    module _ (l : at < to) where
-      abbrev here : Next at (t .seen) (t .left)
-      here = next at (t .seen) (t .left) (t .ahead) (t .markable) l
-
-      pub header : Room s at × (at + stepAt number s at ≤ to)
-      header = header-here number s (t .left) at to (t .ahead) l
-
-      pub own-mark : Markable number s at
-      own-mark = here .own
-
-      pub turn-clash : (w′ : List ℕ) (r : Bool) → r ≡ true → Meets number s w w′ base at r → firstClash (clashAt number s) [] (places ps) ≡ clashTold (C.At at)
-      unfolding clashTold
-      turn-clash w′ r e m = t .told ∙ stops number s at (t .seen) (t .left) to (t .ahead) l (m .told (t .seen) (t .table) ∙ e)
-
-      pub turn-next : (w′ : List ℕ) (r : Bool) → r ≡ false → Meets number s w w′ base at r → Turn w′ (at + stepAt number s at)
-      turn-next w′ r e m = record {
-        seen = t .seen ++ (at ∷ []);
-        left = here .rest;
-        ahead = here .behind;
-        markable = here .more;
-        told = t .told ∙ here .goes-on (m .told (t .seen) (t .table) ∙ e);
-        table = m .entered (t .seen) (t .table) e;
-      }
-
-    pub turn-last : to ≤ at → firstClash (clashAt number s) [] (places ps) ≡ clashTold C.Nowhere
-    unfolding clashTold
-    turn-last h = t .told ∙ no-more number s at (t .seen) (t .left) to (t .ahead) h
 
 -- the search is over
 pub over : (number : ℕ) (s w w₁ w′ : List ℕ) (base from to : ℕ) (r : Clash) (ps : List ℕ) → Headers number s from ps to → firstClash (clashAt number s) [] (places ps) ≡ clashTold r

@@ -1,0 +1,74 @@
+// The terms that wait, as frames of four bytes in the work space, and what a term that ended resumes.
+ghost use mathlib.Core.Path.{_≡_};
+ghost use mathlib.Core.List.{List};
+ghost use Prim.Native.Nat.{_+_, _*_, _≤_, _<_};
+ghost use lib.ListN.{length};
+ghost use Rattle.hitac.proofs.Nodes.{Cell};
+ghost use Rattle.walks.specs.Walks.{Act};
+ghost use Rattle.walks.specs.Shows.{putFrame};
+ghost use Rattle.walks.specs.Loops.{Aim, Roomy, Gave, Steps};
+use crate::layout::BEGAN;
+use crate::layout::STACK_END;
+use crate::state::Next;
+use crate::state::Turn;
+use words::load16;
+use words::move_up;
+use words::store16;
+
+// Stores a frame: the place of the term that waits, and a value.
+pub fn push(work: &mut [u8], at: usize, place: usize, value: usize)
+    requires { ⌜ (at + 3 < length (now work)) × (place ≤ 65535) × (value ≤ 65535) ⌝ }
+    ensures { λ _. ⌜ now (work .exit) ≡ putFrame (now (work .entry)) at place value ⌝ }
+{
+    store16(work, at, place as u16);
+    store16(work, at + 2, value as u16);
+}
+
+// From the end of the term n, which gave so many values, to the next term to begin, or to the end of the walk. A sequence moves what its left term gave to the end of its values, and its right term takes it there; a tensor's right term takes the rest of its values; a tensor whose right term ended joins what both gave.
+pub fn resume(proof: &[u8], work: &mut [u8], n: Next, at: usize, given: usize, uses: usize) -> Turn
+    requires { ⌜ ((act : Act) × (x : Aim) × (A : List Cell) × Gave act x A (now proof) (now work) at (n .low) given (n .top + n .count * 2) (n .frames) (n .arity) uses) × Roomy (now proof) (now work) ⌝ }
+    ensures { λ r. ⌜ ((act : Act) (x : Aim) (A : List Cell) → Gave act x A (now (proof .entry)) (now (work .entry)) at (n .low) given (n .top + n .count * 2) (n .frames) (n .arity) uses → Steps act x A (now (proof .entry)) (now (work .entry)) (now (work .exit)) at r) ⌝ }
+{
+    let end = n.top + n.count * 2;
+    let mut start = n.low;
+    let mut count = given;
+    let mut last = n.frames;
+    while STACK_END < last {
+        let frame = last - 4;
+        let place = load16(work, frame) as usize;
+        if proof[place] == 19 {
+            let top = end - count * 2;
+            move_up(work, start, top, count * 2);
+            return Turn::Begin(Next {
+                at,
+                count,
+                low: start,
+                top,
+                frames: frame,
+                arity: n.arity,
+                uses,
+            });
+        }
+        let value = load16(work, frame + 2) as usize;
+        if value < BEGAN {
+            store16(work, frame + 2, (BEGAN + start) as u16);
+            return Turn::Begin(Next {
+                at,
+                count: (value - end) / 2,
+                low: start + count * 2,
+                top: end,
+                frames: last,
+                arity: n.arity,
+                uses,
+            });
+        }
+        let first = value - BEGAN;
+        count = (start + count * 2 - first) / 2;
+        if 256 < count {
+            return Turn::Refused(22, place);
+        }
+        start = first;
+        last = frame;
+    }
+    Turn::Ended(count, uses)
+}
