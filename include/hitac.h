@@ -61,9 +61,21 @@ struct hitac_answer hitac_write_proof(const uint8_t *table, size_t table_length,
 /* Work space that each call needs, in bytes. */
 #define HITAC_CHECK_WORK 65536       /* for hitac_check */
 #define HITAC_RUN_WORK 1290752       /* for hitac_run */
-#define HITAC_FLATTEN_WORK 65536     /* for hitac_flatten */
+#define HITAC_FLATTEN_WORK 196608    /* for hitac_flatten */
 #define HITAC_CHECK_FLAT_WORK 65536  /* for hitac_check_flat */
 #define HITAC_WRITE_PROOF_WORK 65536 /* for hitac_write_proof */
+
+/*
+ * Machine stack that each call needs, in bytes, whatever the files: from the arguments and the return address that the
+ * caller pushes down to the deepest byte that is used. library/stack measures it from the machine code of the library as
+ * library/build makes it, and fails if a number here is smaller; who compiles or links otherwise measures with it anew.
+ * Signal handlers are not counted, nor is a name that the dynamic linker looks up at its first call: link with -z now.
+ */
+#define HITAC_CHECK_STACK 4096         /* for hitac_check */
+#define HITAC_RUN_STACK 200704         /* for hitac_run */
+#define HITAC_FLATTEN_STACK 4096       /* for hitac_flatten */
+#define HITAC_CHECK_FLAT_STACK 4096    /* for hitac_check_flat */
+#define HITAC_WRITE_PROOF_STACK 262144 /* for hitac_write_proof */
 
 /* Output space that is always long enough, in bytes. */
 #define HITAC_LONGEST_PROOF 21510 /* for hitac_run and hitac_write_proof: no proof file is longer */

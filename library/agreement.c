@@ -2,19 +2,10 @@
 #include <stdio.h>
 #include <string.h>
 
-#include "hitac.h"
+#include "calls.h"
 
-#define ROOM 70000
 #define POISON 0xa5
 
-/* A file that is being put together. */
-struct bytes {
-    uint8_t at[ROOM];
-    size_t length;
-};
-
-static struct bytes table, other;
-static uint8_t work[HITAC_RUN_WORK], out[HITAC_LONGEST_FILE];
 static unsigned tests, failures;
 
 static void expect(const char *what, int holds)
@@ -24,46 +15,6 @@ static void expect(const char *what, int holds)
         failures++;
         printf("agreement: WRONG: %s\n", what);
     }
-}
-
-/* The five calls in one form, so that a case is one line. */
-enum call { CHECK, RUN, FLATTEN, CHECK_FLAT, WRITE_PROOF };
-
-static struct hitac_answer answer_in(enum call call, size_t work_length, size_t out_length, uint32_t budget)
-{
-    switch (call) {
-    case CHECK:
-        return hitac_check(table.at, table.length, other.at, other.length, work, work_length);
-    case RUN:
-        return hitac_run(table.at, table.length, other.at, other.length, budget, work, work_length, out, out_length);
-    case FLATTEN:
-        return hitac_flatten(table.at, table.length, other.at, other.length, work, work_length, out, out_length);
-    case CHECK_FLAT:
-        return hitac_check_flat(table.at, table.length, other.at, other.length, work, work_length);
-    default:
-        return hitac_write_proof(table.at, table.length, other.at, other.length, work, work_length, out, out_length);
-    }
-}
-
-static size_t work_of(enum call call)
-{
-    switch (call) {
-    case CHECK:
-        return HITAC_CHECK_WORK;
-    case RUN:
-        return HITAC_RUN_WORK;
-    case FLATTEN:
-        return HITAC_FLATTEN_WORK;
-    case CHECK_FLAT:
-        return HITAC_CHECK_FLAT_WORK;
-    default:
-        return HITAC_WRITE_PROOF_WORK;
-    }
-}
-
-static struct hitac_answer answer(enum call call)
-{
-    return answer_in(call, work_of(call), sizeof out, HITAC_MOST_STEPS);
 }
 
 static int all(const uint8_t *bytes, size_t length, uint8_t value)
@@ -77,67 +28,6 @@ static int all(const uint8_t *bytes, size_t length, uint8_t value)
 static void is(const char *what, struct hitac_answer got, uint32_t number, uint32_t file, uint32_t place)
 {
     expect(what, got.number == number && got.file == file && got.place == place);
-}
-
-/* Putting files together. */
-
-static void put(struct bytes *file, uint8_t byte)
-{
-    file->at[file->length++] = byte;
-}
-
-static void put16(struct bytes *file, size_t value)
-{
-    put(file, (uint8_t)(value / 256));
-    put(file, (uint8_t)(value % 256));
-}
-
-static void header(struct bytes *file, uint8_t tag, size_t length)
-{
-    put(file, tag);
-    put16(file, length);
-}
-
-/* A field whose contents are so many values, all alike: atomic, id, assert, a goal list, .. */
-static void field(struct bytes *file, uint8_t tag, size_t values, size_t value)
-{
-    header(file, tag, 2 * values);
-    while (values-- > 0)
-        put16(file, value);
-}
-
-static void rule(struct bytes *file, size_t name, size_t goal, size_t premises, size_t premise)
-{
-    header(file, 1, 4 + 2 * premises);
-    put16(file, name);
-    put16(file, goal);
-    while (premises-- > 0)
-        put16(file, premise);
-}
-
-/* A definition whose body is id. */
-static void definition(struct bytes *file, size_t tactic)
-{
-    header(file, 2, 5);
-    put16(file, tactic);
-    field(file, 17, 0, 0);
-}
-
-static void entry(struct bytes *file, size_t name, size_t goal)
-{
-    header(file, 32, 4);
-    put16(file, name);
-    put16(file, goal);
-}
-
-/* A term of so many fields, label in label, around id. */
-static void labels(struct bytes *file, size_t fields)
-{
-    for (size_t i = 1; i < fields; i++) {
-        header(file, 18, 2 + 5 * (fields - i - 1) + 3);
-        put16(file, i);
-    }
-    field(file, 17, 0, 0);
 }
 
 /* A term of so many atomics side by side. */

@@ -1,21 +1,21 @@
 //! What is measured: calls of every entry, each in four sizes that double, the
 //! last of them at a limit of document 01.
 
-use second::generate::build::*;
+use crate::files::{self, Files, Keys};
+use boundary::compare::name_of;
 use second::generate::case::{Case, Entry};
-use second::generate::{examples, limit_files};
 
 /// Calls that differ in size alone.
 pub struct Family {
     /// One word for command lines.
-    pub key: &'static str,
+    pub key: String,
     pub title: &'static str,
     pub entry: Entry,
     /// What the sizes count.
     pub unit: &'static str,
     /// The largest size.
     pub most: usize,
-    make: fn(usize) -> (Vec<u8>, Vec<u8>),
+    make: Box<dyn Fn(usize) -> Files>,
 }
 
 impl Family {
@@ -34,137 +34,153 @@ impl Family {
     }
 }
 
-const fn family(
-    key: &'static str,
-    title: &'static str,
+fn family(
     entry: Entry,
+    word: &str,
+    title: &'static str,
     unit: &'static str,
     most: usize,
-    make: fn(usize) -> (Vec<u8>, Vec<u8>),
+    make: impl Fn(usize) -> Files + 'static,
 ) -> Family {
-    Family { key, title, entry, unit, most, make }
+    Family { key: format!("{}-{word}", name_of(entry)), title, entry, unit, most, make: Box::new(make) }
 }
 
-pub const FAMILIES: [Family; 17] = [
-    family("check-small", "document 01's first proof", Entry::Check, "file", 1, small_proof),
-    family(
-        "check-rules",
-        "half as many atomics as rules, the last ones",
-        Entry::Check,
-        "rules",
-        4_096,
-        rules_and_atomics,
-    ),
-    family("check-labels", "nested labels", Entry::Check, "term fields", 4_096, proof_of_labels),
-    family("check-table", "a long table, a short proof", Entry::Check, "bytes of table", 65_535, long_table),
-    family("check-definitions", "labels in a definition", Entry::Check, "term fields", 4_096, table_of_labels),
-    family("flatten-small", "document 01's first proof", Entry::Flatten, "file", 1, small_proof),
-    family("flatten-uses", "a chain of uses", Entry::Flatten, "uses", 2_048, proof_of_uses),
-    family("flatten-labels", "nested labels", Entry::Flatten, "term fields", 4_096, proof_of_labels),
-    family("check_flat-small", "document 01's first derivation", Entry::CheckFlat, "file", 1, small_flat),
-    family("check_flat-uses", "a chain of uses", Entry::CheckFlat, "uses", 4_096, flat_of_uses),
-    family("check_flat-rules", "as many uses as rules", Entry::CheckFlat, "rules", 4_096, rules_and_uses),
-    family("write_proof-small", "document 01's first derivation", Entry::WriteProof, "file", 1, small_flat),
-    family("write_proof-entries", "a chain of uses written back", Entry::WriteProof, "entries", 2_048, flat_of_uses),
-    family("run-small", "document 01's T3 on 10", Entry::Run, "file", 1, small_job),
-    family("run-definitions", "definitions in reverse", Entry::Run, "definitions", 256, definitions_in_reverse),
-    family("run-alternatives", "failing alternatives", Entry::Run, "steps", 4_096, failing_alternatives),
-    family("run-labels", "nested labels", Entry::Run, "steps", 4_096, job_of_labels),
-];
-
-fn small_proof(_: usize) -> (Vec<u8>, Vec<u8>) {
-    (examples::table_a(), examples::first_proof())
-}
-
-fn small_flat(_: usize) -> (Vec<u8>, Vec<u8>) {
-    (examples::table_a(), examples::first_flat())
-}
-
-fn small_job(_: usize) -> (Vec<u8>, Vec<u8>) {
-    (examples::table_a(), job(&[10], &defined(3)))
-}
-
-/// Rules of different names that turn goal 1 into goal 1.
-fn rules(count: usize) -> Vec<u8> {
-    (0..count).flat_map(|name| rule(name as u16, 1, &[1])).collect()
-}
-
-/// A search that goes over the rules in order finds the last ones last.
-fn rules_and_atomics(count: usize) -> (Vec<u8>, Vec<u8>) {
-    let atomics: Vec<Vec<u8>> = (count / 2..count).map(|name| atomic(name as u16)).collect();
-    (rules(count), proof(&[1], &sequence_of(&atomics), &[1]))
-}
-
-fn rules_and_uses(count: usize) -> (Vec<u8>, Vec<u8>) {
-    let mut entries: Vec<Vec<u8>> = (0..count).map(|name| use_entry(name as u16, 1)).collect();
-    entries.push(open_entry(1));
-    (rules(count), flat(&[1], &entries))
-}
-
-fn proof_of_labels(fields: usize) -> (Vec<u8>, Vec<u8>) {
-    (examples::table_a(), proof(&[10], &labels_around(fields - 1, &id()), &[10]))
-}
-
-fn job_of_labels(fields: usize) -> (Vec<u8>, Vec<u8>) {
-    (examples::table_a(), job(&[10], &labels_around(fields - 1, &id())))
-}
-
-/// 23 bytes a rule of eight premises; the longest is exactly 65,535 bytes.
-fn long_table(bytes: usize) -> (Vec<u8>, Vec<u8>) {
-    let short = proof(&[1], &id(), &[1]);
-    if bytes == 65_535 {
-        return (limit_files::longest_table(), short);
+/// All of them, entry by entry.
+pub fn all() -> Vec<Family> {
+    let mut list = Vec::new();
+    for entry in [Entry::Check, Entry::Flatten, Entry::CheckFlat, Entry::WriteProof, Entry::Run] {
+        list.push(family(entry, "small", "document 01's first example", "file", 1, move |_| files::small(entry)));
+        match entry {
+            Entry::Check => list.extend([of_rules(entry), of_depth(entry), of_check()].into_iter().flatten()),
+            Entry::Flatten => list.extend([of_rules(entry), of_depth(entry), of_flatten()].into_iter().flatten()),
+            Entry::CheckFlat => list.extend([of_rules(entry), of_check_flat()].into_iter().flatten()),
+            Entry::WriteProof => list.extend([of_rules(entry), of_write_proof()].into_iter().flatten()),
+            Entry::Run => list.extend(of_run()),
+        }
     }
-    ((0..bytes / 23).flat_map(|name| rule(name as u16, 1, &[0; 8])).collect(), short)
+    list
 }
 
-/// Every label is compared with those in front of it (9).
-fn table_of_labels(fields: usize) -> (Vec<u8>, Vec<u8>) {
-    (limit_files::deep_definition(fields), proof(&[1], &id(), &[1]))
+/// As many rules as a table may have, in several orders, and uses of the last ones.
+fn of_rules(entry: Entry) -> Vec<Family> {
+    let sets: [(&str, &'static str, Keys); 6] = [
+        ("rising", "rules in rising order", files::rising),
+        ("falling", "rules in falling order", files::falling),
+        ("scattered", "rules in scattered order", files::scattered),
+        ("goals", "one name for all goals", files::one_name),
+        ("names", "a name for each goal", files::own_goals),
+        ("sums", "names and goals of one sum", files::one_sum),
+    ];
+    let mut list: Vec<Family> = sets
+        .into_iter()
+        .map(|(word, title, keys)| {
+            family(entry, word, title, "rules", 4_096, move |count| files::last_rules(entry, keys, count))
+        })
+        .collect();
+    let title = "the last rule, labels in a definition";
+    list.push(family(entry, "last", title, "rules", 4_096, move |count| files::last_rule(entry, count)));
+    list
 }
 
-fn proof_of_uses(uses: usize) -> (Vec<u8>, Vec<u8>) {
-    let chain = sequence_of(&vec![atomic(5); uses]);
-    (limit_files::chain_table(), proof(&[50], &chain, &[50]))
+/// Proofs that are as deep as they have fields.
+fn of_depth(entry: Entry) -> Vec<Family> {
+    vec![
+        family(entry, "labels", "nested labels", "term fields", 4_096, files::labels),
+        family(entry, "sequences-left", "sequences to the left", "ids", 2_048, files::sequences_to_the_left),
+        family(entry, "sequences-right", "sequences to the right", "ids", 2_048, files::sequences_to_the_right),
+        family(entry, "tensors-left", "tensors to the left", "empties", 2_048, files::tensors_to_the_left),
+        family(entry, "tensors-right", "tensors to the right", "empties", 2_048, files::tensors_to_the_right),
+    ]
 }
 
-fn flat_of_uses(entries: usize) -> (Vec<u8>, Vec<u8>) {
-    (limit_files::chain_table(), limit_files::flat_chain(entries))
+fn of_check() -> Vec<Family> {
+    let entry = Entry::Check;
+    vec![
+        family(entry, "table", "a long table, a short proof", "bytes of table", 65_535, files::long_table),
+        family(entry, "definitions", "labels in a definition", "term fields", 4_096, files::labels_in_a_definition),
+    ]
 }
 
-/// Each definition is known only when the next one is.
-fn definitions_in_reverse(count: usize) -> (Vec<u8>, Vec<u8>) {
-    (limit_files::chain_of_definitions(count as u16), job(&[1], &tensor(&defined(0), &empty())))
+fn of_flatten() -> Vec<Family> {
+    vec![family(Entry::Flatten, "uses", "a chain of uses", "uses", 2_048, files::proof_of_uses)]
 }
 
-/// T1 is (1 ; assert 2) | id, whose left alternative fails after it has used a
-/// rule; T1 ; T1 ; ... takes seven steps for each T1, the sequence included.
-fn failing_alternatives(steps: usize) -> (Vec<u8>, Vec<u8>) {
-    let late = sequence(&atomic(1), &assert_goal(2));
-    let table = [rule(1, 1, &[1]), definition(1, &alternation(&late, &id()))].concat();
-    (table, job(&[1], &sequence_of(&vec![defined(1); steps / 7])))
+fn of_check_flat() -> Vec<Family> {
+    vec![family(Entry::CheckFlat, "uses", "a chain of uses", "uses", 4_096, files::flat_of_uses)]
+}
+
+fn of_write_proof() -> Vec<Family> {
+    vec![family(Entry::WriteProof, "entries", "a chain of uses written back", "entries", 2_048, files::flat_of_uses)]
+}
+
+fn of_run() -> Vec<Family> {
+    let entry = Entry::Run;
+    vec![
+        family(entry, "definitions", "definitions in reverse", "definitions", 256, files::definitions_in_reverse),
+        family(entry, "alternatives", "failing alternatives", "steps", 4_096, files::failing_alternatives),
+        family(entry, "labels", "nested labels", "steps", 4_096, files::job_of_labels),
+    ]
 }
 
 #[cfg(test)]
 mod tests {
     use super::*;
+    use second::Answer;
+
+    /// The answer to the largest call of a family, and the call.
+    fn largest(key: &str) -> (Answer, Case) {
+        let family = all().into_iter().find(|family| family.key == key).unwrap();
+        let case = family.case(family.most);
+        (case.outcome().answer, case)
+    }
 
     #[test]
-    fn every_call_succeeds_and_uses_its_limit() {
-        for family in &FAMILIES {
+    fn every_call_succeeds() {
+        for family in &all() {
             for size in family.sizes() {
                 let outcome = family.case(size).outcome();
                 assert_eq!(outcome.answer.number, 0, "{} {size}", family.key);
             }
         }
-        let answer = |key: &str| {
-            let family = FAMILIES.iter().find(|family| family.key == key).unwrap();
-            (family.case(family.most).outcome().answer, family.case(family.most).table.len())
-        };
-        assert_eq!(answer("check-rules").0.uses, 2_048);
-        assert_eq!(answer("check-labels").0.fields, 4_096);
-        assert_eq!(answer("check-table").1, 65_535);
-        assert_eq!(answer("run-alternatives").0.steps, 4_094);
-        assert_eq!(answer("run-labels").0.steps, 4_096);
+    }
+
+    #[test]
+    fn no_two_families_have_one_key() {
+        let mut keys: Vec<String> = all().into_iter().map(|family| family.key).collect();
+        let count = keys.len();
+        keys.sort();
+        keys.dedup();
+        assert_eq!(keys.len(), count);
+    }
+
+    #[test]
+    fn the_largest_calls_use_their_limits() {
+        assert_eq!(largest("check-labels").0.fields, 4_096);
+        assert_eq!(largest("check-table").1.table.len(), 65_535);
+        assert_eq!(largest("check_flat-uses").0.uses, 4_096);
+        assert_eq!(largest("run-alternatives").0.steps, 4_094);
+        assert_eq!(largest("run-labels").0.steps, 4_096);
+        for shape in ["sequences-left", "sequences-right", "tensors-left", "tensors-right"] {
+            assert_eq!(largest(&format!("check-{shape}")).0.fields, 4_095);
+            assert_eq!(largest(&format!("flatten-{shape}")).1.other, largest(&format!("check-{shape}")).1.other);
+        }
+    }
+
+    /// 4,096 rules of nine bytes; 2,048 atomics, 4,096 uses, or 2,047 uses and an open.
+    #[test]
+    fn families_of_rules_use_their_limits() {
+        for set in ["rising", "falling", "scattered", "goals", "names", "sums"] {
+            for entry in ["check", "flatten", "check_flat", "write_proof"] {
+                assert_eq!(largest(&format!("{entry}-{set}")).1.table.len(), 9 * 4_096);
+            }
+            assert_eq!(largest(&format!("check-{set}")).0.uses, 2_048);
+            assert_eq!(largest(&format!("check_flat-{set}")).0.uses, 4_096);
+            assert_eq!(largest(&format!("flatten-{set}")).0.length, 5 + 7 * 2_048 + 5);
+            assert_eq!(largest(&format!("write_proof-{set}")).0.length, 5 + 8 * 2_047 + 6 - 3 + 5);
+        }
+        assert_eq!(largest("check-last").1.table.len(), 9 * 4_096 + 5 + 5 * 4_095 + 3);
+        assert_eq!(largest("check-last").0.uses, 2_048);
+        assert_eq!(largest("check_flat-last").0.uses, 2_048);
+        assert_eq!(largest("write_proof-last").1.other.len(), 5 + 7 * 2_047 + 5);
     }
 }

@@ -1,13 +1,14 @@
 //! Speed of the built library beside the second engine's.
 
 mod families;
+mod files;
 mod measure;
 mod page;
 mod plot;
 
 use boundary::library::Library;
 use boundary::options::Options;
-use families::{Family, FAMILIES};
+use families::Family;
 use measure::{Engine, Measured};
 use page::{Counts, Row};
 use std::path::{Path, PathBuf};
@@ -17,14 +18,18 @@ const HELP: &str = "\
 bench: the speed of the built library beside the second engine's
 
   bench [--library PATH] [--rounds N] [--page FILE] [--plot FILE]
+  bench --only PREFIX [--library PATH] [--rounds N]
   bench --once CALL --size N --engine library|second [--library PATH]
 
 The first form measures every call, prints the table, puts it into the page
-between its marks, and writes the plot as SVG. It needs valgrind. The second form
-makes one call, so that an outside counter can watch it; CALL is one of
+between its marks, writes the plot as SVG, and says which calls need more
+instructions or time than the second engine or grow by more than 2.2 from half to
+all of their size. It needs valgrind. The second form does so for the calls of
+which the names begin so, and writes neither page nor plot. The third form makes
+one call, so that an outside counter can watch it; CALL is one of
 ";
 
-const VALUED: [&str; 7] = ["--library", "--rounds", "--page", "--plot", "--once", "--size", "--engine"];
+const VALUED: [&str; 8] = ["--library", "--rounds", "--page", "--plot", "--only", "--once", "--size", "--engine"];
 
 fn main() -> ExitCode {
     let arguments: Vec<String> = std::env::args().skip(1).collect();
@@ -40,7 +45,7 @@ fn main() -> ExitCode {
 
 fn perform(options: &Options) -> Result<(), String> {
     if options.has("--help") {
-        let keys: Vec<&str> = FAMILIES.iter().map(|family| family.key).collect();
+        let keys: Vec<String> = families::all().into_iter().map(|family| family.key).collect();
         println!("{HELP}{}.", keys.join(", "));
         return Ok(());
     }
@@ -53,7 +58,8 @@ fn perform(options: &Options) -> Result<(), String> {
 }
 
 fn call_once(options: &Options, library: &Library, key: &str) -> Result<(), String> {
-    let family = FAMILIES.iter().find(|family| family.key == key).ok_or(format!("no call is named {key}"))?;
+    let family =
+        families::all().into_iter().find(|family| family.key == key).ok_or(format!("no call is named {key}"))?;
     let size = options.number("--size", family.most)?;
     let name = options.text("--engine").unwrap_or("library");
     let engine = Engine::of_name(name).ok_or(format!("no engine is named {name}"))?;
@@ -64,14 +70,23 @@ fn call_once(options: &Options, library: &Library, key: &str) -> Result<(), Stri
 
 fn measure_all(options: &Options, library: &Library, path: &Path) -> Result<(), String> {
     let rounds = options.number("--rounds", 21)?;
+    let only = options.text("--only");
+    let mut families = families::all();
+    families.retain(|family| family.key.starts_with(only.unwrap_or("")));
     let mut rows = Vec::new();
-    for family in &FAMILIES {
+    for family in &families {
         eprintln!("bench: {}", family.key);
         let counts = counts_of(path, family)?;
         rows.push(Row { family, counts, times: measure::times(library, family, rounds) });
     }
     let table = page::table(&rows);
     print!("{table}");
+    for line in page::over(&rows) {
+        println!("bench: {line}");
+    }
+    if only.is_some() {
+        return Ok(());
+    }
     if let Some(page) = options.text("--page") {
         let text = std::fs::read_to_string(page).map_err(|error| format!("cannot read {page}: {error}"))?;
         write(page, &page::with_measured_part(&text, &table)?)?;

@@ -131,7 +131,7 @@ pub fn instructions(library: &Path, family: &Family, size: usize, engine: Engine
         .args(["--tool=callgrind", "--toggle-collect=hitac_bench_call", "--main-stacksize=16777216"])
         .arg(format!("--callgrind-out-file={}", counts.display()))
         .arg(program)
-        .args(["--once", family.key, "--size", &size.to_string(), "--engine", engine.name(), "--library"])
+        .args(["--once", &family.key, "--size", &size.to_string(), "--engine", engine.name(), "--library"])
         .arg(library)
         .output()
         .map_err(|error| format!("valgrind cannot be started: {error}"))?;

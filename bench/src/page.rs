@@ -34,16 +34,30 @@ impl Row<'_> {
         self.largest().ours as f64 / self.largest().seconds as f64
     }
 
-    /// How the counts grow when the largest but one size doubles.
-    fn growth(&self) -> String {
+    /// How our counts and the second engine's grow when the largest but one size
+    /// doubles; nothing for a call that cannot grow.
+    fn growth(&self) -> Option<(f64, f64)> {
         match self.counts[..] {
             [.., half, whole] => {
                 let of = |count: fn(Counts) -> u64| count(whole) as f64 / count(half) as f64;
-                format!("{:.2} | {:.2}", of(|counts| counts.ours), of(|counts| counts.seconds))
+                Some((of(|counts| counts.ours), of(|counts| counts.seconds)))
             }
-            _ => " | ".to_string(),
+            _ => None,
         }
     }
+
+    /// What is over a limit: instructions and time beside the second engine's, and growth.
+    fn over(&self) -> Vec<String> {
+        let ours = self.growth().map_or(0.0, |growth| growth.0);
+        let limits = [("instructions", self.ratio(), 1.0), ("time", self.times.ratio, 1.0), ("growth", ours, 2.2)];
+        let over = limits.into_iter().filter(|(_, value, most)| value > most);
+        over.map(|(what, value, most)| format!("{} {what} {value:.2}, over {most}", self.family.key)).collect()
+    }
+}
+
+/// What is over a limit, a line each.
+pub fn over(rows: &[Row]) -> Vec<String> {
+    rows.iter().flat_map(Row::over).collect()
 }
 
 pub fn table(rows: &[Row]) -> String {
@@ -57,6 +71,7 @@ pub fn table(rows: &[Row]) -> String {
             1 => String::new(),
             size => format!("{} {}", with_commas(size as u64), row.family.unit),
         };
+        let growth = row.growth().map_or(" | ".to_string(), |(ours, seconds)| format!("{ours:.2} | {seconds:.2}"));
         let _ = writeln!(
             text,
             "| {} | {} | {size} | {} | {} | {:.2} | {} | {:.2} | {} |",
@@ -65,7 +80,7 @@ pub fn table(rows: &[Row]) -> String {
             with_commas(largest.ours),
             with_commas(largest.seconds),
             row.ratio(),
-            row.growth(),
+            growth,
             row.times.ratio,
             time_text(row.times.ours),
         );
@@ -90,6 +105,7 @@ pub fn with_measured_part(page: &str, measured: &str) -> Result<String, String> 
 #[cfg(test)]
 mod tests {
     use super::*;
+    use crate::families;
 
     #[test]
     fn only_the_measured_part_is_replaced() {
@@ -97,5 +113,17 @@ mod tests {
         let new = with_measured_part(&page, "new\n").unwrap();
         assert_eq!(new, format!("front\n{BEGIN}\n\nnew\n\n{END}\nback\n"));
         assert!(with_measured_part("no marks", "new").is_err());
+    }
+
+    #[test]
+    fn what_is_over_a_limit_is_said() {
+        let families = families::all();
+        let counts = |size, ours| Counts { size, ours, seconds: 100 };
+        let row = Row {
+            family: &families[1],
+            counts: vec![counts(1, 50), counts(2, 120)],
+            times: Times { ours: 1.0, ratio: 0.9 },
+        };
+        assert_eq!(over(&[row]), ["check-rising instructions 1.20, over 1", "check-rising growth 2.40, over 2.2"]);
     }
 }

@@ -108,3 +108,26 @@ fn line(svg: &mut String, counts: &[Counts], scale: &Scale, of: fn(&Counts) -> u
         points.trim_end()
     );
 }
+
+#[cfg(test)]
+mod tests {
+    use super::*;
+    use crate::families;
+    use crate::measure::Times;
+
+    #[test]
+    fn every_family_that_grows_has_a_panel() {
+        let families = families::all();
+        let row = |family| {
+            let counts = |size: usize| Counts { size, ours: 1_000 * size as u64, seconds: 2_000 * size as u64 };
+            Row {
+                family,
+                counts: family.sizes().into_iter().map(counts).collect(),
+                times: Times { ours: 1.0, ratio: 1.0 },
+            }
+        };
+        let rows: Vec<Row> = families.iter().map(row).collect();
+        let growing = families.iter().filter(|family| family.most > 1).count();
+        assert_eq!(plot(&rows).matches("<polyline").count(), 2 * growing);
+    }
+}

@@ -11,9 +11,16 @@ from typing import NamedTuple
 
 CHECK_WORK = 65536
 RUN_WORK = 1290752
-FLATTEN_WORK = 65536
+FLATTEN_WORK = 196608
 CHECK_FLAT_WORK = 65536
 WRITE_PROOF_WORK = 65536
+
+# Machine stack that each call needs, in bytes, besides what Python takes: for threads with small stacks.
+CHECK_STACK = 4096
+RUN_STACK = 200704
+FLATTEN_STACK = 4096
+CHECK_FLAT_STACK = 4096
+WRITE_PROOF_STACK = 262144
 
 LONGEST_PROOF = 21510
 LONGEST_FLAT = 16131

@@ -4,10 +4,10 @@ use mathlib.Core.Path.{_≡_, refl, sym, _∙_}
 use mathlib.Core.Bool.{true, false, false≢true}
 use mathlib.Core.Option.{none, some}
 use mathlib.Core.List.{List, [], _∷_, _++_}
-use Prim.Native.Nat.{ℕ, _+_, _*_, _-_, _<_}
+use Prim.Native.Nat.{ℕ, _+_, _<_}
 use native.Mathlib.Omega.{arith}
 use lib.Dec.{eqb}
-use lib.ListN.{length, getD, drop}
+use lib.ListN.{getD, drop}
 use borrow.Author.Tests.{eq-eqb, ne-eqb}
 use Rattle.words.specs.Word.{word}
 use Rattle.format.specs.declared.values.RuleName.{RuleName}
@@ -21,8 +21,7 @@ use Rattle.files.specs.Derivations.{Entry, useEntry, openEntry}
 use Rattle.files.specs.Standing.{EntriesStand}
 use Rattle.hitac.specs.Walk.{premisesOr}
 use Rattle.hitac.specs.FlatWalk.{flatWalk}
-use Rattle.derivation.specs.Pending.{pendingIn, EntryInside, carriedGoal, carriesFirst}
-use Rattle.derivation.proofs.Stack.{first-pending}
+use Rattle.derivation.specs.Walks.{EntryInside, carriedGoal, carriesFirst}
 
 -- the goal of an entry
 abbrev pub entryGoal : Entry → Goal
@@ -92,8 +91,11 @@ pub open-goal : (s : List ℕ) (at : ℕ) → (getD s at 0 ≡ 32 → ⊥) → c
 unfolding carriedGoal
 open-goal s at t = rw (ne-eqb (getD s at 0) 32 t)
 
--- as it was read, compared with the one on top of the stack
-pub compared : (flat work : List ℕ) (at n g v f : ℕ) → (n ≡ 0 → ⊥) → f ≡ word work (length work - n * 2) → carriedGoal flat at ≡ goal v → g ≡ v
-    → eqb g f ≡ carriesFirst (carriedGoal flat at) (pendingIn work n)
+-- as it was read, compared with the first pending goal
+pub compared : (flat : List ℕ) (at g v : ℕ) (first : Goal) (pending others : List Goal) → pending ≡ first ∷ others → carriedGoal flat at ≡ goal v → g ≡ v → eqb g (first .0) ≡ carriesFirst (carriedGoal flat at) pending
 unfolding carriesFirst
-compared flat work at n g v f some-goal top c e = rw (c, first-pending work n (omega arith), e, top)
+compared flat at g v first pending others p c e = rw (p, c, e)
+
+pub none-carried : (γ : Goal) (pending : List Goal) → pending ≡ [] → false ≡ carriesFirst γ pending
+unfolding carriesFirst
+none-carried γ pending p = rw p

@@ -3,7 +3,13 @@ pub mod Rows
 pub mod ResultLaws
 pub mod HeaderLaws
 pub mod ReaderLaws
+pub mod Again
 pub mod TermLaws
+pub mod Depth
+pub mod ShapeLaws
+pub mod WaitLaws
+pub mod Lengths
+pub mod TurnLaws
 pub mod GoalsLaws
 pub mod TermTags
 pub mod ReadLaw
@@ -12,7 +18,6 @@ pub mod FieldBytes
 pub mod Encoded
 pub mod Complete
 pub mod Decoded
-pub mod Depth
 pub mod RefusedPlace
 pub mod GoalBytes
 pub mod TermBytes
@@ -20,7 +25,3 @@ pub mod GoalsAt
 pub mod ByTag
 pub mod GoalListBytes
 pub mod EncodedBytes
-pub mod Lengths
-pub mod ShapeLaws
-pub mod WaitLaws
-pub mod TurnLaws

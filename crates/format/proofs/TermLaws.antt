@@ -1,9 +1,9 @@
--- Laws of reading a term, by what the code tells of the parts: one for each return of `read_term`.
+-- Reading a term as the code tells it: the steps one by one, and that a term which was read lies within what encloses it.
 -- Assumes nothing.
-use mathlib.Core.Path.{_≡_, refl, sym, subst}
+use mathlib.Core.Path.{_≡_, refl, subst}
 use mathlib.Core.Bool.{Bool, true, false, cond}
 use mathlib.Core.List.{List}
-use Prim.Native.Nat.{ℕ, zero, suc, _+_, _-_, _≤_, _<_}
+use Prim.Native.Nat.{ℕ, zero, suc, _+_, _≤_, _<_}
 use native.Mathlib.Omega.{arith}
 use lib.Dec.{eqb, leb}
 use Rattle.format.specs.declared.headers.HeaderRead.the-variants as H
@@ -17,30 +17,9 @@ use Rattle.format.specs.Headers.{Header, header, headerAt}
 use Rattle.format.specs.Terms.{Term}
 use Rattle.format.specs.ReadTerms.{ParsedTerm, parsedTerm, closed, contents, termOf, readTerm}
 use Rattle.format.specs.Shapes.{headerShape, termShape, ending, Within}
-use Rattle.format.proofs.ResultLaws.{told-refused, told-gives}
-
--- a statement of every depth above the term's bytes is one of every depth at or above them, one step on
-pub at-depth : (s : List ℕ) (high at end n : ℕ) (r : TermRead)
-    → ((d : ℕ) → end - at ≤ d → r ≡ termShape (andThen (headerAt s at end hiproofKind high (leb mostTermFields n)) (termOf (readTerm d s high) s at n)))
-    → (d : ℕ) → end - at < d → r ≡ termShape (readTerm d s high at end n)
-unfolding readTerm
-at-depth s high at end n r h zero l = absurd (omega arith)
-at-depth s high at end n r h (suc d) l = h d (omega arith)
-
--- what follows an inner term that was refused, and one that was read
-and-refused : (x : Result ParsedTerm) (next : ParsedTerm → Result ParsedTerm) (k p : ℕ) → termShape x ≡ Refused k p → termShape (andThen x next) ≡ Refused k p
-unfolding termShape
-and-refused x next k p e = told-refused Refused (λ t. Read (t .next) (t .count)) Refused (λ t. Read (t .next) (t .count)) x next k p e (λ c q f. f) (λ a f. let z : _≡_ {A = ℕ} 0 1 = cc in omega arith)
-
-and-read : (x : Result ParsedTerm) (next : ParsedTerm → Result ParsedTerm) (to n : ℕ) (r : TermRead) → termShape x ≡ Read to n
-    → ((t : Term) → termShape (next (parsedTerm t to n)) ≡ r) → termShape (andThen x next) ≡ r
-unfolding termShape
-and-read x next to n r e h =
-    told-gives Refused (λ t. Read (t .next) (t .count)) Refused (λ t. Read (t .next) (t .count)) x next (Read to n) r e (λ k p f. let z : _≡_ {A = ℕ} 0 1 = cc in omega arith)
-    (λ t given f.
-    let a : t .next ≡ to = cc in
-    let b : t .count ≡ n = cc in
-    subst (λ (u : ParsedTerm). told Refused (λ v. Read (v .next) (v .count)) (next u) ≡ r) (λ i. record { term = t .term; next = sym a i; count = sym b i }) (h (t .term)))
+use Rattle.format.specs.Waiting.{goOn, closing}
+use Rattle.format.proofs.ResultLaws.{told-refused, and-holds}
+use Rattle.format.proofs.HeaderLaws.{IsField, is-field}
 
 -- a header that was refused
 pub header-refused : (x : Result Header) (next : Header → Result ParsedTerm) (k p : ℕ) → headerShape x ≡ H.Refused k p → termShape (andThen x next) ≡ Refused k p
@@ -55,6 +34,12 @@ pub header-read : (rec : ℕ → ℕ → ℕ → Result ParsedTerm) (s : List �
 unfolding andThen termOf
 header-read rec s at n x tag len close e c = rw (e, c)
 
+-- what is told of two steps
+go-shape : (x : Result ParsedTerm) (next : ParsedTerm → Result ParsedTerm) (g : ℕ → ℕ → TermRead) → ((t : ParsedTerm) → termShape (next t) ≡ g (t .next) (t .count)) → termShape (andThen x next) ≡ goOn (termShape x) g
+unfolding termShape told andThen goOn
+go-shape (gives t) next g h = h t
+go-shape (refused c p) next g h = refl
+
 closed-ending : (at end : ℕ) (t : Term) (next n : ℕ) → termShape (closed at end t next n) ≡ ending at end next n
 unfolding termShape told closed ending
 closed-ending at end t next n = go (eqb next end)
@@ -63,7 +48,7 @@ closed-ending at end t next n = go (eqb next end)
     go true = refl
     go false = refl
 
-pub within-ending : (at end close next n : ℕ) → at + 3 ≤ next → next ≤ end → Within at end (ending at close next n)
+within-ending : (at end close next n : ℕ) → at + 3 ≤ next → next ≤ end → Within at end (ending at close next n)
 unfolding Within ending
 within-ending at end close next n l h = go (eqb next close)
   where
@@ -71,39 +56,59 @@ within-ending at end close next n l h = go (eqb next close)
     go true = (l, h)
     go false = tt
 
--- a number that is neither 0 nor 1
-two-or-more : (k : ℕ) → (k ≡ 0 → ⊥) → (k ≡ 1 → ⊥) → (j : ℕ) × (k ≡ suc (suc j))
-two-or-more zero a b = absurd (a refl)
-two-or-more (suc zero) a b = absurd (b refl)
-two-or-more (suc (suc j)) a b = (j, refl)
-
--- the contents of a field with inner terms, from what the calls for these told: l is the length in front of them and k their number
-module _ (rec : ℕ → ℕ → ℕ → Result ParsedTerm) (s : List ℕ) (at tag end n l : ℕ) (el : l ≡ leastOf tag) where
-  refused-at : (k a b : ℕ) → (k ≡ 0 → ⊥) → termShape (rec (at + 3 + l) end n) ≡ Refused a b → termShape (contents rec s at tag end n k) ≡ Refused a b
-  unfolding contents
-  refused-at zero a b h e = absurd (h refl)
-  refused-at (suc zero) a b h e = rw (← el) (and-refused _ _ a b e)
-  refused-at (suc (suc k)) a b h e = rw (← el) (and-refused _ _ a b e)
-
-  pub first-refused : (k a b : ℕ) → k ≡ innerOf tag → (k ≡ 0 → ⊥) → termShape (rec (at + 3 + l) end n) ≡ Refused a b → termShape (contents rec s at tag end n (innerOf tag)) ≡ Refused a b
-  first-refused k a b ek h e = rw (← ek) (refused-at k a b h e)
-
-  pub one-read : (k next m : ℕ) → k ≡ innerOf tag → k ≡ 1 → termShape (rec (at + 3 + l) end n) ≡ Read next m → termShape (contents rec s at tag end n (innerOf tag)) ≡ ending at end next m
-  unfolding contents
-  one-read k next m ek h e = rw (← ek, h, ← el) (and-read _ _ next m _ e (λ t. closed-ending at end _ next m))
-
-  pub second-refused : (k next m a b : ℕ) → k ≡ innerOf tag → (k ≡ 0 → ⊥) → (k ≡ 1 → ⊥) → termShape (rec (at + 3 + l) end n) ≡ Read next m → termShape (rec next end m) ≡ Refused a b → termShape (contents rec s at tag end n (innerOf tag)) ≡ Refused a b
-  unfolding contents
-  second-refused k next m a b ek h₀ h₁ e e₂ =
-      let j = two-or-more k h₀ h₁ in
-      rw (← ek, j .1, ← el) (and-read _ _ next m _ e (λ t. and-refused _ _ a b e₂))
-
-  pub both-read : (k next m last total : ℕ) → k ≡ innerOf tag → (k ≡ 0 → ⊥) → (k ≡ 1 → ⊥) → termShape (rec (at + 3 + l) end n) ≡ Read next m → termShape (rec next end m) ≡ Read last total → termShape (contents rec s at tag end n (innerOf tag)) ≡ ending at end last total
-  unfolding contents
-  both-read k next m last total ek h₀ h₁ e e₂ =
-      let j = two-or-more k h₀ h₁ in
-      rw (← ek, j .1, ← el) (and-read _ _ next m _ e (λ t. and-read _ _ last total _ e₂ (λ u. closed-ending at end _ last total)))
-
 pub within-read : (at end : ℕ) {next n : ℕ} {r : TermRead} → r ≡ Read next n → Within at end r → (at + 3 ≤ next) × (next ≤ end)
 unfolding Within
 within-read at end e w = subst (Within at end) e w
+
+module _ (s : List ℕ) (high : ℕ) where
+  abbrev pub shape : (d at end n : ℕ) → TermRead
+  shape d at end n = termShape (readTerm d s high at end n)
+
+  -- contents with inner terms
+  pub contents-shape : (d at tag end n k : ℕ) → termShape (contents (readTerm d s high) s at tag end n (suc k)) ≡ closing (shape d) at end k (shape d (at + 3 + leastOf tag) end n)
+  unfolding contents closing
+  contents-shape d at tag end n zero = go-shape _ _ _ (λ t. closed-ending at end _ (t .next) (t .count))
+  contents-shape d at tag end n (suc k) = go-shape _ _ _ (λ t. go-shape _ _ _ (λ u. closed-ending at end _ (u .next) (u .count)))
+
+  -- and without
+  pub contents-leaf : (d at tag end n : ℕ) → termShape (contents (readTerm d s high) s at tag end n zero) ≡ Read end n
+  unfolding contents termShape told
+  contents-leaf d at tag end n = refl
+
+  -- a term that was read lies within what encloses it
+  ends-within : (at from end : ℕ) (r : TermRead) → at + 3 ≤ from → Within from end r → Within at end (goOn r (ending at end))
+  unfolding Within goOn
+  ends-within at from end (Refused k p) l w = tt
+  ends-within at from end (Read to m) l w = within-ending at end end to m (omega (arith, w)) (w .1)
+
+  closing-within : (rec : ℕ → ℕ → ℕ → TermRead) → ((a e m : ℕ) → Within a e (rec a e m)) → (at from end k : ℕ) (r : TermRead) → at + 3 ≤ from → Within from end r → Within at end (closing rec at end k r)
+  unfolding Within closing goOn
+  closing-within rec ih at from end zero r l w = ends-within at from end r l w
+  closing-within rec ih at from end (suc k) (Refused a b) l w = tt
+  closing-within rec ih at from end (suc k) (Read to m) l w = ends-within at to end (rec to end m) (omega (arith, w)) (ih to end m)
+
+  wider : (at close end : ℕ) (r : TermRead) → close ≤ end → Within at close r → Within at end r
+  unfolding Within
+  wider at close end (Refused k p) l w = tt
+  wider at close end (Read to m) l w = (w .0, omega (arith, w))
+
+  contents-within : (d at tag end n k : ℕ) → ((a e m : ℕ) → Within a e (shape d a e m)) → at + 3 ≤ end → Within at end (termShape (contents (readTerm d s high) s at tag end n k))
+  unfolding Within
+  contents-within d at tag end n zero ih l = rw (contents-leaf d at tag end n) (l, omega arith)
+  contents-within d at tag end n (suc k) ih l = rw (contents-shape d at tag end n k) (closing-within (shape d) ih at (at + 3 + leastOf tag) end k _ (omega arith) (ih _ _ _))
+
+  after : (d at end n : ℕ) (h : Header) → ((a e m : ℕ) → Within a e (shape d a e m)) → IsField s at end hiproofKind high (leb mostTermFields n) (h .tag) (h .len) → Within at end (termShape (termOf (readTerm d s high) s at n h))
+  unfolding termOf
+  after d at end n h ih f = wider at (at + 3 + h .len) end _ (f .contents) (contents-within d at (h .tag) (at + 3 + h .len) (n + 1) (innerOf (h .tag)) ih (omega arith))
+
+  pub within : (d at end n : ℕ) → Within at end (shape d at end n)
+  unfolding readTerm termShape told Within
+  within zero at end n = tt
+  within (suc d) at end n =
+      and-holds (λ (x : Result ParsedTerm). Within at end (termShape x)) _ _ (λ c p e. tt)
+      (λ h e. after d at end n h (within d) (is-field s at end hiproofKind high (leb mostTermFields n) (h .tag) (h .len) e))
+
+  -- the offset behind a term that was read lies ahead
+  pub ahead : (d at end n : ℕ) (t : ParsedTerm) → readTerm d s high at end n ≡ gives t → at < t .next
+  unfolding Within termShape told
+  ahead d at end n t e = let w = subst (λ (x : Result ParsedTerm). Within at end (termShape x)) e (within d at end n) in omega (arith, w)

@@ -1,6 +1,7 @@
--- One turn of the loop: a law for each return of `enter` and `leave`, and what the loop holds.
+-- One turn of the loop: a law for each return of `enter`, `leave` and `turn`, and what the loop holds.
 -- Assumes nothing.
 use mathlib.Core.Path.{_≡_, refl, sym, ap, subst, _∙_}
+use mathlib.Core.Bool.{Bool}
 use mathlib.Core.List.{List}
 use mathlib.Core.Logic.{_⊎_, inl, inr}
 use Prim.Native.Nat.{ℕ, zero, suc, _+_, _*_, _-_, _≤_, _<_}
@@ -12,6 +13,7 @@ use Rattle.words.specs.Word.{word, putWord}
 use Rattle.words.specs.Kept.{Kept}
 use Rattle.words.proofs.WordLaws.{length-putWord, word-same, word-other}
 use Rattle.words.proofs.KeptLaws.{kept-put, kept-both, kept-same}
+use Rattle.format.specs.declared.headers.HeaderRead.{HeaderRead}
 use Rattle.format.specs.declared.headers.HeaderRead.the-variants as H
 use Rattle.format.specs.declared.terms.TermRead.{TermRead}
 use Rattle.format.specs.declared.terms.TermRead.the-variants.{Refused, Read}
@@ -23,10 +25,11 @@ use Rattle.format.specs.Headers.{header, headerAt}
 use Rattle.format.specs.ReadTerms.{readTerm}
 use Rattle.format.specs.Shapes.{headerShape, termShape, ending, Within}
 use Rattle.format.proofs.HeaderLaws.{IsField, is-field}
-use Rattle.format.specs.declared.terms.State.{State}
-use Rattle.format.specs.Waiting.{readingRoom, goOn, reads, closing, endOf, putWaiting, resumed, outcome, Waits, Going, weight, Moved}
+use Rattle.format.specs.declared.waiting.State.{State}
+use Rattle.format.specs.Waiting.{readingRoom, goOn, reads, closing, endOf, putWaiting, resumed, beginning, refusing, told, outcome, Waits, Going, weight, Moved, Enters, Reached, Turned}
 use Rattle.format.proofs.Lengths.{short-field}
-use Rattle.format.proofs.ShapeLaws.{within, reads-refused, reads-leaf, reads-inner, reads-any}
+use Rattle.format.proofs.TermLaws.{within}
+use Rattle.format.proofs.ShapeLaws.{reads-refused, reads-leaf, reads-inner, reads-any}
 use Rattle.format.proofs.WaitLaws.{resumed-refused, resumed-top, waits-top, waits-on, waits-lower, waits-inside, resumed-below, waits-below, waiting-kept, waiting-length, waiting-place, waiting-left}
 
 -- the outcome by the mode
@@ -55,24 +58,23 @@ gap-fits s w base x g m l = go (g .near m)
     go (inl e) = omega arith
     go (inr e) = omega arith
 
-abbrev refusing : State → (number place : ℕ) → State
-refusing x k p = record { mode = 0; at = x .at; end = x .end; fields = x .fields; depth = x .depth; top = x .top; number = k; place = p }
+-- a state with the same refusal
+abbrev stepped : State → (mode at end fields depth top : ℕ) → State
+stepped x m at end n d top = record { mode = m; at = at; end = end; fields = n; depth = d; top = top; number = x .number; place = x .place }
 
-abbrev giving : (at end fields depth top : ℕ) → State
-giving at end n d top = record { mode = 2; at = at; end = end; fields = n; depth = d; top = top; number = 0; place = 0 }
-
-abbrev reading : (at end fields depth top : ℕ) → State
-reading at end n d top = record { mode = 1; at = at; end = end; fields = n; depth = d; top = top; number = 0; place = 0 }
-
--- a turn that ends in a refusal
+-- a step to a refusal
 refuses : (s w : List ℕ) (high base : ℕ) (x : State) (k p : ℕ) → Going s w base x → 1 ≤ x .mode → outcome s w high base x ≡ Refused k p → Moved s w high base x w (refusing x k p)
 unfolding weight
 refuses s w high base x k p g m e = record {
-  going = record { ordered = g .ordered; waits = g .waits; few = g .few; most = g .most; behind = g .behind; near = λ z. absurd (omega arith); room = g .room };
+  going = record { ordered = g .ordered; waits = g .waits; few = g .few; most = g .most; behind = g .behind; near = λ z. absurd (omega arith); room = g .room; modes = omega arith };
   same = when-refused s w high base (refusing x k p) refl ∙ sym e;
   kept = kept-same w base (base + readingRoom);
   less = omega arith;
 }
+
+-- what is known before a field, from what the reader told
+pub enters : (s w : List ℕ) (high base : ℕ) (x : State) → Going s w base x → x .mode ≡ 1 → (full : Bool) (h : HeaderRead) → full ≡ leb mostTermFields (x .fields) → h ≡ headerShape (headerAt s (x .at) (x .end) hiproofKind high full) → Enters s w high base x h
+enters s w high base x g m full h f e = record { going = g; reading = m; header-is = rw (← f) e }
 
 -- the returns of `enter`
 module _ (s w : List ℕ) (high base : ℕ) (x : State) (g : Going s w base x) (m : x .mode ≡ 1) where
@@ -85,10 +87,10 @@ module _ (s w : List ℕ) (high base : ℕ) (x : State) (g : Going s w base x) (
     abbrev F : IsField s (x .at) (x .end) hiproofKind high (leb mostTermFields (x .fields)) tag len
     F = is-field s (x .at) (x .end) hiproofKind high (leb mostTermFields (x .fields)) tag len e
 
-    pub enter-leaf : inner ≡ 0 → Moved s w high base x w (giving close close (x .fields + 1) (x .depth) (x .top))
+    pub enter-leaf : inner ≡ 0 → Moved s w high base x w (stepped x 2 close close (x .fields + 1) (x .depth) (x .top))
     unfolding weight
     enter-leaf z =
-        let y = giving close close (x .fields + 1) (x .depth) (x .top) in
+        let y = stepped x 2 close close (x .fields + 1) (x .depth) (x .top) in
         let f = F in
         let h = inside s w base x g in
         record {
@@ -100,6 +102,7 @@ module _ (s w : List ℕ) (high base : ℕ) (x : State) (g : Going s w base x) (
             behind = omega (arith, h);
             near = λ q. absurd (omega arith);
             room = g .room;
+            modes = omega (arith, g .modes);
           };
           same =
               when-gave s w high base y (omega arith)
@@ -118,10 +121,10 @@ module _ (s w : List ℕ) (high base : ℕ) (x : State) (g : Going s w base x) (
         ∙ sym (reads-inner s high (x .at) (x .end) (x .fields) tag len k e j (inside s w base x g .1))
 
     pub enter-inner : (l : ℕ) → l ≡ leastOf tag → (inner ≡ 0 → ⊥) → (w′ : List ℕ) → w′ ≡ putWaiting w (base + x .depth * 4) (x .at - x .top) (inner - 1)
-        → Moved s w high base x w′ (reading (x .at + 3 + l) close (x .fields + 1) (x .depth + 1) (x .at))
+        → Moved s w high base x w′ (stepped x (x .mode) (x .at + 3 + l) close (x .fields + 1) (x .depth + 1) (x .at))
     unfolding weight endOf
     enter-inner l el nz w′ ew =
-        let y = reading (x .at + 3 + l) close (x .fields + 1) (x .depth + 1) (x .at) in
+        let y = stepped x (x .mode) (x .at + 3 + l) close (x .fields + 1) (x .depth + 1) (x .at) in
         let f = F in
         let h = inside s w base x g in
         let low = base + x .depth * 4 in
@@ -149,9 +152,10 @@ module _ (s w : List ℕ) (high base : ℕ) (x : State) (g : Going s w base x) (
             behind = omega arith;
             near = λ z. inr (omega (arith, ee, sh));
             room = omega (arith, n, g .room);
+            modes = omega (arith, g .modes);
           };
           same =
-              when-reads s w′ high base y refl
+              when-reads s w′ high base y m
               ∙ resumed-top s w′ high base (x .at) (x .depth) gap (inner - 1) _ p q
               ∙ ap (λ (k : ℕ). resumed s w′ high base k (x .depth) (closing (reads s high) (x .at) (endOf s (x .at)) (inner - 1) (reads s high (x .at + 3 + l) close (x .fields + 1)))) (sym back)
               ∙ resumed-below s w w′ base low (low + 4) kb high (x .top) (x .depth) _ (omega arith)
@@ -189,10 +193,10 @@ module _ (s w : List ℕ) (high base : ℕ) (x : State) (g : Going s w base x) (
   unfolding closing goOn
   ended l z = rw z
 
-  pub leave-ends : left ≡ 0 → x .at ≡ end → Moved s w high base x w (giving (x .at) end (x .fields) d (x .top - gap))
+  pub leave-ends : left ≡ 0 → x .at ≡ end → Moved s w high base x w (stepped x (x .mode) (x .at) end (x .fields) d (x .top - gap))
   unfolding weight ending
   leave-ends z t =
-      let y = giving (x .at) end (x .fields) d (x .top - gap) in
+      let y = stepped x (x .mode) (x .at) end (x .fields) d (x .top - gap) in
       let tw = top-waits in
       record {
         going = record {
@@ -203,9 +207,10 @@ module _ (s w : List ℕ) (high base : ℕ) (x : State) (g : Going s w base x) (
           behind = omega (arith, g .behind);
           near = λ v. absurd (omega arith);
           room = g .room;
+          modes = omega (arith, g .modes);
         };
         same =
-            when-gave s w high base y (omega arith)
+            when-gave s w high base y m
             ∙ ap (λ (r : TermRead). resumed s w high base (x .top - gap) d r) (sym (ended left z ∙ rw (eq-eqb (x .at) end t)))
             ∙ sym before;
         kept = kept-same w base (base + readingRoom);
@@ -223,10 +228,10 @@ module _ (s w : List ℕ) (high base : ℕ) (x : State) (g : Going s w base x) (
   more zero nz = absurd (nz refl)
   more (suc l) nz = refl
 
-  pub leave-more : (left ≡ 0 → ⊥) → (w′ : List ℕ) → w′ ≡ putWord w (base + d * 4 + 2) 0 → Moved s w high base x w′ (reading (x .at) end (x .fields) (x .depth) (x .top))
+  pub leave-more : (left ≡ 0 → ⊥) → (w′ : List ℕ) → w′ ≡ putWord w (base + d * 4 + 2) 0 → Moved s w high base x w′ (stepped x 1 (x .at) end (x .fields) (x .depth) (x .top))
   unfolding weight
   leave-more nz w′ ew =
-      let y = reading (x .at) end (x .fields) (x .depth) (x .top) in
+      let y = stepped x 1 (x .at) end (x .fields) (x .depth) (x .top) in
       let tw = top-waits in
       let low = base + d * 4 in
       let fits : low + 3 < length w = omega (arith, g .most, g .room) in
@@ -246,6 +251,7 @@ module _ (s w : List ℕ) (high base : ℕ) (x : State) (g : Going s w base x) (
           behind = g .behind;
           near = λ v. inr (omega (arith, ee, tw .1));
           room = omega (arith, n, g .room);
+          modes = omega (arith, g .modes);
         };
         same =
             when-reads s w′ high base y refl
@@ -259,40 +265,61 @@ module _ (s w : List ℕ) (high base : ℕ) (x : State) (g : Going s w base x) (
         less = omega (arith, m);
       }
 
--- what the loop holds: the state, that it comes to the whole, and what is kept
-pub record Turns (s : List ℕ) (at end high n : ℕ) (w₀ : List ℕ) (base : ℕ) (w : List ℕ) (x : State) : Type 0 where
-  pub going : Going s w base x
-  pub same : outcome s w high base x ≡ reads s high at end n
-  pub kept : Kept w₀ w base (base + readingRoom)
-  pub length-is : length w ≡ length w₀
+-- two steps
+pub moved-both : (s w : List ℕ) (high base : ℕ) (x : State) (w′ : List ℕ) (y : State) (w″ : List ℕ) (z : State) → Moved s w high base x w′ y → Moved s w′ high base y w″ z → Moved s w high base x w″ z
+moved-both s w high base x w′ y w″ z a b = record {
+  going = b .going;
+  same = b .same ∙ a .same;
+  kept = kept-both w w′ w″ base (base + readingRoom) base (base + readingRoom) base (base + readingRoom) (a .kept) (b .kept) (omega arith) (omega arith) (omega arith) (omega arith);
+  less = omega (arith, a .less, b .less);
+}
 
-module _ (s : List ℕ) (at end high n : ℕ) (w₀ : List ℕ) (base : ℕ) where
-  pub turns-start : at ≤ end → end ≤ length s → base + readingRoom ≤ length w₀ → Turns s at end high n w₀ base w₀ (reading at end n 0 at)
-  unfolding Waits resumed
-  turns-start a b r = record {
-    going = record { ordered = a; waits = b; few = omega arith; most = omega arith; behind = omega arith; near = λ z. inl refl; room = r };
-    same = when-reads s w₀ high base (reading at end n 0 at) refl;
-    kept = kept-same w₀ base (base + readingRoom);
-    length-is = refl;
+-- a mode that is neither of two
+zero-left : (m : ℕ) → m ≤ 2 → (m ≡ 2 → ⊥) → (m ≡ 1 → ⊥) → m ≡ 0
+zero-left m l a b = omega (arith, a, b)
+
+-- the returns of `turn`: what was read is a term that no field encloses, or nothing was read
+module _ (s w : List ℕ) (high base : ℕ) (x : State) (w′ : List ℕ) (r : State) (v : Moved s w high base x w′ r) where
+  pub turned-whole : r .mode ≡ 2 → r .depth ≡ 0 → Turned s w high base x w′ r
+  unfolding resumed told
+  turned-whole m z = record {
+    moved = v;
+    over = λ n. when-gave s w′ high base r (omega arith) ∙ ap (λ (k : ℕ). resumed s w′ high base (r .top) k (Read (r .at) (r .fields))) z ∙ rw (ne-eqb (r .mode) 0 (omega arith));
   }
 
-  module _ (w : List ℕ) (x : State) (t : Turns s at end high n w₀ base w x) where
-    pub turns-next : (w′ : List ℕ) (r : State) → Moved s w high base x w′ r → length w′ ≡ length w → Turns s at end high n w₀ base w′ r
-    turns-next w′ r v l = record {
-      going = v .going;
-      same = v .same ∙ t .same;
-      kept = kept-both w₀ w w′ base (base + readingRoom) base (base + readingRoom) base (base + readingRoom) (t .kept) (v .kept) (omega arith) (omega arith) (omega arith) (omega arith);
-      length-is = l ∙ t .length-is;
-    }
+  pub turned-on : (r .mode ≡ 2 → ⊥) → Turned s w high base x w′ r
+  unfolding told
+  turned-on m = record {
+    moved = v;
+    over = λ n. when-refused s w′ high base r (zero-left (r .mode) (v .going .modes) m n) ∙ rw (eq-eqb (r .mode) 0 (zero-left (r .mode) (v .going .modes) m n));
+  }
 
-    pub turns-read : 2 ≤ x .mode → x .depth ≡ 0 → (r : TermRead) → r ≡ Read (x .at) (x .fields) → r ≡ reads s high at end n
-    unfolding resumed
-    turns-read m z r e = e ∙ sym (when-gave s w high base x m ∙ ap (λ (k : ℕ). resumed s w high base (x .top) k (Read (x .at) (x .fields))) z) ∙ t .same
+-- what the loop holds
+module _ (s w₀ : List ℕ) (high base : ℕ) (x : State) where
+  pub reached-start : Going s w₀ base x → x .mode ≡ 1 → Reached s w₀ high base x w₀ x
+  reached-start g m = record { going = g; same = refl; kept = kept-same w₀ base (base + readingRoom); over = λ n. absurd (n m) }
 
-    pub turns-refused : x .mode ≡ 0 → (r : TermRead) → r ≡ Refused (x .number) (x .place) → r ≡ reads s high at end n
-    turns-refused m r e = e ∙ sym (when-refused s w high base x m) ∙ t .same
+  pub reached-next : (w : List ℕ) (y : State) → Reached s w₀ high base x w y → (w′ : List ℕ) (z : State) → Turned s w high base y w′ z → Reached s w₀ high base x w′ z
+  reached-next w y r w′ z v = record {
+    going = v .moved .going;
+    same = v .moved .same ∙ r .same;
+    kept = kept-both w₀ w w′ base (base + readingRoom) base (base + readingRoom) base (base + readingRoom) (r .kept) (v .moved .kept) (omega arith) (omega arith) (omega arith) (omega arith);
+    over = v .over;
+  }
 
--- what the function ensures
-pub ensured : (s : List ℕ) (at end high n : ℕ) → end ≤ length s → (r : TermRead) → r ≡ reads s high at end n → ((f : ℕ) → end - at < f → r ≡ termShape (readTerm f s high at end n)) × Within at end r
-unfolding reads
-ensured s at end high n fit r e = (λ f l. e ∙ reads-any s high f at end n fit l, rw e (within s high (suc (length s)) at end n))
+-- the first state of `read_term`, and what it ensures
+module _ (s : List ℕ) (at end n : ℕ) (w : List ℕ) (base : ℕ) (a : at ≤ end) (b : end ≤ length s) where
+  pub begins : (x : State) → x ≡ beginning at end n → base + readingRoom ≤ length w → Going s w base x × (x .mode ≡ 1)
+  unfolding Waits
+  begins x e r = rw e (record { ordered = a; waits = b; few = omega arith; most = omega arith; behind = omega arith; near = λ z. inl refl; room = r; modes = omega arith }, refl)
+
+  whole : (high : ℕ) (x : State) → x ≡ beginning at end n → outcome s w high base x ≡ reads s high at end n
+  unfolding resumed
+  whole high x e = rw e (when-reads s w high base (beginning at end n) refl)
+
+  pub ensured : (high : ℕ) (x : State) → x ≡ beginning at end n → (w′ : List ℕ) (y : State) → Reached s w high base x w′ y → (y .mode ≡ 1 → ⊥) → (r : TermRead) → r ≡ told y
+      → ((f : ℕ) → end - at < f → r ≡ termShape (readTerm f s high at end n)) × (Within at end r × Kept w w′ base (base + readingRoom))
+  unfolding reads
+  ensured high x ex w′ y v m r er =
+      let e : r ≡ reads s high at end n = er ∙ sym (v .over m) ∙ v .same ∙ whole high x ex in
+      (λ f l. e ∙ reads-any s high f at end n b l, (rw e (within s high (suc (length s)) at end n), v .kept))

@@ -4,16 +4,19 @@ use mathlib.Core.Path.{_≡_}
 use mathlib.Core.Bool.{cond}
 use mathlib.Core.List.{List}
 use mathlib.Core.Logic.{_⊎_}
-use lib.Dec.{eqb}
+use lib.Dec.{eqb, leb}
 use lib.ListN.{length}
 use Rattle.words.specs.Word.{word, putWord}
 use Rattle.words.specs.Kept.{Kept}
+use Rattle.format.specs.declared.headers.HeaderRead.{HeaderRead}
 use Rattle.format.specs.declared.terms.TermRead.{TermRead}
 use Rattle.format.specs.declared.terms.TermRead.the-variants.{Refused, Read}
 use Rattle.format.specs.Limits.{mostTermFields}
+use Rattle.format.specs.Tags.{hiproofKind}
+use Rattle.format.specs.Headers.{headerAt}
 use Rattle.format.specs.ReadTerms.{readTerm}
-use Rattle.format.specs.Shapes.{termShape, ending}
-use Rattle.format.specs.declared.terms.State.{State}
+use Rattle.format.specs.Shapes.{headerShape, termShape, ending}
+use Rattle.format.specs.declared.waiting.State.{State}
 
 -- the bytes that the fields that wait take: at most every term field of a file waits, in four bytes
 abbrev pub readingRoom : ℕ
@@ -47,6 +50,18 @@ resumed s w high base top zero r = r
 resumed s w high base top (suc k) r =
     resumed s w high base (top - word w (base + k * 4)) k (closing (reads s high) top (endOf s top) (word w (base + k * 4 + 2)) r)
 
+-- before the first field nothing waits
+abbrev pub beginning : (at end count : ℕ) → State
+beginning at end n = record { mode = 1; at = at; end = end; fields = n; depth = 0; top = at; number = 0; place = 0 }
+
+-- a refusal
+abbrev pub refusing : State → (number place : ℕ) → State
+refusing x k p = record { mode = 0; at = x .at; end = x .end; fields = x .fields; depth = x .depth; top = x .top; number = k; place = p }
+
+-- what a state in which nothing is left to read comes to
+unfoldable pub told : State → TermRead
+told x = cond (eqb (x .mode) 0) (Refused (x .number) (x .place)) (Read (x .at) (x .fields))
+
 -- what the loop comes to from here on
 unfoldable pub outcome : (s w : List ℕ) (high base : ℕ) → State → TermRead
 outcome s w high base x =
@@ -68,14 +83,33 @@ pub record Going (s w : List ℕ) (base : ℕ) (x : State) : Type 0 where
   pub behind : x .top ≤ x .at
   pub near : x .mode ≡ 1 → (x .at ≡ x .top) ⊎ (x .end ≤ x .top + 65538)
   pub room : base + readingRoom ≤ length w
+  pub modes : x .mode ≤ 2
 
 -- what falls with each turn
 unfoldable pub weight : List ℕ → State → ℕ
 weight s x = (length s - x .at) * 2 + x .depth + x .mode
 
--- one turn
+-- one step
 pub record Moved (s w : List ℕ) (high base : ℕ) (x : State) (w′ : List ℕ) (r : State) : Type 0 where
   pub going : Going s w′ base r
   pub same : outcome s w′ high base r ≡ outcome s w high base x
   pub kept : Kept w w′ base (base + readingRoom)
   pub less : weight s r < weight s x
+
+-- what is known before a field: it is the one at the place of a term that is to be read
+pub record Enters (s w : List ℕ) (high base : ℕ) (x : State) (h : HeaderRead) : Type 0 where
+  pub going : Going s w base x
+  pub reading : x .mode ≡ 1
+  pub header-is : h ≡ headerShape (headerAt s (x .at) (x .end) hiproofKind high (leb mostTermFields (x .fields)))
+
+-- any number of turns, from the bytes w₀ and the state x to w and y
+pub record Reached (s w₀ : List ℕ) (high base : ℕ) (x : State) (w : List ℕ) (y : State) : Type 0 where
+  pub going : Going s w base y
+  pub same : outcome s w high base y ≡ outcome s w₀ high base x
+  pub kept : Kept w₀ w base (base + readingRoom)
+  pub over : (y .mode ≡ 1 → ⊥) → outcome s w high base y ≡ told y
+
+-- one turn: to the next term that is to be read, or to the end
+pub record Turned (s w : List ℕ) (high base : ℕ) (x : State) (w′ : List ℕ) (r : State) : Type 0 where
+  pub moved : Moved s w high base x w′ r
+  pub over : (r .mode ≡ 1 → ⊥) → outcome s w′ high base r ≡ told r

@@ -12,20 +12,21 @@ use answers::refusal;
 use arities::layout::SPACE_END;
 use files::jobs::JobRead;
 use files::jobs::read_job;
+use index::layout::READING_SCRATCH;
+use index::table::read_table;
 use tables::fields::TableRead;
-use tables::table::read_table;
 use words::clear;
 
-// Both files, within the budget's limit, in a work space that is long enough.
+// Both files, within the budget's limit, in a work space that is long enough. Nothing of the run stands in it yet while they are read.
 fn run_files(table: &[u8], job: &[u8], budget: usize, work: &mut [u8], out: &mut [u8]) -> Answer
     requires { ⌜ (budget ≤ mostSteps) × (spaceEnd ≤ length (now work)) ⌝ }
     ensures { λ r. ⌜ Leaves (runOutcome (now (table .entry)) (now (job .entry)) budget) (now (out .entry)) r (now (out .exit)) ⌝ }
 {
-    let read = read_table(table);
+    let read = read_table(table, work, 0, READING_SCRATCH);
     match read {
         TableRead::Refused(number, place) => refusal(number, 1, place, 0),
         TableRead::Read(_, definitions, first) => {
-            let file = read_job(job);
+            let file = read_job(job, work, 0);
             match file {
                 JobRead::Refused(number, place) => refusal(number, 2, place, 0),
                 JobRead::Read(parts) => {

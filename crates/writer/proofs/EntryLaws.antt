@@ -103,11 +103,10 @@ module _ (table : List ℕ) (rules : ℕ) (flat : List ℕ) (parts : FlatParts) 
     ends-27 z = wrong T d (length flat) out r checked z few-entries
 
     module _ (z : r .number ≡ 0) where
-      abbrev pub right-file : Right table rules flat (parts .roots)
+      abbrev pub right-file : Right flat (parts .roots)
       right-file =
           record {
             table = T;
-            stands = ts;
             derivation = d;
             flat = at .stands;
             count = parts-hold flat parts d at .roots-are;

@@ -25,7 +25,7 @@ use Rattle.hitac.proofs.FlatWalks.{flatWalk→derives}
 use Rattle.entries.specs.CheckFlat.{writtenProof}
 use Rattle.writer.specs.Trees.{Trees, Ready, Done}
 use Rattle.writer.specs.Leaves.{Rest}
-use Rattle.writer.specs.Right.{Right, proofOf}
+use Rattle.writer.specs.Right.{Right, proofOf, PlannedRight}
 use Rattle.writer.proofs.Lent.{placed, put-placed}
 use Rattle.writer.proofs.SizeLaws.{term-small}
 
@@ -35,7 +35,7 @@ next-part z o y a e =
     rw (e, take-append-seam z (drop (length z) o), drop-append-seam z (drop (length z) o), drop-drop (length y) (length z) o)
     (sym (append-assoc z y (drop (length z + length y) o)))
 
-module _ {file : List ℕ} {rules : ℕ} {s : List ℕ} {n : ℕ} (d : Right file rules s n) where
+module _ {s : List ℕ} {n : ℕ} (d : Right s n) where
   abbrev pub entriesOf : List Entry
   entriesOf = d .derivation .entries
 
@@ -55,41 +55,40 @@ module _ {file : List ℕ} {rules : ℕ} {s : List ℕ} {n : ℕ} (d : Right fil
   unfolding entriesPlace
   stand = subst (λ (k : ℕ). EntriesStand s (3 + k * 2) (length s) entriesOf) (d .count) (d .flat .entries-stand)
 
-  abbrev pub trees-of : Trees file rules s (3 + n * 2) n
-  trees-of =
+  abbrev pub trees-of : {p : List ℕ} → PlannedRight p d → Trees p 0 n
+  trees-of planned =
       record {
         table = d .table;
-        stands = d .stands;
         goals = d .derivation .roots;
         count = d .count;
         entries = entriesOf;
-        end = length s;
-        stand = stand;
+        planned = planned;
+        inside = omega (arith, d .few);
         right = flatWalk→derives (d .table) (Finds (d .table)) (finds-agrees (d .table)) (entriesPlace (d .derivation)) (d .derivation .roots) entriesOf (d .right);
       }
 
-  pub forest-ready : (room : ℕ) → size term ≤ room → Ready file rules s (3 + n * 2) n room
-  forest-ready room h = record { trees = trees-of; fits = h; small = omega (arith, term-small d) }
+  abbrev pub forest-ready : {p : List ℕ} (room : ℕ) → PlannedRight p d → size term ≤ room → Ready p 0 n room
+  forest-ready room planned h = record { trees = trees-of planned; fits = h; small = omega (arith, term-small d) }
 
   abbrev pub rest-of : Rest s (3 + n * 2)
   rest-of = record { entries = entriesOf; stand = stand }
 
   -- roots, term and open leaves, one behind the other
-  pub file-bytes : (at next len2 len3 from : ℕ) (o o1 o2 o3 l2 l3 : List ℕ) → at ≡ 3 + n * 2 → from ≡ at + len2
+  pub file-bytes : (at end next len3 from : ℕ) (o o1 o2 o3 l2 l3 : List ℕ) → at ≡ 3 + n * 2 → from ≡ at + size term
       → o1 ≡ goalListBytes (goalsAt s 3 n) ++ drop (3 + n * 2) o
-      → Done term (length s) next len2 (take (length o1 - at) (drop at o1)) l2
+      → Done term end next (take (length o1 - at) (drop at o1)) l2
       → o2 ≡ putMid at (length o1 - at) o1 l2
       → len3 ≡ 3 + length (leaves entriesOf) * 2
       → l3 ≡ goalListBytes (leaves entriesOf) ++ drop (3 + length (leaves entriesOf) * 2) (take (length o2 - from) (drop from o2))
       → o3 ≡ putMid from (length o2 - from) o2 l3
       → (from + len3 ≡ length (proofOf d)) × (o3 ≡ proofOf d ++ drop (length (proofOf d)) o)
   unfolding proofBytes writtenProof
-  file-bytes at next len2 len3 from o o1 o2 o3 l2 l3 f g b1 d2 p2 e3 b3 p3 =
+  file-bytes at end next len3 from o o1 o2 o3 l2 l3 f g b1 d2 p2 e3 b3 p3 =
       let x = goalListBytes (d .derivation .roots) in
       let y = termBytes term in
       let z = goalListBytes (leaves entriesOf) in
       let lx : length x ≡ at = length-goalListBytes (d .derivation .roots) ∙ omega (arith, d .count) in
-      let ly : length y ≡ len2 = length-termBytes term ∙ sym (d2 .size-is) in
+      let ly : length y ≡ size term = length-termBytes term in
       let lz : length z ≡ len3 = length-goalListBytes (leaves entriesOf) ∙ sym e3 in
       let q1 : o1 ≡ x ++ drop at o = b1 ∙ ap (λ (h : List Goal). goalListBytes h ++ drop (3 + n * 2) o) roots-are ∙ ap (λ (k : ℕ). x ++ drop k o) (sym f) in
       let q2 : o2 ≡ (x ++ y) ++ drop (at + length y) o =

@@ -1,7 +1,7 @@
 -- The number of premises that the look-up of a rule finds: by what it finds.
 -- Assumes nothing.
-use Prim.Native.Nat.{ℕ}
-use mathlib.Core.Path.{_≡_, sym}
+use Prim.Native.Nat.{ℕ, _≤_}
+use mathlib.Core.Path.{_≡_, sym, subst}
 use mathlib.Core.List.{List}
 use lib.ListN.{length}
 use Rattle.format.specs.declared.values.Goal.{Goal}
@@ -11,9 +11,12 @@ use Rattle.tables.specs.declared.lookup.RuleFound.{RuleFound}
 use Rattle.tables.specs.declared.lookup.RuleFound.the-variants as R
 use Rattle.tables.specs.Tables.{Table}
 use Rattle.tables.specs.Lookup.{findRule}
-use Rattle.tables.specs.Found.{ruleFound}
+use Rattle.tables.specs.Found.{ruleFound, FoundInside}
 use Rattle.hitac.specs.Forest.{premisesOf}
-use Rattle.writer.proofs.TreeLaws.{name-path, goal-path}
+use Rattle.writer.proofs.TreeLaws.{name-path}
+
+goal-path : {a b : Goal} → a .0 ≡ b .0 → a ≡ b
+goal-path e = λ i. record { 0 = e i }
 
 module _ (T : Table) (s : List ℕ) (a b : RuleName) (γ δ : Goal) (x : RuleFound) (found : findRule T a γ ≡ ruleFound s x) (same-name : a .0 ≡ b .0) (same-goal : γ .0 ≡ δ .0) where
   same-search : findRule T b δ ≡ ruleFound s x
@@ -26,3 +29,8 @@ module _ (T : Table) (s : List ℕ) (a b : RuleName) (γ δ : Goal) (x : RuleFou
   pub rule-count : (place k : ℕ) → x ≡ R.Premises place k → k ≡ length (premisesOf T b δ)
   unfolding ruleFound
   rule-count place k e = rw (same-search, e) (sym (length-goalsAt k s place))
+
+-- at most eight
+pub few-count : (s : List ℕ) (x : RuleFound) (place k : ℕ) → FoundInside s x → x ≡ R.Premises place k → k ≤ 8
+unfolding FoundInside
+few-count s x place k i e = subst (FoundInside s) e i .0

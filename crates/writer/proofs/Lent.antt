@@ -1,17 +1,18 @@
 -- Stores in front of a list, and a part of a list that was lent: what the whole is then. By the first bytes of the list, and by taking it apart where the part begins.
 -- Assumes nothing.
-use Prim.Native.Nat.{ℕ, suc, _+_, _-_, _≤_}
+use Prim.Native.Nat.{ℕ, suc, _+_, _-_, _≤_, _<_}
 use mathlib.Core.Path.{_≡_, refl, sym, ap, _∙_}
 use mathlib.Core.List.{List, [], _∷_, _++_, append-assoc, append-nil}
 use native.Mathlib.Omega.{arith}
 use lib.ListN.{length, set, take, drop, length-append, length-drop, drop-of-length-le}
-use lib.Seq.{drop-drop, take-all, take-append-seam, drop-append-seam}
+use lib.Seq.{length-take-le, drop-drop, drop-at, take-all, take-append-seam, drop-append-seam}
 use borrow.Rule.Slice.PartMut.{putMid, same-len-mid}
-use Rattle.words.specs.Word.{putWord}
+use Rattle.words.specs.Word.{word, putWord}
 use Rattle.format.specs.declared.values.RuleName.{RuleName}
-use Rattle.format.specs.Terms.{Term, atomic, size}
-use Rattle.format.specs.Encoding.{fieldBytes, termBytes}
+use Rattle.format.specs.Terms.{Term, atomic, id, label, sequence, tensor, empty, alternation, assert, defined, size}
+use Rattle.format.specs.Encoding.{wordBytes, fieldBytes, termBytes}
 use Rattle.format.proofs.Encoded.{length-termBytes}
+use Rattle.format.proofs.FieldBytes.{field-lies}
 use Rattle.writer.specs.Fields.{header}
 
 pub header-stored : (o : List ℕ) (tag len : ℕ) → 3 ≤ length o → putWord (set o 0 tag) 1 len ≡ header tag len ++ drop 3 o
@@ -37,7 +38,7 @@ placed a o z = take a o ++ (z ++ drop (length z) (drop a o))
 pub tail-part : (a : ℕ) (o : List ℕ) → take (length o - a) (drop a o) ≡ drop a o
 tail-part a o = take-all (length o - a) (drop a o) (omega (arith, length-drop a o))
 
-after : (a : ℕ) (o w : List ℕ) → take a o ++ (w ++ drop (length o - a) (drop a o)) ≡ take a o ++ w
+pub after : (a : ℕ) (o w : List ℕ) → take a o ++ (w ++ drop (length o - a) (drop a o)) ≡ take a o ++ w
 after a o w =
     let past : length (drop a o) ≤ length o - a = omega (arith, length-drop a o) in
     rw (drop-of-length-le (drop a o) past, append-nil)
@@ -66,24 +67,50 @@ room-is a o = ap length (tail-part a o) ∙ length-drop a o
 pub length-put : (a : ℕ) (o l : List ℕ) → length l ≡ length (take (length o - a) (drop a o)) → length (putMid a (length o - a) o l) ≡ length o
 length-put a o l e = same-len-mid a (length o - a) o l e
 
+-- a term in what was lent from a place on: its size is read back from its header
+field-of : (t : Term) → (tag : ℕ) × (l : List ℕ) × (termBytes t ≡ fieldBytes tag l)
+unfolding termBytes
+field-of (atomic a) = (16, wordBytes (a .0), refl)
+field-of id = (17, [], refl)
+field-of (label l t) = (18, wordBytes (l .0) ++ termBytes t, refl)
+field-of (sequence t u) = (19, termBytes t ++ termBytes u, refl)
+field-of (tensor t u) = (20, termBytes t ++ termBytes u, refl)
+field-of empty = (21, [], refl)
+field-of (alternation t u) = (22, termBytes t ++ termBytes u, refl)
+field-of (assert γ) = (23, wordBytes (γ .0), refl)
+field-of (defined n) = (24, wordBytes (n .0), refl)
+
+read-back : (t : Term) (s : List ℕ) (a : ℕ) (r : List ℕ) → size t < 65536 → drop a s ≡ termBytes t ++ r → 3 + word s (a + 1) ≡ size t
+read-back t s a r h e =
+    let f = field-of t in
+    let len : 3 + length (f .1) ≡ size t = omega (arith, ap length (f .2), length-termBytes t) in
+    let head = field-lies s a (f .0) (length (f .1)) (f .1) r refl (omega arith) (e ∙ ap (λ (l : List ℕ). l ++ r) (f .2)) .0 in
+    omega (arith, head .length-is)
+
+pub lent-size : (t : Term) (a : ℕ) (o o′ l : List ℕ) → a ≤ length o → size t < 65536 → l ≡ termBytes t ++ drop (size t) (take (length o - a) (drop a o)) → o′ ≡ putMid a (length o - a) o l
+    → 3 + word o′ (a + 1) ≡ size t
+lent-size t a o o′ l h small b p =
+    let q : o′ ≡ placed a o (termBytes t) = p ∙ put-placed a (size t) o l (termBytes t) (sym (length-termBytes t)) b in
+    read-back t o′ a (drop (length (termBytes t)) (drop a o)) small (ap (drop a) q ∙ drop-at (take a o) _ a (length-take-le a o h))
+
 -- two inner terms behind a header
-pub pair-bytes : (x y : Term) (tag : ℕ) (o o1 o2 o3 l1 l2 : List ℕ) (n1 n2 from : ℕ)
-    → from ≡ n1 + 3 → 3 + (size x + size y) ≤ length o → n1 ≡ size x → n2 ≡ size y
-    → l1 ≡ termBytes x ++ drop (size x) (take (length o - 3) (drop 3 o)) → o1 ≡ putMid 3 (length o - 3) o l1
+pub pair-bytes : (x y : Term) (tag : ℕ) (o o1 o2 o3 l1 l2 : List ℕ) (k from len : ℕ)
+    → k ≡ 3 → from ≡ 3 + size x → 3 + (size x + size y) ≤ length o → len ≡ size x + size y
+    → l1 ≡ termBytes x ++ drop (size x) (take (length o - k) (drop k o)) → o1 ≡ putMid k (length o - k) o l1
     → l2 ≡ termBytes y ++ drop (size y) (take (length o1 - from) (drop from o1)) → o2 ≡ putMid from (length o1 - from) o1 l2
-    → o3 ≡ header tag (n1 + n2) ++ drop 3 o2
+    → o3 ≡ header tag len ++ drop 3 o2
     → o3 ≡ fieldBytes tag (termBytes x ++ termBytes y) ++ drop (3 + size x + size y) o
-pair-bytes x y tag o o1 o2 o3 l1 l2 n1 n2 from e0 room e1 e2 b1 p1 b2 p2 b3 =
+pair-bytes x y tag o o1 o2 o3 l1 l2 k from len ek ef room el b1 p1 b2 p2 b3 =
     let lx : size x ≡ length (termBytes x) = sym (length-termBytes x) in
     let ly : size y ≡ length (termBytes y) = sym (length-termBytes y) in
-    let q1 : o1 ≡ placed 3 o (termBytes x) = p1 ∙ put-placed 3 (size x) o l1 (termBytes x) lx b1 in
+    let q1 : o1 ≡ placed 3 o (termBytes x) = p1 ∙ put-placed k (size x) o l1 (termBytes x) lx b1 ∙ ap (λ (j : ℕ). placed j o (termBytes x)) ek in
     let q2 : o2 ≡ placed from o1 (termBytes y) = p2 ∙ put-placed from (size y) o1 l2 (termBytes y) ly b2 in
     let q3 : o2 ≡ placed from (placed 3 o (termBytes x)) (termBytes y) = q2 ∙ ap (λ (l : List ℕ). placed from l (termBytes y)) q1 in
     let f : from ≡ length (termBytes x) + 3 = omega arith in
-    let k : from + length (termBytes y) ≤ length o = omega arith in
-    let j : drop 3 o2 ≡ (termBytes x ++ termBytes y) ++ drop (3 + (length (termBytes x) + length (termBytes y))) o = ap (drop 3) q3 ∙ joined (termBytes x) (termBytes y) o from f k in
-    let m : n1 + n2 ≡ length (termBytes x ++ termBytes y) = omega (arith, length-append (termBytes x) (termBytes y)) in
+    let g : from + length (termBytes y) ≤ length o = omega arith in
+    let j : drop 3 o2 ≡ (termBytes x ++ termBytes y) ++ drop (3 + (length (termBytes x) + length (termBytes y))) o = ap (drop 3) q3 ∙ joined (termBytes x) (termBytes y) o from f g in
+    let m : len ≡ length (termBytes x ++ termBytes y) = omega (arith, length-append (termBytes x) (termBytes y)) in
     let z : 3 + (length (termBytes x) + length (termBytes y)) ≡ 3 + size x + size y = omega arith in
-    b3 ∙ ap (λ (l : List ℕ). header tag (n1 + n2) ++ l) j
+    b3 ∙ ap (λ (l : List ℕ). header tag len ++ l) j
     ∙ ap (λ (w : ℕ). header tag w ++ ((termBytes x ++ termBytes y) ++ drop (3 + (length (termBytes x) + length (termBytes y))) o)) m
     ∙ ap (λ (w : ℕ). header tag (length (termBytes x ++ termBytes y)) ++ ((termBytes x ++ termBytes y) ++ drop w o)) z

@@ -1,6 +1,8 @@
 pub mod Lent
+pub mod PlanLaws
 pub mod TreeLaws
 pub mod FoundLaws
+pub mod PlanTurns
 pub mod DoneLaws
 pub mod SizeLaws
 pub mod GoalLaws

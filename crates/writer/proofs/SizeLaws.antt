@@ -40,7 +40,7 @@ term-size-most u o = go (eqb (u + o) 0)
     go true = omega arith
     go false = omega arith
 
-module _ {file : List ℕ} {rules : ℕ} {s : List ℕ} {n : ℕ} (d : Right file rules s n) where
+module _ {s : List ℕ} {n : ℕ} (d : Right s n) where
   abbrev es : List Entry
   es = d .derivation .entries
 

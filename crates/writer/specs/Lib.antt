@@ -1,4 +1,5 @@
 pub mod Fields
+pub mod Plan
 pub mod Trees
 pub mod Sizes
 pub mod Leaves

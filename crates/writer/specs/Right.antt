@@ -6,22 +6,25 @@ use lib.ListN.{length}
 use Rattle.format.specs.Limits.{mostEntries}
 use Rattle.format.specs.Results.{gives}
 use Rattle.tables.specs.Tables.{Table}
-use Rattle.tables.specs.Standing.{TableStands}
 use Rattle.files.specs.Proofs.{proofBytes}
 use Rattle.files.specs.Derivations.{Derivation, entriesPlace}
 use Rattle.files.specs.Standing.{FlatStands}
 use Rattle.hitac.specs.FlatWalk.{flatWalk}
 use Rattle.entries.specs.CheckFlat.{writtenProof}
+use Rattle.writer.specs.Plan.{Planned}
 
 -- with n roots
-pub record Right (file : List ℕ) (rules : ℕ) (s : List ℕ) (n : ℕ) : Type 0 where
+pub record Right (s : List ℕ) (n : ℕ) : Type 0 where
   pub table : Table
-  pub stands : TableStands file rules table
   pub derivation : Derivation
   pub flat : FlatStands s derivation
   pub count : length (derivation .roots) ≡ n
   pub right : flatWalk table (entriesPlace derivation) (derivation .roots) (derivation .entries) ≡ gives []
   pub few : length (derivation .entries) ≤ mostEntries
 
-abbrev pub proofOf : {file : List ℕ} {rules : ℕ} {s : List ℕ} {n : ℕ} → Right file rules s n → List ℕ
+abbrev pub proofOf : {s : List ℕ} {n : ℕ} → Right s n → List ℕ
 proofOf r = proofBytes (writtenProof (r .table) (r .derivation))
+
+-- the plan of its entries
+abbrev pub PlannedRight : (p : List ℕ) {s : List ℕ} {n : ℕ} → Right s n → Type 0
+PlannedRight p r = Planned (r .table) p 0 (r .derivation .entries)

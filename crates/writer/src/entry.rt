@@ -2,25 +2,31 @@
 ghost use mathlib.Core.Path.{_≡_};
 ghost use Prim.Native.Nat.{_≤_};
 ghost use lib.ListN.{length};
+ghost use Rattle.format.specs.Limits.{mostBytes};
 ghost use Rattle.tables.specs.Tables.{Table};
 ghost use Rattle.tables.specs.Standing.{TableStands};
 ghost use Rattle.files.specs.Derivations.{Derivation};
+ghost use Rattle.index.specs.Build.{RulesIndexed};
 ghost use Rattle.entries.specs.Outcomes.{done};
 ghost use Rattle.entries.specs.CheckFlat.{writeProofWork, writeOutcome, writeProof};
+ghost use Rattle.derivation.specs.Layout.{indexPlace, cursorsEnd};
 ghost use Rattle.derivation.specs.CheckedEntries.{DerivationAt};
 ghost use Rattle.writer.specs.Right.{Right, proofOf};
 ghost use Rattle.writer.specs.Left.{leftIn, writtenEntries};
 use crate::file::write_file;
+use crate::plan::PLAN;
+use crate::plan::plan_entries;
 use crate::sizes::proof_size;
 use answers::Answer;
 use answers::refusal;
 use answers::wrote;
 use derivation::check::check_entries;
+use derivation::layout::INDEX;
 use files::flats::FlatParts;
 use files::flats::FlatRead;
 use files::flats::read_flat;
+use index::table::read_table;
 use tables::fields::TableRead;
-use tables::table::read_table;
 use words::clear;
 
 // The length of the work space.
@@ -32,19 +38,23 @@ const MOST_ENTRIES: usize = 2048;
 fn write_right(
     table: &[u8],
     rules: usize,
+    work: &[u8],
     flat: &[u8],
     roots: usize,
     size: usize,
     out: &mut [u8],
 ) -> Answer
-    requires { ⌜ ((d : Right (now table) rules (now flat) roots) × (size ≡ length (proofOf d))) ⌝ }
-    ensures answer { λ r. ⌜ ((d : Right (now (table .entry)) rules (now (flat .entry)) roots) → size ≡ length (proofOf d) → r ≡ leftIn (now (out .entry)) (done (proofOf d)) .answer) ⌝ }
-    ensures out { λ _. ⌜ ((d : Right (now (table .entry)) rules (now (flat .entry)) roots) → size ≡ length (proofOf d) → now (out .exit) ≡ leftIn (now (out .entry)) (done (proofOf d)) .out) ⌝ }
+    requires { ⌜ RulesIndexed (now table) rules (now work) indexPlace ⌝ }
+    requires { ⌜ ((d : Right (now flat) roots) × TableStands (now table) rules (d .table) × (size ≡ length (proofOf d))) ⌝ }
+    ensures answer { λ r. ⌜ ((d : Right (now (flat .entry)) roots) → TableStands (now (table .entry)) rules (d .table) → size ≡ length (proofOf d) → r ≡ leftIn (now (out .entry)) (done (proofOf d)) .answer) ⌝ }
+    ensures out { λ _. ⌜ ((d : Right (now (flat .entry)) roots) → TableStands (now (table .entry)) rules (d .table) → size ≡ length (proofOf d) → now (out .exit) ≡ leftIn (now (out .entry)) (done (proofOf d)) .out) ⌝ }
 {
     if out.len() < size {
         return refusal(26, 0, 0, 0);
     }
-    let len = write_file(table, rules, flat, roots, out);
+    let mut plan = [0u8; PLAN];
+    plan_entries(table, rules, work, flat, 3 + roots * 2, &mut plan);
+    let len = write_file(flat, roots, &plan, out);
     wrote(len, 0)
 }
 
@@ -59,7 +69,8 @@ fn write_entries(
 ) -> Answer
     requires { ⌜ ((T : Table) × TableStands (now table) rules T) ⌝ }
     requires { ⌜ ((d : Derivation) × DerivationAt (now flat) parts d) ⌝ }
-    requires { ⌜ writeProofWork ≤ length (now work) ⌝ }
+    requires { ⌜ (length (now table) ≤ mostBytes) × (cursorsEnd ≤ length (now work)) ⌝ }
+    requires { ⌜ RulesIndexed (now table) rules (now work) indexPlace ⌝ }
     ensures answer { λ r. ⌜ ((T : Table) (d : Derivation) → TableStands (now (table .entry)) rules T → DerivationAt (now (flat .entry)) parts d → r ≡ writtenEntries T d (length (now (flat .entry))) (now (out .entry)) .answer) ⌝ }
     ensures out { λ _. ⌜ ((T : Table) (d : Derivation) → TableStands (now (table .entry)) rules T → DerivationAt (now (flat .entry)) parts d → now (out .exit) ≡ writtenEntries T d (length (now (flat .entry))) (now (out .entry)) .out) ⌝ }
 {
@@ -74,7 +85,7 @@ fn write_entries(
         return checked;
     }
     let size = proof_size(roots, uses, opens);
-    write_right(table, rules, flat, roots, size, out)
+    write_right(table, rules, work, flat, roots, size, out)
 }
 
 // The writing itself: it may leave anything in the work space.
@@ -83,7 +94,7 @@ fn write_within(table: &[u8], flat: &[u8], work: &mut [u8], out: &mut [u8]) -> A
     ensures answer { λ r. ⌜ r ≡ leftIn (now (out .entry)) (writeOutcome (now (table .entry)) (now (flat .entry))) .answer ⌝ }
     ensures out { λ _. ⌜ now (out .exit) ≡ leftIn (now (out .entry)) (writeOutcome (now (table .entry)) (now (flat .entry))) .out ⌝ }
 {
-    let read = read_table(table);
+    let read = read_table(table, work, 0, INDEX);
     match read {
         TableRead::Refused(number, place) => refusal(number, 1, place, 0),
         TableRead::Read(_, _, rules) => {

@@ -4,5 +4,6 @@ pub mod entry;
 pub mod fields;
 pub mod file;
 pub mod lists;
+pub mod plan;
 pub mod sizes;
 pub mod trees;

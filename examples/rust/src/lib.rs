@@ -3,6 +3,8 @@
 mod raw;
 mod refusal;
 
+/// Machine stack that each call needs, in bytes, besides what this wrapper takes: for threads with small stacks.
+pub use raw::{CHECK_FLAT_STACK, CHECK_STACK, FLATTEN_STACK, RUN_STACK, WRITE_PROOF_STACK};
 pub use refusal::{Cause, File, Refusal};
 
 /// What is counted in an accepted proof.

@@ -16,9 +16,16 @@ pub struct Answer {
 
 pub const CHECK_WORK: usize = 65536;
 pub const RUN_WORK: usize = 1290752;
-pub const FLATTEN_WORK: usize = 65536;
+pub const FLATTEN_WORK: usize = 196608;
 pub const CHECK_FLAT_WORK: usize = 65536;
 pub const WRITE_PROOF_WORK: usize = 65536;
+
+// Machine stack that each call needs, in bytes; include/hitac.h says what is counted.
+pub const CHECK_STACK: usize = 4096;
+pub const RUN_STACK: usize = 200704;
+pub const FLATTEN_STACK: usize = 4096;
+pub const CHECK_FLAT_STACK: usize = 4096;
+pub const WRITE_PROOF_STACK: usize = 262144;
 
 pub const LONGEST_PROOF: usize = 21510;
 pub const LONGEST_FLAT: usize = 16131;

@@ -1,77 +1,104 @@
--- `entry::run_files` meets its contract: how the files read says which case of the entry's definition holds.
+-- `entry::run_files` meets its contract: how the files read says which case of the entry's definition holds. Reading leaves the work space its length.
 -- Assumes nothing.
-use mathlib.Core.Path.{sym, _∙_}
+use mathlib.Core.Path.{_≡_, sym, _∙_}
+use Prim.Native.Nat.{_≤_}
 use native.Mathlib.Omega.{arith}
-use Rattle.runner.proofs.EntryLaws.{table-place, table-refused-end, job-place, job-refused-end, job-given, job-end}
+use denote.Ref.{now}
+use lib.ListN.{length}
 use borrow.Author.Needs.{needs}
+use Rattle.tables.specs.declared.fields.TableRead.the-variants as R
+use Rattle.tables.specs.ReadTables.{readTable}
+use Rattle.tables.specs.Shapes.{tableShape}
+use Rattle.files.specs.declared.jobs.JobRead.the-variants as J
+use Rattle.files.specs.Jobs.{readJob}
+use Rattle.files.specs.Shapes.{jobShape}
+use Rattle.runner.proofs.EntryLaws.{table-place, table-refused-end, job-place, job-refused-end, job-given, job-end}
 use Rattle.runner.proofs.entry.run_files.Statement.{statement}
 use Rattle.runner.proofs.entry.run_files.Tie as tie
-use Rattle.runner.proofs.entry.run_files.Reads as reads
-use Rattle.runner.proofs.entry.run_files.Lts as lts
-use Rattle.answers.proofs.refusal.Reads as refusal-reads
-use Rattle.files.proofs.jobs.read_job.Reads as read-job-reads
-use Rattle.runner.proofs.job.run_job.Reads as run-job-reads
-use Rattle.tables.proofs.table.read_table.Reads as read-table-reads
+
+-- the table was read
+abbrev K : Type 0
+K = tie.After-known-told2
+
+abbrev I : K → tie.Start
+I c = c .before .before .before .before .before .before .before .before .before .before .before
+
+read : (c : K) → tableShape (readTable (now (I c .args .table))) ≡ R.Read (c .before .read2 .given .0 .0) (c .before .read2 .given .0 .1 .0) (c .before .read2 .given .0 .1 .1 .0)
+read c = sym (c .before .before .before .before .before .read-table .ensures .answer) ∙ c .before .read2 .given .1
+
+-- the job was read too
+abbrev L : Type 0
+L = tie.After-known-told4
+
+abbrev k : L → K
+k c = c .before .before .before .before .before .before .before
+
+job : (c : L) → jobShape (readJob (now (I (k c) .args .job))) ≡ J.Read (c .before .file2 .given .0 .0)
+job c = sym (c .before .before .before .before .before .read-job .ensures .0) ∙ c .before .file2 .given .1
+
+size : (c : L) → length (c .before .before .before .before .before .read-job .last .1 .0) ≡ length (now (I (k c) .args .work))
+size c = c .before .before .before .before .before .read-job .kept .1 .0 ∙ k c .before .before .before .before .before .read-table .kept .1 .0
 
 read-table-requires : tie.Need-read-table-requires
-read-table-requires c κs = search needs
+read-table-requires c κs = let p = c .before .before .before .before .before .pre .1 in (omega arith, omega (arith, p))
 
 enum-known-read : tie.Need-enum-known-read
 enum-known-read c = search needs
 
 refusal-requires : tie.Need-refusal-requires
 refusal-requires c κs =
-    let a = c .before .before .before .before .before .before .before .before .args in
-    let p = c .before .before .before .before .before .before .before .before .pre in
-    (table-place (a .table .now) (a .job .now) (a .budget) (p .0) _ _ (sym (c .before .before .before .read-table .ensures) ∙ c .before .read .given .1), omega arith)
+    let i = c .before .before .before .before .before .before .before .before .before .before .before in
+    (table-place _ (now (i .args .job)) (i .args .budget) (i .pre .0) _ _ (sym (c .before .before .before .before .before .read-table .ensures .answer) ∙ c .before .read .given .1), omega arith)
 
 enum-known-read-2 : tie.Need-enum-known-read-2
 enum-known-read-2 c = search needs
 
 read-job-requires : tie.Need-read-job-requires
-read-job-requires c κs = search needs
+read-job-requires c κs = omega (arith, I (c .before) .pre .1, c .before .before .before .before .before .before .read-table .kept .1 .0)
 
 enum-known-file : tie.Need-enum-known-file
 enum-known-file c = search needs
 
 refusal-requires-2 : tie.Need-refusal-requires-2
 refusal-requires-2 c κs =
-    let a = c .before .before .before .before .before .before .before .before .before .before .before .before .args in
-    let p = c .before .before .before .before .before .before .before .before .before .before .before .before .pre in
-    (job-place (a .table .now) (a .job .now) (a .budget) (p .0) _ _ _ (sym (c .before .before .before .before .before .before .before .read-table .ensures) ∙ c .before .before .before .before .before .read2 .given .1) _ _ (sym (c .before .before .before .read-job .ensures) ∙ c .before .file .given .1), omega arith)
+    let i = c .before .before .before .before .before .before .before .before .before .before .before .before .before .before .before .before .before .before in
+    (job-place _ _ (i .args .budget) (i .pre .0) _ _ _ (read (c .before .before .before .before .before .before .before)) _ _ (sym (c .before .before .before .before .before .read-job .ensures .0) ∙ c .before .file .given .1), omega arith)
 
 enum-known-file-2 : tie.Need-enum-known-file-2
 enum-known-file-2 c = search needs
 
 run-job-requires : tie.Need-run-job-requires
 run-job-requires c κs =
-    let a = c .before .before .before .before .before .before .before .before .before .before .before .before .before .before .args in
-    let p = c .before .before .before .before .before .before .before .before .before .before .before .before .before .before .pre in
-    job-given (a .table .now) (a .job .now) (a .budget) (p .0) _ _ _ (sym (c .before .before .before .before .before .before .before .before .before .read-table .ensures) ∙ c .before .before .before .before .before .before .before .read2 .given .1) _ (sym (c .before .before .before .before .before .read-job .ensures) ∙ c .before .before .before .file2 .given .1) (a .work .now) (p .1)
+    let l = c .before .before in
+    let i = I (k l) in
+    job-given _ _ _ (i .pre .0) _ _ _ (read (k l)) _ (job l) _ (omega (arith, i .pre .1, size l))
+
+same-length : tie.Need-same-length
+same-length c = c .before .before .before .before .before .before .read-table .kept .1 .0
 
 returns : tie.Need-returns
 returns c =
-    let a = c .before .before .before .before .before .before .before .before .before .args in
-    let p = c .before .before .before .before .before .before .before .before .before .pre in
-    table-refused-end (a .table .now) (a .job .now) (a .budget) (p .0) _ _ (a .out .now) _ (sym (c .before .before .before .before .read-table .ensures) ∙ c .before .before .read .given .1) (c .refusal .ensures)
+    let i = c .before .before .before .before .before .before .before .before .before .before .before .before in
+    table-refused-end _ _ _ (i .pre .0) _ _ _ _ (sym (c .before .before .before .before .before .before .read-table .ensures .answer) ∙ c .before .before .read .given .1) (c .refusal .ensures)
+
+same-length-2 : tie.Need-same-length-2
+same-length-2 c = c .before .before .before .before .before .before .read-job .kept .1 .0 ∙ c .before .before .before .before .before .before .before .before .before .before .before .before .before .read-table .kept .1 .0
 
 returns-2 : tie.Need-returns-2
 returns-2 c =
-    let a = c .before .before .before .before .before .before .before .before .before .before .before .before .before .args in
-    let p = c .before .before .before .before .before .before .before .before .before .before .before .before .before .pre in
-    job-refused-end (a .table .now) (a .job .now) (a .budget) (p .0) _ _ _ (sym (c .before .before .before .before .before .before .before .before .read-table .ensures) ∙ c .before .before .before .before .before .before .read2 .given .1) _ _ (a .out .now) _ (sym (c .before .before .before .before .read-job .ensures) ∙ c .before .before .file .given .1) (c .refusal2 .ensures)
+    let i = c .before .before .before .before .before .before .before .before .before .before .before .before .before .before .before .before .before .before .before in
+    job-refused-end _ _ _ (i .pre .0) _ _ _ (read (c .before .before .before .before .before .before .before .before)) _ _ _ _ (sym (c .before .before .before .before .before .before .read-job .ensures .0) ∙ c .before .before .file .given .1) (c .refusal2 .ensures)
 
-same-length : tie.Need-same-length
-same-length c = search needs
+same-length-3 : tie.Need-same-length-3
+same-length-3 c = search needs
 
-same-length-2 : tie.Need-same-length-2
-same-length-2 c = search needs
+same-length-4 : tie.Need-same-length-4
+same-length-4 c = search needs
 
 returns-3 : tie.Need-returns-3
 returns-3 c =
-    let a = c .before .before .before .before .before .before .before .before .before .before .before .before .before .before .before .before .before .before .before .args in
-    let p = c .before .before .before .before .before .before .before .before .before .before .before .before .before .before .before .before .before .before .before .pre in
-    job-end (a .table .now) (a .job .now) (a .budget) (p .0) _ _ _ (sym (c .before .before .before .before .before .before .before .before .before .before .before .before .before .before .read-table .ensures) ∙ c .before .before .before .before .before .before .before .before .before .before .before .before .read2 .given .1) _ (sym (c .before .before .before .before .before .before .before .before .before .before .read-job .ensures) ∙ c .before .before .before .before .before .before .before .before .file2 .given .1) (a .out .now) _ _ (c .before .before .before .before .run-job .ensures)
+    let l = c .before .before .before .before .before .before .before in
+    job-end _ _ _ (I (k l) .pre .0) _ _ _ (read (k l)) _ (job l) _ _ _ (c .before .before .before .before .run-job .ensures)
 
 pub run-files-spec : {M : Type 1} → statement M
 run-files-spec =
@@ -86,8 +113,10 @@ run-files-spec =
     refusal-requires-2
     enum-known-file-2
     run-job-requires
-    returns
-    returns-2
     same-length
+    returns
     same-length-2
+    returns-2
+    same-length-3
+    same-length-4
     returns-3)

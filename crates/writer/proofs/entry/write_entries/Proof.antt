@@ -16,6 +16,7 @@ use Rattle.entries.specs.Outcomes.{done}
 use Rattle.entries.specs.LentSpace.{Written}
 use Rattle.derivation.specs.CheckedEntries.{DerivationAt, checkedEntries}
 use Rattle.derivation.proofs.CheckLaws.{PartsHold, parts-hold}
+use Rattle.derivation.proofs.RuleLaws.{indexed-still}
 use Rattle.writer.specs.Right.{Right, proofOf}
 use Rattle.writer.specs.Left.{leftIn, writtenEntries}
 use Rattle.writer.proofs.EntryLaws.{ends-28, ends-27, right-file, right-size, ends-right}
@@ -63,8 +64,8 @@ returns-2 c =
     let i = c .before .before .before .before .before .before .before .before .before .before .before in
     let r = c .before .before .before .before .check-entries in
     let few : parts i .uses + parts i .opens ≤ mostEntries = omega (arith, c .before .before .before .before .before .before .if1 .left) in (
-      λ T d ts at. ap (λ (x : Written). x .answer) (ends-27 (table i) _ (flat i) (parts i) T d ts at (out i) (r .result) (r .ensures T d ts at) few (c .if2 .taken)),
-      λ T d ts at. ap (λ (x : Written). x .out) (ends-27 (table i) _ (flat i) (parts i) T d ts at (out i) (r .result) (r .ensures T d ts at) few (c .if2 .taken)),
+      λ T d ts at. ap (λ (x : Written). x .answer) (ends-27 (table i) _ (flat i) (parts i) T d ts at (out i) (r .result) (r .ensures .0 T d ts at) few (c .if2 .taken)),
+      λ T d ts at. ap (λ (x : Written). x .out) (ends-27 (table i) _ (flat i) (parts i) T d ts at (out i) (r .result) (r .ensures .0 T d ts at) few (c .if2 .taken)),
     )
 
 proof-size-requires : tie.Need-proof-size-requires
@@ -72,15 +73,19 @@ proof-size-requires c κs = let p = held (c .before .before .before .before .bef
 
 write-right-requires : tie.Need-write-right-requires
 write-right-requires c κs =
-    let i = c .before .before .before .before .before .before .before .before .before .before .before .before .before in
+    let i = c .before .before .before .before .before .before .before .before .before .before .before .before .before .before in
     let q = i .pre in
-    let r = c .before .before .before .before .before .before .check-entries in
-    let checked = r .ensures (q .0 .0) (q .1 .0 .0) (q .0 .1) (q .1 .0 .1) in
-    let few : parts i .uses + parts i .opens ≤ mostEntries = omega (arith, c .before .before .before .before .before .before .before .before .if1 .left) in
-    let zero = c .before .before .if2 .left in
-    let size = c .before .proof-size in (
-      right-file (table i) _ (flat i) (parts i) (q .0 .0) (q .1 .0 .0) (q .0 .1) (q .1 .0 .1) (out i) (r .result) checked few zero,
-      right-size (table i) _ (flat i) (parts i) (q .0 .0) (q .1 .0 .0) (q .0 .1) (q .1 .0 .1) (out i) (r .result) checked few zero (size .result) (size .ensures),
+    let r = c .before .before .before .before .before .before .before .check-entries in
+    let checked = r .ensures .0 (q .0 .0) (q .1 .0 .0) (q .0 .1) (q .1 .0 .1) in
+    let few : parts i .uses + parts i .opens ≤ mostEntries = omega (arith, c .before .before .before .before .before .before .before .before .before .if1 .left) in
+    let zero = c .before .before .before .if2 .left in
+    let size = c .before .before .proof-size in (
+      indexed-still (table i) _ _ _ (r .kept .1 .1 .1 .1 .0) (r .ensures .1) (q .1 .1 .1),
+      (
+        right-file (table i) _ (flat i) (parts i) (q .0 .0) (q .1 .0 .0) (q .0 .1) (q .1 .0 .1) (out i) (r .result) checked few zero,
+        q .0 .1,
+        right-size (table i) _ (flat i) (parts i) (q .0 .0) (q .1 .0 .0) (q .0 .1) (q .1 .0 .1) (out i) (r .result) checked few zero (size .result) (size .ensures),
+      ),
     )
 
 same-length-2 : tie.Need-same-length-2
@@ -92,29 +97,29 @@ same-length-3 c = search needs
 -- the result was written
 module _ (c : tie.After-slice-known4) where
   abbrev begun : tie.Start
-  begun = c .before .before .before .before .before .before .before .before .before .before .before .before .before .before .before .before
+  begun = c .before .before .before .before .before .before .before .before .before .before .before .before .before .before .before .before .before
 
   module _ (T : Table) (d : Derivation) (ts : TableStands (table begun) (begun .args .rules) T) (at : DerivationAt (flat begun) (parts begun) d) where
-    abbrev checked : c .before .before .before .before .before .before .before .before .before .check-entries .result ≡ checkedEntries T d (length (flat begun))
-    checked = c .before .before .before .before .before .before .before .before .before .check-entries .ensures T d ts at
+    abbrev checked : c .before .before .before .before .before .before .before .before .before .before .check-entries .result ≡ checkedEntries T d (length (flat begun))
+    checked = c .before .before .before .before .before .before .before .before .before .before .check-entries .ensures .0 T d ts at
 
     few : parts begun .uses + parts begun .opens ≤ mostEntries
-    few = omega (arith, c .before .before .before .before .before .before .before .before .before .before .before .if1 .left)
+    few = omega (arith, c .before .before .before .before .before .before .before .before .before .before .before .before .if1 .left)
 
-    abbrev right-here : Right (table begun) (begun .args .rules) (flat begun) (parts begun .roots)
-    right-here = right-file (table begun) _ (flat begun) (parts begun) T d ts at (out begun) _ checked few (c .before .before .before .before .before .if2 .left)
+    abbrev right-here : Right (flat begun) (parts begun .roots)
+    right-here = right-file (table begun) _ (flat begun) (parts begun) T d ts at (out begun) _ checked few (c .before .before .before .before .before .before .if2 .left)
 
-    size-here : c .before .before .before .before .proof-size .result ≡ length (proofOf right-here)
-    size-here = right-size (table begun) _ (flat begun) (parts begun) T d ts at (out begun) _ checked few (c .before .before .before .before .before .if2 .left) _ (c .before .before .before .before .proof-size .ensures)
+    size-here : c .before .before .before .before .before .proof-size .result ≡ length (proofOf right-here)
+    size-here = right-size (table begun) _ (flat begun) (parts begun) T d ts at (out begun) _ checked few (c .before .before .before .before .before .before .if2 .left) _ (c .before .before .before .before .before .proof-size .ensures)
 
     left-here : leftIn (out begun) (done (proofOf right-here)) ≡ writtenEntries T d (length (flat begun)) (out begun)
-    left-here = ends-right (table begun) _ (flat begun) (parts begun) T d ts at (out begun) _ checked few (c .before .before .before .before .before .if2 .left)
+    left-here = ends-right (table begun) _ (flat begun) (parts begun) T d ts at (out begun) _ checked few (c .before .before .before .before .before .before .if2 .left)
 
 returns-3 : tie.Need-returns-3
 returns-3 c =
     let w = c .before .before .write-right .ensures in (
-      λ T d ts at. w .0 (right-here c T d ts at) (size-here c T d ts at) ∙ ap (λ (x : Written). x .answer) (left-here c T d ts at),
-      λ T d ts at. w .1 (right-here c T d ts at) (size-here c T d ts at) ∙ ap (λ (x : Written). x .out) (left-here c T d ts at),
+      λ T d ts at. w .0 (right-here c T d ts at) ts (size-here c T d ts at) ∙ ap (λ (x : Written). x .answer) (left-here c T d ts at),
+      λ T d ts at. w .1 (right-here c T d ts at) ts (size-here c T d ts at) ∙ ap (λ (x : Written). x .out) (left-here c T d ts at),
     )
 
 pub write-entries-spec : {M : Type 1} → statement M

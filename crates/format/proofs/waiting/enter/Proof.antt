@@ -1,0 +1,156 @@
+-- `waiting::enter` meets its contract: the header says which step it is.
+-- Assumes nothing.
+use mathlib.Core.Path.{_≡_, refl, sym, _∙_}
+use mathlib.Core.List.{List}
+use Prim.Native.Nat.{ℕ, _+_, _≤_, _<_}
+use native.Mathlib.Omega.{arith}
+use denote.Ref.{now}
+use lib.Dec.{leb}
+use lib.ListN.{length}
+use borrow.Author.Needs.{needs}
+use borrow.Author.Tests.{leb-false}
+use Rattle.format.specs.Limits.{mostTermFields}
+use Rattle.format.specs.Results.{gives}
+use Rattle.format.specs.Tags.{hiproofKind}
+use Rattle.format.specs.Headers.{header, headerAt}
+use Rattle.format.specs.Waiting.{Enters}
+use Rattle.format.proofs.HeaderLaws.{IsField, is-field, told-field}
+use Rattle.format.proofs.TurnLaws.{inside, gap-fits, enter-refused, enter-leaf, enter-inner}
+use Rattle.format.proofs.waiting.enter.Statement.{statement}
+use Rattle.format.proofs.waiting.enter.Tie as tie
+use Rattle.format.proofs.waiting.enter.Reads as reads
+use Rattle.format.proofs.waiting.enter.Lts as lts
+use Rattle.format.proofs.tags.inner_of.Reads as inner-of-reads
+use Rattle.format.proofs.tags.least_of.Reads as least-of-reads
+use Rattle.format.proofs.waiting.push.Reads as push-reads
+use Rattle.format.proofs.waiting.refused.Reads as refused-reads
+
+abbrev S : Type 0
+S = tie.Start
+
+abbrev K : Type 0
+K = tie.After-known-told2
+
+abbrev start : K → S
+start c = c .before .before .before .before
+
+abbrev tagOf : K → ℕ
+tagOf c = c .before .header2 .given .0 .0
+
+abbrev lenOf : K → ℕ
+lenOf c = c .before .header2 .given .0 .1 .0
+
+-- a file in which the state stands
+abbrev file : S → List ℕ
+file c = c .pre .0
+
+-- what is known before the field, in any such file
+abbrev Before : S → List ℕ → ℕ → Type 0
+Before c s high = Enters s (now (c .args .work)) high (c .args .base) (c .args .x) (c .args .header)
+
+header-is : (c : K) (s : List ℕ) (high : ℕ) → Before (start c) s high → headerAt s (start c .args .x .at) (start c .args .x .end) hiproofKind high (leb mostTermFields (start c .args .x .fields)) ≡ gives (header (tagOf c) (lenOf c))
+header-is c s high b = told-field _ _ _ (sym (b .header-is) ∙ c .before .header2 .given .1)
+
+field : (c : K) → IsField (file (start c)) (start c .args .x .at) (start c .args .x .end) hiproofKind (start c .pre .1) (leb mostTermFields (start c .args .x .fields)) (tagOf c) (lenOf c)
+field c = is-field _ _ _ _ _ _ _ _ (header-is c (file (start c)) (start c .pre .1) (start c .pre .2))
+
+-- the sums and places that the field needs
+holds : (c : K) → (start c .args .x .at + 3 + lenOf c ≤ start c .args .x .end) × (start c .args .x .fields < 4096) × (start c .args .x .depth ≤ start c .args .x .fields) × (start c .args .base + 16384 ≤ length (now (start c .args .work)))
+holds c = (field c .contents, leb-false _ _ (field c .room), start c .pre .2 .going .few, start c .pre .2 .going .room)
+
+enum-known-header : tie.Need-enum-known-header
+enum-known-header c = search needs
+
+refused-requires : tie.Need-refused-requires
+refused-requires c κs = search needs
+
+enum-known-header-2 : tie.Need-enum-known-header-2
+enum-known-header-2 c = search needs
+
+add-close : tie.Need-add-close
+add-close c = omega (arith, holds c)
+
+add-close-2 : tie.Need-add-close-2
+add-close-2 c = omega (arith, holds c)
+
+add-r : tie.Need-add-r
+add-r c = omega (arith, holds (c .before))
+
+inner-of-requires : tie.Need-inner-of-requires
+inner-of-requires c κs = search needs
+
+returns : tie.Need-returns
+returns c = λ s high b. enter-leaf _ _ _ _ _ (b .going) (b .reading) _ _ _ _ (header-is (c .before .before .before) s high b) refl (c .before .inner-of .ensures) (c .if1 .taken)
+
+mul-low : tie.Need-mul-low
+mul-low c = omega (arith, holds (c .before .before .before .before))
+
+add-low : tie.Need-add-low
+add-low c = omega (arith, holds (c .before .before .before .before))
+
+sub-push : tie.Need-sub-push
+sub-push c = search needs
+
+cast-push : tie.Need-cast-push
+cast-push c = omega (arith, gap-fits _ _ _ _ (start (c .before .before .before .before .before .before) .pre .2 .going) (start (c .before .before .before .before .before .before) .pre .2 .reading) (field (c .before .before .before .before .before .before) .header-fits))
+
+sub-push-2 : tie.Need-sub-push-2
+sub-push-2 c = search needs
+
+cast-push-2 : tie.Need-cast-push-2
+cast-push-2 c = search needs
+
+push-requires : tie.Need-push-requires
+push-requires c κs = omega (arith, holds (c .before .before .before .before .before .before))
+
+add-r-2 : tie.Need-add-r-2
+add-r-2 c = omega (arith, holds (c .before .before .before .before .before .before .before .before .before))
+
+least-of-requires : tie.Need-least-of-requires
+least-of-requires c κs = search needs
+
+cast-r : tie.Need-cast-r
+cast-r c = search needs
+
+add-r-3 : tie.Need-add-r-3
+add-r-3 c = omega (arith, holds (c .before .before .before .before .before .before .before .before .before .before), field (c .before .before .before .before .before .before .before .before .before .before))
+
+add-r-4 : tie.Need-add-r-4
+add-r-4 c = omega (arith, holds (c .before .before .before .before .before .before .before .before .before .before .before))
+
+returns-2 : tie.Need-returns-2
+returns-2 c = λ s high b. rw (c .refused .ensures) (enter-refused _ _ _ _ _ (b .going) (b .reading) _ _ (sym (b .header-is) ∙ c .before .before .header .given .1))
+
+same-length : tie.Need-same-length
+same-length c = search needs
+
+returns-3 : tie.Need-returns-3
+returns-3 c = λ s high b. enter-inner _ _ _ _ _ (b .going) (b .reading) _ _ _ _ (header-is (c .before .before .before .before .before .before .before .before .before .before .before) s high b) refl (c .before .before .before .before .before .before .before .before .before .inner-of .ensures) _ (c .before .least-of .ensures) (c .before .before .before .before .before .before .before .before .if1 .left) _ (c .before .before .before .before .push .ensures)
+
+pub enter-spec : {M : Type 1} → statement M
+enter-spec =
+    tie.close
+    (tie.spec
+    enum-known-header
+    refused-requires
+    enum-known-header-2
+    add-close
+    add-close-2
+    add-r
+    inner-of-requires
+    returns
+    mul-low
+    add-low
+    sub-push
+    cast-push
+    sub-push-2
+    cast-push-2
+    push-requires
+    add-r-2
+    least-of-requires
+    cast-r
+    add-r-3
+    add-r-4
+    returns-2
+    same-length
+    returns-3)

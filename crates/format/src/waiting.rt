@@ -1,0 +1,126 @@
+// Enclosing fields wait in lent bytes, four for each, while an inner term is read.
+ghost use mathlib.Core.Path.{_≡_};
+ghost use mathlib.Core.List.{List};
+ghost use Prim.Native.Nat.{ℕ, _+_, _≤_, _<_};
+ghost use lib.ListN.{length};
+ghost use Rattle.format.specs.Waiting.{refusing, putWaiting, Going, Moved, Enters, Turned};
+use crate::headers::HeaderRead;
+use crate::tags::inner_of;
+use crate::tags::least_of;
+use words::load16;
+use words::store16;
+
+// At most so many term fields stand in a file, and so many wait.
+pub const MOST_TERM_FIELDS: usize = 4096;
+
+// The bytes that they take.
+pub const READING_ROOM: usize = 4 * MOST_TERM_FIELDS;
+
+// What comes next: nothing after a refusal, the term at a place, or what follows a term that was read.
+pub const REFUSED: u8 = 0;
+
+pub const READS: u8 = 1;
+
+pub const GAVE: u8 = 2;
+
+// The place of the term to read or behind the one that was read, the end of what encloses it, the term fields so far, the number of fields that wait and the place of the innermost of them; of a refusal its number and place.
+pub struct State {
+    pub mode: u8,
+    pub at: usize,
+    pub end: usize,
+    pub fields: usize,
+    pub depth: usize,
+    pub top: usize,
+    pub number: u8,
+    pub place: usize,
+}
+
+// A refusal ends the reading.
+fn refused(x: State, number: u8, place: usize) -> State
+    ensures { λ r. ⌜ r ≡ refusing x number place ⌝ }
+{
+    let mut r = x;
+    r.mode = REFUSED;
+    r.number = number;
+    r.place = place;
+    r
+}
+
+// A field that waits: how far behind the place of the field around it it stands, and how many inner terms follow the one that is read now.
+fn push(work: &mut [u8], low: usize, gap: u16, left: u16)
+    requires { ⌜ low + 3 < length (now work) ⌝ }
+    ensures { λ _. ⌜ now (work .exit) ≡ putWaiting (now (work .entry)) low gap left ⌝ }
+{
+    store16(work, low, gap);
+    store16(work, low + 2, left);
+}
+
+// The field with that header: refused, read if it has no inner terms, or one more that waits for its first inner term.
+fn enter(x: State, header: HeaderRead, work: &mut [u8], base: usize) -> State
+    requires { ⌜ ((s : List ℕ) × (high : ℕ) × Enters s (now work) high base x header) ⌝ }
+    ensures { λ r. ⌜ ((s : List ℕ) (high : ℕ) → Enters s (now (work .entry)) high base x header → Moved s (now (work .entry)) high base x (now (work .exit)) r) ⌝ }
+{
+    match header {
+        HeaderRead::Refused(number, place) => refused(x, number, place),
+        HeaderRead::Field(tag, len) => {
+            let mut r = x;
+            let at = x.at;
+            let close = at + 3 + len;
+            r.end = close;
+            r.fields = x.fields + 1;
+            let inner = inner_of(tag);
+            if inner == 0 {
+                r.mode = GAVE;
+                r.at = close;
+                return r;
+            }
+            let low = base + x.depth * 4;
+            push(work, low, (at - x.top) as u16, (inner - 1) as u16);
+            r.at = at + 3 + least_of(tag) as usize;
+            r.depth = x.depth + 1;
+            r.top = at;
+            r
+        }
+    }
+}
+
+// Behind a term that was read: the field that waits last goes on to its second inner term, or ends there, or has leftovers.
+fn leave(x: State, s: &[u8], work: &mut [u8], base: usize) -> State
+    requires { ⌜ Going (now s) (now work) base x × (2 ≤ x .mode) × (0 < x .depth) ⌝ }
+    ensures { λ r. ⌜ ((high : ℕ) → Moved (now (s .entry)) (now (work .entry)) high base x (now (work .exit)) r) ⌝ }
+{
+    let mut r = x;
+    let top = x.top;
+    let below = x.depth - 1;
+    let low = base + below * 4;
+    let around = top - load16(work, low) as usize;
+    let left = load16(work, low + 2);
+    let end = top + 3 + load16(s, top + 1) as usize;
+    r.end = end;
+    if left == 0 {
+        if x.at == end {
+            r.depth = below;
+            r.top = around;
+            return r;
+        }
+        return refused(x, 4, top);
+    }
+    store16(work, low + 2, 0);
+    r.mode = READS;
+    r
+}
+
+// From a header to the next place where a term is to be read, if there is one: behind a term that was read, all fields that end there are left.
+pub fn turn(x: State, header: HeaderRead, s: &[u8], work: &mut [u8], base: usize) -> State
+    requires { ⌜ ((high : ℕ) × Enters (now s) (now work) high base x header) ⌝ }
+    ensures { λ r. ⌜ ((high : ℕ) → Enters (now (s .entry)) (now (work .entry)) high base x header → Turned (now (s .entry)) (now (work .entry)) high base x (now (work .exit)) r) ⌝ }
+{
+    let mut r = enter(x, header, work, base);
+    while r.mode == GAVE {
+        if r.depth == 0 {
+            return r;
+        }
+        r = leave(r, s, work, base);
+    }
+    r
+}

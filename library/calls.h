@@ -1,0 +1,51 @@
+/* The five calls on files and spaces that the tests of the library share. C99 and C++. */
+#ifndef CALLS_H
+#define CALLS_H
+
+#include "files.h"
+#include "hitac.h"
+
+static struct bytes table, other;
+static uint8_t work[HITAC_RUN_WORK], out[HITAC_LONGEST_FILE];
+
+/* The five calls in one form, so that a case is one line. */
+enum call { CHECK, RUN, FLATTEN, CHECK_FLAT, WRITE_PROOF };
+
+static inline struct hitac_answer answer_in(enum call call, size_t work_length, size_t out_length, uint32_t budget)
+{
+    switch (call) {
+    case CHECK:
+        return hitac_check(table.at, table.length, other.at, other.length, work, work_length);
+    case RUN:
+        return hitac_run(table.at, table.length, other.at, other.length, budget, work, work_length, out, out_length);
+    case FLATTEN:
+        return hitac_flatten(table.at, table.length, other.at, other.length, work, work_length, out, out_length);
+    case CHECK_FLAT:
+        return hitac_check_flat(table.at, table.length, other.at, other.length, work, work_length);
+    default:
+        return hitac_write_proof(table.at, table.length, other.at, other.length, work, work_length, out, out_length);
+    }
+}
+
+static inline size_t work_of(enum call call)
+{
+    switch (call) {
+    case CHECK:
+        return HITAC_CHECK_WORK;
+    case RUN:
+        return HITAC_RUN_WORK;
+    case FLATTEN:
+        return HITAC_FLATTEN_WORK;
+    case CHECK_FLAT:
+        return HITAC_CHECK_FLAT_WORK;
+    default:
+        return HITAC_WRITE_PROOF_WORK;
+    }
+}
+
+static inline struct hitac_answer answer(enum call call)
+{
+    return answer_in(call, work_of(call), sizeof out, HITAC_MOST_STEPS);
+}
+
+#endif
