@@ -5,7 +5,7 @@ ghost use lib.ListN.{length};
 ghost use Rattle.words.specs.Word.{word};
 ghost use Rattle.index.specs.Keys.{isKey, digits};
 ghost use Rattle.derivation.specs.Pending.{pendingIn, Pends};
-ghost use Rattle.derivation.specs.Walks.{EntryInside, carriedGoal, carriesFirst, Ready, Walks};
+ghost use Rattle.derivation.specs.Walks.{firstEntry, EntryInside, carriedGoal, carriesFirst, Ready, Walks};
 use crate::layout::INDEX;
 use crate::pending::Pending;
 use crate::pending::first;
@@ -31,17 +31,17 @@ fn carries_first(
     table: &[u8],
     flat: &[u8],
     at: usize,
-    entries: usize,
+    roots: usize,
     work: &[u8],
     pending: Pending,
 ) -> bool
-    requires { ⌜ EntryInside (now flat) at × Pends (now table) (now flat) entries (now work) pending ⌝ }
-    ensures { λ r. ⌜ r ≡ carriesFirst (carriedGoal (now (flat .entry)) at) (pendingIn (now (table .entry)) (now (flat .entry)) entries (now (work .entry)) pending) ⌝ }
+    requires { ⌜ EntryInside (now flat) at × Pends (now table) (now flat) (firstEntry roots) (now work) pending ⌝ }
+    ensures { λ r. ⌜ r ≡ carriesFirst (carriedGoal (now (flat .entry)) at) (pendingIn (now (table .entry)) (now (flat .entry)) (firstEntry roots) (now (work .entry)) pending) ⌝ }
 {
     if !some_pending(pending) {
         return false;
     }
-    let first = first(table, flat, entries, work, pending);
+    let first = first(table, flat, 3 + roots * 2, work, pending);
     if flat[at] == USE {
         let goal = goal_at(flat, at + 5);
         return goal.0 == first.0;
@@ -64,8 +64,8 @@ fn is_rule_of(table: &[u8], rule: usize, flat: &[u8], at: usize) -> bool
     ensures { λ r. ⌜ r ≡ isKey 6 (now (table .entry)) (word (now (flat .entry)) (at + 3)) (word (now (flat .entry)) (at + 5)) rule ⌝ }
 {
     let name = rule_name_at(flat, at + 3);
-    let goal = goal_at(flat, at + 5);
-    carries(table, rule, name, goal)
+    let on = goal_at(flat, at + 5);
+    carries(table, rule, name, on)
 }
 
 // Walks over the entries of a flat file, behind its roots. The place is that of the first entry that does not apply, or the file's length. The rule of a use is looked up by the index.
@@ -73,14 +73,13 @@ pub fn walk(table: &[u8], rules: usize, flat: &[u8], roots: usize, work: &mut [u
     requires { ⌜ Ready (now table) rules (now flat) roots (now work) ⌝ }
     ensures { λ r. ⌜ Walks (now (table .entry)) rules (now (flat .entry)) roots (now (work .entry)) (now (work .exit)) r ⌝ }
 {
-    let entries = 3 + roots * 2;
-    let mut at = entries;
+    let mut at = 3 + roots * 2;
     let mut pending = Pending { lists: 0, roots };
     let place = 'walk: loop {
         if flat.len() <= at {
             break 'walk at;
         }
-        if !carries_first(table, flat, at, entries, work, pending) {
+        if !carries_first(table, flat, at, roots, work, pending) {
             break 'walk at;
         }
         pending = pass(work, pending);
@@ -98,11 +97,10 @@ pub fn walk(table: &[u8], rules: usize, flat: &[u8], roots: usize, work: &mut [u
             if is_rule_of(table, place, flat, at) {
                 break place;
             }
-            let next = link(work, INDEX + node * 5, rest % 2);
-            if next == 0 {
+            node = link(work, INDEX + node * 5, rest % 2);
+            if node == 0 {
                 break 'walk at;
             }
-            node = next;
             rest = rest / 2;
         };
         pending = push(table, rule, work, pending);

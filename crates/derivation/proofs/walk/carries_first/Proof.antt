@@ -19,6 +19,12 @@ returns c =
     let none = ltb-false 0 (p .lists + p .roots) (sym (c .before .some-pending .ensures) ∙ not-true _ (c .if1 .taken)) in
     none-carried _ _ (none-pending _ _ _ _ p (omega (arith, none)))
 
+mul-first : tie.Need-mul-first
+mul-first c = search needs
+
+add-first : tie.Need-add-first
+add-first c = search needs
+
 first-requires : tie.Need-first-requires
 first-requires c κs = (c .before .before .before .before .before .pre .1, ltb-true _ _ (sym (c .before .some-pending .ensures) ∙ not-false _ (c .if1 .left)))
 
@@ -49,6 +55,8 @@ carries-first-spec =
     (tie.spec
     some-pending-requires
     returns
+    mul-first
+    add-first
     first-requires
     shared-slice-read-if2
     add-goal-at

@@ -31,25 +31,28 @@ use Rattle.derivation.proofs.walk.walk.Statement.{statement}
 use Rattle.derivation.proofs.walk.walk.Tie as tie
 
 abbrev Inv-loop : tie.InvT-loop
-Inv-loop table rules flat roots work entries at pending node₀ rest₀ node rest = Descends table work (word flat (at + 3)) (word flat (at + 5)) rest node
+Inv-loop table rules flat roots work at pending node₀ rest₀ node rest = Descends table work (word flat (at + 3)) (word flat (at + 5)) rest node
 
 abbrev μ-loop : tie.MeasureT-loop
-μ-loop table rules flat roots work entries at pending node₀ rest₀ node rest = mostRules - node
+μ-loop table rules flat roots work at pending node₀ rest₀ node rest = mostRules - node
 
 abbrev Inv-walk : tie.InvT-walk
-Inv-walk table rules flat roots work₀ entries at₀ pending₀ work at pending =
+Inv-walk table rules flat roots work₀ at₀ pending₀ work at pending =
     Keeps table flat (firstEntry roots) work₀ work pending
     × ((T : Table) (es : List Entry) → Given table rules flat roots T es → Reached T flat (flatWalk T (firstEntry roots) (goalsAt flat 3 roots) es) at (pending .lists) (pendingIn table flat (firstEntry roots) work pending))
 
 abbrev μ-walk : tie.MeasureT-walk
-μ-walk table rules flat roots work₀ entries at₀ pending₀ work at pending = length flat - at
+μ-walk table rules flat roots work₀ at₀ pending₀ work at pending = length flat - at
 
--- the places that the answers go back to: the call, the head of the walk's loop, an entry there that carries the first pending goal, the same with that goal taken off, a node on the way to its rule, the rule at that node
+-- the places that the answers go back to: the call, the head of the walk's loop, an entry there that carries another goal than the first pending one, one that carries it, the same with that goal taken off, a node on the way to its rule, the rule at that node
 abbrev Begun : Type 0
 Begun = tie.Start Inv-loop μ-loop Inv-walk μ-walk
 
 abbrev Head : Type 0
 Head = tie.At-walk Inv-loop μ-loop Inv-walk μ-walk
+
+abbrev Other : Type 0
+Other = tie.Then2 Inv-loop μ-loop Inv-walk μ-walk
 
 abbrev Carried : Type 0
 Carried = tie.Else2 Inv-loop μ-loop Inv-walk μ-walk
@@ -128,9 +131,6 @@ module _ (c : Passed) where
   abbrev left : Pending
   left = c .before .before .before .pass .result
 
-  abbrev others : List Goal
-  others = pendingIn (table (head entry)) (flat (head entry)) (firstEntry (roots (head entry))) space left
-
   passes : Passes (table (head entry)) (flat (head entry)) (firstEntry (roots (head entry))) (head entry .walk .work) space (head entry .walk .pending) left
   passes = c .before .before .before .pass .ensures _ _ _ (head entry .walk .inv .0 .pends)
 
@@ -144,11 +144,11 @@ module _ (c : Passed) where
 roots-inside : (i : Begun) → firstEntry (i .args .roots) ≤ length (now (i .args .flat))
 roots-inside i = omega (arith, entries-end _ _ _ _ (i .pre .given .entries-stand))
 
-mul-entries : tie.Need-mul-entries Inv-loop μ-loop Inv-walk μ-walk
-mul-entries c = omega (arith, roots-inside (c .before .before .before), c .before .before .before .good)
+mul-at : tie.Need-mul-at Inv-loop μ-loop Inv-walk μ-walk
+mul-at c = omega (arith, roots-inside (c .before .before .before), c .before .before .before .good)
 
-add-entries : tie.Need-add-entries Inv-loop μ-loop Inv-walk μ-walk
-add-entries c = omega (arith, roots-inside (c .before .before .before), c .before .before .before .good)
+add-at : tie.Need-add-at Inv-loop μ-loop Inv-walk μ-walk
+add-at c = omega (arith, roots-inside (c .before .before .before), c .before .before .before .good)
 
 walk-holds : tie.Need-walk-holds Inv-loop μ-loop Inv-walk μ-walk
 walk-holds c =
@@ -168,8 +168,8 @@ pass-requires c κs = let e = c .before in ((table (head e), flat (head e), firs
 shared-slice-read-if3 : tie.Need-shared-slice-read-if3 Inv-loop μ-loop Inv-walk μ-walk
 shared-slice-read-if3 c = more (entry c)
 
-add-at : tie.Need-add-at Inv-loop μ-loop Inv-walk μ-walk
-add-at c = let e = entry (c .before) in omega (arith, inside e, c .before .before .before .before .before .before .before .before .before .before .before .before .before .before .good)
+add-at-2 : tie.Need-add-at-2 Inv-loop μ-loop Inv-walk μ-walk
+add-at-2 c = let e = entry (c .before) in omega (arith, inside e, c .before .before .before .before .before .before .before .before .before .before .before .before .before .before .good)
 
 walk-less : tie.Need-walk-less Inv-loop μ-loop Inv-walk μ-walk
 walk-less c = let e = entry (c .before) in omega (arith, more e)
@@ -243,7 +243,7 @@ module _ (c : Compared) where
   told : place ≡ word (space (the-use node)) (indexPlace + node .loop .node * 5)
   told = c .before .load16 .ensures
 
--- it is that of another use
+-- it has another name or goal
 abbrev Missed : Type 0
 Missed = tie.Else5 Inv-loop μ-loop Inv-walk μ-walk
 
@@ -292,8 +292,8 @@ push-requires c κs =
     let s = its-head h in
     (rule-fits h, pre s .short, omega (arith, one-more h, pre s .room, keeps (its-use h) .size))
 
-add-at-2 : tie.Need-add-at-2 Inv-loop μ-loop Inv-walk μ-walk
-add-at-2 c =
+add-at-3 : tie.Need-add-at-3 Inv-loop μ-loop Inv-walk μ-walk
+add-at-3 c =
     let h = c .before .before .before .before in
     omega (arith, inside (entry (its-use h)) .some-use (is-use (node (hit h))), c .before .before .before .before .before .before .before .before .before .before .before .before .before .before .before .before .before .before .before .before .before .before .before .before .before .good)
 
@@ -323,11 +323,14 @@ returns c =
 same-length-2 : tie.Need-same-length-2 Inv-loop μ-loop Inv-walk μ-walk
 same-length-2 c = c .before .before .before .before .walk .inv .0 .size
 
+not-carried : (c : Other) → carriesFirst (carriedGoal (flat (c .before .before .before .before)) (at (c .before .before .before .before))) (pending (c .before .before .before .before)) ≡ false
+not-carried c = sym (c .before .carries-first .ensures) ∙ not-true _ (c .if2 .taken)
+
 returns-2 : tie.Need-returns-2 Inv-loop μ-loop Inv-walk μ-walk
 returns-2 c =
     let w = c .before .before .before .before in
     record {
-      result = λ T es g. not-first _ _ _ _ _ _ (w .walk .inv .1 T es g) (c .before .before .before .if1 .left) (sym (c .before .carries-first .ensures) ∙ not-true _ (c .if2 .taken));
+      result = λ T es g. not-first _ _ _ _ _ _ (w .walk .inv .1 T es g) (c .before .before .before .if1 .left) (not-carried c);
       inside = within w;
       pends = w .walk .inv .0 .pends;
       kept = w .walk .inv .0 .kept;
@@ -373,13 +376,13 @@ walk-spec =
     μ-loop
     Inv-walk
     μ-walk
-    mul-entries
-    add-entries
+    mul-at
+    add-at
     walk-holds
     carries-first-requires
     pass-requires
     shared-slice-read-if3
-    add-at
+    add-at-2
     walk-less
     walk-again
     digits-at-requires
@@ -395,7 +398,7 @@ walk-spec =
     loop-less
     loop-again
     push-requires
-    add-at-2
+    add-at-3
     walk-less-2
     walk-again-2
     same-length
