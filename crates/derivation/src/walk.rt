@@ -4,15 +4,14 @@ ghost use Prim.Native.Nat.{_+_, _≤_};
 ghost use lib.ListN.{length};
 ghost use Rattle.words.specs.Word.{word};
 ghost use Rattle.index.specs.Keys.{isKey, digits};
-ghost use Rattle.derivation.specs.Pending.{pendingIn, Pends};
-ghost use Rattle.derivation.specs.Walks.{firstEntry, EntryInside, carriedGoal, carriesFirst, Ready, Walks};
+ghost use Rattle.derivation.specs.Walks.{EntryInside, carriedGoal, Ready, Walks};
 use crate::layout::INDEX;
 use crate::pending::Pending;
-use crate::pending::first;
-use crate::pending::pass;
+use crate::pending::Taken;
 use crate::pending::push;
-use crate::pending::some_pending;
+use crate::pending::take;
 use files::flats::USE;
+use format::values::Goal;
 use format::values::goal_at;
 use format::values::rule_name_at;
 use index::node::link;
@@ -26,28 +25,15 @@ pub struct Stop {
     pub pending: Pending,
 }
 
-// Whether the entry at a place carries the first pending goal: an open behind its header, a use behind its rule name.
-fn carries_first(
-    table: &[u8],
-    flat: &[u8],
-    at: usize,
-    roots: usize,
-    work: &[u8],
-    pending: Pending,
-) -> bool
-    requires { ⌜ EntryInside (now flat) at × Pends (now table) (now flat) (firstEntry roots) (now work) pending ⌝ }
-    ensures { λ r. ⌜ r ≡ carriesFirst (carriedGoal (now (flat .entry)) at) (pendingIn (now (table .entry)) (now (flat .entry)) (firstEntry roots) (now (work .entry)) pending) ⌝ }
+// The goal of the entry at a place: an open carries it behind its header, a use behind its rule name.
+fn carried_goal(flat: &[u8], at: usize) -> Goal
+    requires { ⌜ EntryInside (now flat) at ⌝ }
+    ensures { λ r. ⌜ r ≡ carriedGoal (now (flat .entry)) at ⌝ }
 {
-    if !some_pending(pending) {
-        return false;
-    }
-    let first = first(table, flat, 3 + roots * 2, work, pending);
     if flat[at] == USE {
-        let goal = goal_at(flat, at + 5);
-        return goal.0 == first.0;
+        return goal_at(flat, at + 5);
     }
-    let leaf = goal_at(flat, at + 3);
-    leaf.0 == first.0
+    goal_at(flat, at + 3)
 }
 
 // The digits that lead down the index to the rule of the use at a place.
@@ -79,10 +65,11 @@ pub fn walk(table: &[u8], rules: usize, flat: &[u8], roots: usize, work: &mut [u
         if flat.len() <= at {
             break 'walk at;
         }
-        if !carries_first(table, flat, at, roots, work, pending) {
+        let goal = carried_goal(flat, at);
+        let Taken::Left(others) = take(table, flat, roots, work, pending, goal) else {
             break 'walk at;
-        }
-        pending = pass(work, pending);
+        };
+        pending = others;
         if flat[at] != USE {
             at += 5;
             continue;
