@@ -2,20 +2,19 @@
 -- Assumes nothing.
 use mathlib.Core.Path.{_≡_, sym, subst, ap, ap₂, _∙_}
 use mathlib.Core.List.{List}
-use Prim.Native.Nat.{ℕ, _*_, _-_, _≤_, _<_}
+use Prim.Native.Nat.{ℕ, _+_, _≤_, _<_}
 use native.Mathlib.Omega.{arith}
-use lib.ListN.{length, drop}
-use lib.Seq.{paste}
+use lib.ListN.{length}
 use borrow.Author.Tests.{lt-ltb, le-ltb}
 use Rattle.format.specs.declared.values.Goal.{Goal}
 use Rattle.format.specs.Limits.{mostBytes, mostGoals, mostUses, mostOpens}
 use Rattle.format.specs.Refusals.{Cause, number}
 use Rattle.format.specs.Results.{gives, refused, andThen}
 use Rattle.format.specs.Goals.{goalsAt}
-use Rattle.format.proofs.GoalsAt.{goals-paste}
 use Rattle.tables.specs.Tables.{Table}
 use Rattle.tables.specs.ReadTables.{readTable}
 use Rattle.tables.specs.Standing.{TableStands}
+use Rattle.index.specs.Build.{RulesIndexed}
 use Rattle.files.specs.declared.flats.FlatParts.{FlatParts}
 use Rattle.files.specs.Derivations.{Derivation, readFlat, entriesPlace}
 use Rattle.files.specs.Counts.{usesIn, opensIn}
@@ -25,16 +24,18 @@ use Rattle.files.proofs.WhatStands.{flat-stands}
 use Rattle.hitac.specs.Forest.{leaves}
 use Rattle.hitac.specs.Counts.{uses, everyUse}
 use Rattle.hitac.specs.FlatWalk.{flatWalk}
+use Rattle.hitac.proofs.EntryCounts.{uses-counted, opens-counted}
 use Rattle.answers.specs.declared.Answer.{Answer}
 use Rattle.answers.specs.Answers.{refusal, counted}
 use Rattle.entries.specs.Outcomes.{tableFile, otherFile, noFile}
 use Rattle.entries.specs.LentSpace.{countedAnswer, checkIn, cleared}
 use Rattle.entries.specs.CheckFlat.{nonePending, right, flatCounts, checkFlatOutcome, checkFlatWork, checkFlat}
 use Rattle.derivation.specs.declared.walk.Stop.{Stop}
-use Rattle.derivation.specs.Pending.{pendingIn, firstEntry, walked, Given, Ready}
+use Rattle.derivation.specs.Layout.{indexPlace, cursorsEnd}
+use Rattle.derivation.specs.Pending.{firstEntry, pendingIn}
+use Rattle.derivation.specs.Walks.{walked, Given, Ready, Walks}
 use Rattle.derivation.specs.CheckedEntries.{DerivationAt, checkedEntries}
-use Rattle.derivation.proofs.Stack.{none-pending, first-pending}
-use Rattle.hitac.proofs.EntryCounts.{uses-counted, opens-counted}
+use Rattle.derivation.proofs.PendingLaws.{none-pending, some-first}
 
 -- what the parts of a derivation that stands in a file say
 pub record PartsHold (flat : List ℕ) (parts : FlatParts) (d : Derivation) : Type 0 where
@@ -74,27 +75,22 @@ module _ (flat : List ℕ) (parts : FlatParts) (d : Derivation) (at : Derivation
     few-uses = at .stands .few-uses;
   }
 
-  pub ready-entries : (table : List ℕ) (rules : ℕ) (T : Table) (space : ℕ) → TableStands table rules T → checkFlatWork ≤ space → Ready table rules flat (parts .roots) space
-  ready-entries table rules T space ts room =
-      record { the-table = T; the-entries = d .entries; given = given-entries table rules T ts; few-roots = parts-hold .few-roots; room = omega arith }
-
-  -- the roots were copied as the pending goals
-  pub roots-pending : (work w : List ℕ) → w ≡ paste work (length work - parts .roots * 2) (drop 3 flat) (parts .roots * 2) → length w ≡ length work → checkFlatWork ≤ length work
-      → pendingIn w (parts .roots) ≡ d .roots
-  roots-pending work w copied len room =
-      let p = parts-hold in
-      let top = length work - parts .roots * 2 in
-      ap (λ (k : ℕ). goalsAt w (k - parts .roots * 2) (parts .roots)) len
-      ∙ ap (λ (x : List ℕ). goalsAt x top (parts .roots)) copied
-      ∙ goals-paste work flat top 3 (parts .roots) (omega (arith, p .few-roots)) (p .roots-inside)
-      ∙ ap (goalsAt flat 3) (sym (p .roots-are))
-      ∙ sym (at .stands .roots-stand .goals-are)
+  pub ready-entries : (table : List ℕ) (rules : ℕ) (T : Table) (work : List ℕ) → TableStands table rules T → length table ≤ mostBytes → RulesIndexed table rules work indexPlace → cursorsEnd ≤ length work
+      → Ready table rules flat (parts .roots) work
+  ready-entries table rules T work ts short ix room =
+      record { the-table = T; the-entries = d .entries; given = given-entries table rules T ts; short = short; indexed = ix; room = room }
 
 -- the walk over the entries, from the roots on, stopped
-module _ (flat : List ℕ) (parts : FlatParts) (d : Derivation) (at : DerivationAt flat parts d) (T : Table) (w w′ : List ℕ) (stop : Stop)
-    (roots : pendingIn w (parts .roots) ≡ d .roots) (walks : flatWalk T (firstEntry (parts .roots)) (pendingIn w (parts .roots)) (d .entries) ≡ walked (length flat) w′ stop) where
-  result : flatWalk T (entriesPlace d) (d .roots) (d .entries) ≡ walked (length flat) w′ stop
-  result = ap₂ (λ (k : ℕ) (g : List Goal). flatWalk T k g (d .entries)) (parts-hold flat parts d at .place-is) (sym roots) ∙ walks
+module _ (flat : List ℕ) (parts : FlatParts) (d : Derivation) (at : DerivationAt flat parts d) (table : List ℕ) (rules : ℕ) (T : Table) (ts : TableStands table rules T)
+    (w w′ : List ℕ) (stop : Stop) (walks : Walks table rules flat (parts .roots) w w′ stop) where
+  abbrev left : List Goal
+  left = pendingIn table flat (parts .roots) w′ (stop .pending)
+
+  result : flatWalk T (entriesPlace d) (d .roots) (d .entries) ≡ walked (length flat) (stop .place) left
+  result =
+      let p = parts-hold flat parts d at in
+      ap₂ (λ (k : ℕ) (g : List Goal). flatWalk T k g (d .entries)) (p .place-is) (at .stands .roots-stand .goals-are ∙ ap (goalsAt flat 3) (p .roots-are))
+      ∙ walks .result T (d .entries) (given-entries flat parts d at table rules T ts)
 
   abbrev answer : Answer
   answer = checkedEntries T d (length flat)
@@ -105,16 +101,16 @@ module _ (flat : List ℕ) (parts : FlatParts) (d : Derivation) (at : Derivation
   wrong-entry l = rw (result, lt-ltb (stop .place) (length flat) l)
 
   -- goals are pending at the end
-  pub goals-left : length flat ≤ stop .place → 0 < stop .pending → refusal 27 otherFile (length flat) 0 ≡ answer
+  pub goals-left : length flat ≤ stop .place → 0 < stop .pending .lists + stop .pending .roots → refusal 27 otherFile (length flat) 0 ≡ answer
   unfolding checkedEntries right andThen nonePending walked number
-  goals-left l h = rw (result, le-ltb (stop .place) (length flat) l, first-pending w′ (stop .pending) h)
+  goals-left l h = rw (result, le-ltb (stop .place) (length flat) l, some-first table flat _ w′ (stop .pending) (walks .pends) h .2)
 
   -- the file is right
-  pub all-right : length flat ≤ stop .place → stop .pending ≡ 0 → counted 0 (parts .uses) (parts .opens) ≡ answer
+  pub all-right : length flat ≤ stop .place → stop .pending .lists + stop .pending .roots ≡ 0 → counted 0 (parts .uses) (parts .opens) ≡ answer
   unfolding checkedEntries right andThen nonePending walked flatCounts
   all-right l z =
       let p = parts-hold flat parts d at in
-      rw (result, le-ltb (stop .place) (length flat) l, none-pending w′ (stop .pending) z, p .uses-are, p .opens-are)
+      rw (result, le-ltb (stop .place) (length flat) l, none-pending table flat (parts .roots) w′ (stop .pending) z, p .uses-are, p .opens-are)
 
 module _ (table flat : List ℕ) where
   abbrev within : Answer

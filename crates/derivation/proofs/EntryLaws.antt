@@ -4,10 +4,10 @@ use mathlib.Core.Path.{_≡_, refl, sym, _∙_}
 use mathlib.Core.Bool.{true, false, false≢true}
 use mathlib.Core.Option.{none, some}
 use mathlib.Core.List.{List, [], _∷_, _++_}
-use Prim.Native.Nat.{ℕ, _+_, _*_, _-_, _<_}
+use Prim.Native.Nat.{ℕ, _+_, _<_}
 use native.Mathlib.Omega.{arith}
 use lib.Dec.{eqb}
-use lib.ListN.{length, getD, drop}
+use lib.ListN.{getD, drop}
 use borrow.Author.Tests.{eq-eqb, ne-eqb}
 use Rattle.words.specs.Word.{word}
 use Rattle.format.specs.declared.values.RuleName.{RuleName}
@@ -21,8 +21,8 @@ use Rattle.files.specs.Derivations.{Entry, useEntry, openEntry}
 use Rattle.files.specs.Standing.{EntriesStand}
 use Rattle.hitac.specs.Walk.{premisesOr}
 use Rattle.hitac.specs.FlatWalk.{flatWalk}
-use Rattle.derivation.specs.Pending.{pendingIn, EntryInside, carriedGoal, carriesFirst}
-use Rattle.derivation.proofs.Stack.{first-pending}
+use Rattle.derivation.specs.Pending.{carriesFirst}
+use Rattle.derivation.specs.Walks.{EntryInside, carriedGoal}
 
 -- the goal of an entry
 abbrev pub entryGoal : Entry → Goal
@@ -92,8 +92,5 @@ pub open-goal : (s : List ℕ) (at : ℕ) → (getD s at 0 ≡ 32 → ⊥) → c
 unfolding carriedGoal
 open-goal s at t = rw (ne-eqb (getD s at 0) 32 t)
 
--- as it was read, compared with the one on top of the stack
-pub compared : (flat work : List ℕ) (at n g v f : ℕ) → (n ≡ 0 → ⊥) → f ≡ word work (length work - n * 2) → carriedGoal flat at ≡ goal v → g ≡ v
-    → eqb g f ≡ carriesFirst (carriedGoal flat at) (pendingIn work n)
-unfolding carriesFirst
-compared flat work at n g v f some-goal top c e = rw (c, first-pending work n (omega arith), e, top)
+pub as-told : (γ : Goal) (v : ℕ) → γ .0 ≡ v → γ ≡ goal v
+as-told γ v e = λ i. record { 0 = e i }

@@ -1,4 +1,5 @@
-pub mod Stack
+pub mod PendingLaws
 pub mod EntryLaws
+pub mod RuleLaws
 pub mod WalkLaws
 pub mod CheckLaws

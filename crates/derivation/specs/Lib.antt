@@ -1,2 +1,4 @@
+pub mod Layout
 pub mod Pending
+pub mod Walks
 pub mod CheckedEntries

@@ -1,65 +1,81 @@
--- The pending goals in the work space, and what the walk over a flat file's entries comes to.
-use Prim.Native.Nat.{ℕ, _+_, _*_, _-_, _≤_}
+-- The pending goals: those of lists of premises in the table, the last list first, then roots in the flat file.
+use Prim.Native.Nat.{ℕ, zero, suc, _+_, _*_, _-_, _/_, _≤_, _<_}
 use mathlib.Core.Path.{_≡_}
-use mathlib.Core.Bool.{Bool, false, cond}
-use mathlib.Core.List.{List, [], _∷_}
-use lib.Dec.{eqb, ltb}
-use lib.ListN.{length, getD}
+use mathlib.Core.Bool.{Bool, true, false}
+use mathlib.Core.List.{List, [], _∷_, _++_}
+use lib.ListN.{length, drop}
 use Rattle.words.specs.Word.{word}
+use Rattle.words.specs.Kept.{Kept}
 use Rattle.format.specs.declared.values.Goal.{Goal}
-use Rattle.format.specs.Limits.{mostGoals, mostUses}
-use Rattle.format.specs.Refusals.{entryWrong}
-use Rattle.format.specs.Results.{Result, gives, refused}
-use Rattle.format.specs.Values.{goal}
 use Rattle.format.specs.Goals.{goalsAt}
-use Rattle.tables.specs.Tables.{Table}
 use Rattle.tables.specs.Lookup.{sameGoal}
-use Rattle.tables.specs.Standing.{TableStands}
-use Rattle.files.specs.Derivations.{Entry}
-use Rattle.files.specs.Counts.{usesIn}
-use Rattle.files.specs.Standing.{EntriesStand}
-use Rattle.derivation.specs.declared.walk.Stop.{Stop}
+use Rattle.derivation.specs.declared.pending.Pending.{Pending}
+use Rattle.derivation.specs.declared.pending.Taken.{Taken}
+use Rattle.derivation.specs.declared.pending.Taken.the-variants as T
+use Rattle.derivation.specs.Layout.{cursorsPlace}
 
--- so many goals, two bytes each, at the end of the work space, the first pending goal on top
-abbrev pub pendingIn : List ℕ → (count : ℕ) → List Goal
-pendingIn work n = goalsAt work (length work - n * 2) n
+-- the place of the first goal that is left of a list, and how many are left, by the list's cursor
+unfoldable pub placeIn : List ℕ → (cursor : ℕ) → ℕ
+placeIn w d = word w (cursorsPlace + d * 4)
+
+unfoldable pub leftIn : List ℕ → (cursor : ℕ) → ℕ
+leftIn w d = word w (cursorsPlace + d * 4 + 2)
+
+-- the goals that are left of so many lists, those of the last in front
+unfoldable pub waiting : (table work : List ℕ) → (lists : ℕ) → List Goal
+waiting table w zero = []
+waiting table w (suc d) = goalsAt table (placeIn w d) (leftIn w d) ++ waiting table w d
 
 -- the place of the first entry behind so many roots
 abbrev pub firstEntry : (roots : ℕ) → ℕ
 firstEntry n = 3 + n * 2
 
--- the goal of the entry at a place: behind the rule name of a use, behind the header of an open
-unfoldable pub carriedGoal : List ℕ → (at : ℕ) → Goal
-carriedGoal s at = goal (cond (eqb (getD s at 0) 32) (word s (at + 5)) (word s (at + 3)))
+-- the last of so many roots
+abbrev pub lastRoots : List ℕ → (roots left : ℕ) → List Goal
+lastRoots flat n k = goalsAt flat (firstEntry (n - k)) k
 
--- an entry lies within the file
-pub record EntryInside (s : List ℕ) (at : ℕ) : Type 0 where
-  pub some-entry : at + 5 ≤ length s
-  pub some-use : getD s at 0 ≡ 32 → at + 7 ≤ length s
+abbrev pub pendingIn : (table flat : List ℕ) → (roots : ℕ) → (work : List ℕ) → Pending → List Goal
+pendingIn table flat n w p = waiting table w (p .lists) ++ lastRoots flat n (p .roots)
+
+-- a goal is left of a list, and those that are left lie within the table
+pub record Cursor (table : List ℕ) (place left : ℕ) : Type 0 where
+  pub some-left : 0 < left
+  pub inside : place + left * 2 ≤ length table
+
+-- so it is for every list; the roots lie within the flat file
+pub record Pends (table flat : List ℕ) (roots : ℕ) (work : List ℕ) (p : Pending) : Type 0 where
+  pub cursors : (d : ℕ) → d < p .lists → Cursor table (placeIn work d) (leftIn work d)
+  pub room : cursorsPlace + p .lists * 4 ≤ length work
+  pub few-roots : p .roots ≤ roots
+  pub roots-inside : firstEntry roots ≤ length flat
 
 -- "Each entry must carry the first pending goal."
 unfoldable pub carriesFirst : Goal → (pending : List Goal) → Bool
 carriesFirst γ [] = false
 carriesFirst γ (δ ∷ g) = sameGoal γ δ
 
--- what the walk comes to, by where it stopped: an entry that is wrong, or at the file's end the goals that are still pending
-unfoldable pub walked : (end : ℕ) → (work : List ℕ) → Stop → Result (List Goal)
-walked end work stop = cond (ltb (stop .place) end) (refused entryWrong (stop .place)) (gives (pendingIn work (stop .pending)))
+-- the first goal less
+pub record Passes (table flat : List ℕ) (roots : ℕ) (w w′ : List ℕ) (p r : Pending) : Type 0 where
+  pub others : pendingIn table flat roots w′ r ≡ drop 1 (pendingIn table flat roots w p)
+  pub pends : Pends table flat roots w′ r
+  pub few : r .lists ≤ p .lists
+  pub kept : Kept w w′ cursorsPlace (cursorsPlace + p .lists * 4)
 
--- a table and entries that stand in the two files, within the limit of uses
-pub record Given (table : List ℕ) (rules : ℕ) (flat : List ℕ) (roots : ℕ) (T : Table) (es : List Entry) : Type 0 where
-  pub rules-stand : TableStands table rules T
-  pub entries-stand : EntriesStand flat (firstEntry roots) (length flat) es
-  pub few-uses : usesIn es ≤ mostUses
+-- if it is this goal
+unfoldable pub Takes : (table flat : List ℕ) → (roots : ℕ) → (w w′ : List ℕ) → Pending → Goal → Taken → Type 0
+Takes table flat n w w′ p γ T.Other = (carriesFirst γ (pendingIn table flat n w p) ≡ false) × (w′ ≡ w)
+Takes table flat n w w′ p γ (T.Left r) = (carriesFirst γ (pendingIn table flat n w p) ≡ true) × Passes table flat n w w′ p r
 
--- the most goals that are ever pending: the roots, and seven more for each use. They take 57,856 bytes.
-abbrev pub mostPending : ℕ
-mostPending = mostGoals + 7 * mostUses
+-- the field of a rule of at most eight premises lies within the table
+pub record RuleInside (table : List ℕ) (rule : ℕ) : Type 0 where
+  pub seven : rule + 7 ≤ length table
+  pub least : 4 ≤ word table (rule + 1)
+  pub most : word table (rule + 1) ≤ 20
+  pub inside : rule + 3 + word table (rule + 1) ≤ length table
 
--- they stand there, and a work space of so many bytes holds the pending goals of every such walk
-pub record Ready (table : List ℕ) (rules : ℕ) (flat : List ℕ) (roots space : ℕ) : Type 0 where
-  pub the-table : Table
-  pub the-entries : List Entry
-  pub given : Given table rules flat roots the-table the-entries
-  pub few-roots : roots ≤ mostGoals
-  pub room : mostPending * 2 ≤ space
+-- the premises of a rule more, in front
+pub record Pushes (table flat : List ℕ) (roots : ℕ) (w w′ : List ℕ) (rule : ℕ) (p r : Pending) : Type 0 where
+  pub in-front : pendingIn table flat roots w′ r ≡ goalsAt table (rule + 7) (word table (rule + 1) / 2 - 2) ++ pendingIn table flat roots w p
+  pub pends : Pends table flat roots w′ r
+  pub few : r .lists ≤ p .lists + 1
+  pub kept : Kept w w′ cursorsPlace (cursorsPlace + p .lists * 4 + 4)

@@ -2,12 +2,18 @@
 ghost use mathlib.Core.Path.{_≡_};
 ghost use Prim.Native.Nat.{_≤_};
 ghost use lib.ListN.{length};
+ghost use Rattle.words.specs.Kept.{Kept};
+ghost use Rattle.format.specs.Limits.{mostBytes};
 ghost use Rattle.tables.specs.Tables.{Table};
 ghost use Rattle.tables.specs.Standing.{TableStands};
+ghost use Rattle.index.specs.Build.{RulesIndexed};
 ghost use Rattle.files.specs.Derivations.{Derivation};
 ghost use Rattle.entries.specs.CheckFlat.{checkFlatWork, checkFlatOutcome, checkFlat};
 ghost use Rattle.entries.specs.LentSpace.{countedAnswer};
+ghost use Rattle.derivation.specs.Layout.{indexPlace, cursorsPlace, cursorsEnd};
 ghost use Rattle.derivation.specs.CheckedEntries.{DerivationAt, checkedEntries};
+use crate::layout::INDEX;
+use crate::pending::some_pending;
 use crate::walk::walk;
 use answers::Answer;
 use answers::counted;
@@ -15,15 +21,14 @@ use answers::refusal;
 use files::flats::FlatParts;
 use files::flats::FlatRead;
 use files::flats::read_flat;
+use index::table::read_table;
 use tables::fields::TableRead;
-use tables::table::read_table;
 use words::clear;
-use words::copy_in;
 
 // The length of the work space.
 const WORK: usize = 65536;
 
-// The entries of a flat file that was read: the roots become the pending goals; then the walk. The rules end at `rules`.
+// The entries of a flat file that was read, by a walk. The rules end at `rules`, and are indexed.
 pub fn check_entries(
     table: &[u8],
     rules: usize,
@@ -33,17 +38,17 @@ pub fn check_entries(
 ) -> Answer
     requires { ⌜ ((T : Table) × TableStands (now table) rules T) ⌝ }
     requires { ⌜ ((d : Derivation) × DerivationAt (now flat) parts d) ⌝ }
-    requires { ⌜ checkFlatWork ≤ length (now work) ⌝ }
+    requires { ⌜ (length (now table) ≤ mostBytes) × (cursorsEnd ≤ length (now work)) ⌝ }
+    requires { ⌜ RulesIndexed (now table) rules (now work) indexPlace ⌝ }
     ensures { λ r. ⌜ ((T : Table) (d : Derivation) → TableStands (now (table .entry)) rules T → DerivationAt (now (flat .entry)) parts d → r ≡ checkedEntries T d (length (now (flat .entry)))) ⌝ }
+    ensures kept { λ _. ⌜ Kept (now (work .entry)) (now (work .exit)) cursorsPlace cursorsEnd ⌝ }
 {
-    let size = parts.roots * 2;
-    let top = work.len() - size;
-    copy_in(work, top, flat, 3, size);
     let stop = walk(table, rules, flat, parts.roots, work);
     if stop.place < flat.len() {
         return refusal(27, 2, stop.place, 0);
     }
-    if 0 < stop.pending {
+    let pending = stop.pending;
+    if some_pending(pending) {
         return refusal(27, 2, flat.len(), 0);
     }
     counted(0, parts.uses, parts.opens)
@@ -54,7 +59,7 @@ fn check_within(table: &[u8], flat: &[u8], work: &mut [u8]) -> Answer
     requires { ⌜ checkFlatWork ≤ length (now work) ⌝ }
     ensures { λ r. ⌜ r ≡ countedAnswer (checkFlatOutcome (now (table .entry)) (now (flat .entry))) ⌝ }
 {
-    let read = read_table(table);
+    let read = read_table(table, work, 0, INDEX);
     match read {
         TableRead::Refused(number, place) => refusal(number, 1, place, 0),
         TableRead::Read(_, _, rules) => {

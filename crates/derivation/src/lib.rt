@@ -1,4 +1,6 @@
-// The flat-derivation checker: the walk over the entries, and the entry check_flat.
+// The flat-derivation checker: the pending goals, the walk over the entries, and the entry check_flat.
 // Document 01, "Flat derivations": reading back; 27 of "What the state brings about".
 pub mod check;
+pub mod layout;
+pub mod pending;
 pub mod walk;

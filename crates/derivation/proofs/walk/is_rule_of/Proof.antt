@@ -4,13 +4,9 @@ use mathlib.Core.Path.{_∙_}
 use borrow.Author.Needs.{needs}
 use Rattle.format.specs.Values.{ruleName, goal}
 use Rattle.tables.specs.Found.{isCarried}
+use Rattle.index.specs.Keys.{secondOf, isKey}
 use Rattle.derivation.proofs.walk.is_rule_of.Statement.{statement}
 use Rattle.derivation.proofs.walk.is_rule_of.Tie as tie
-use Rattle.derivation.proofs.walk.is_rule_of.Reads as reads
-use Rattle.derivation.proofs.walk.is_rule_of.Lts as lts
-use Rattle.format.proofs.values.goal_at.Reads as goal-at-reads
-use Rattle.format.proofs.values.rule_name_at.Reads as rule-name-at-reads
-use Rattle.tables.proofs.lookup.carries.Reads as carries-reads
 
 add-rule-name-at : tie.Need-add-rule-name-at
 add-rule-name-at c = search needs
@@ -28,6 +24,7 @@ carries-requires : tie.Need-carries-requires
 carries-requires c κs = search needs
 
 returns : tie.Need-returns
+unfolding isCarried isKey secondOf
 returns c =
     let a = c .before .before .before .before .before .args in
     let n = c .before .before .rule-name-at .ensures in

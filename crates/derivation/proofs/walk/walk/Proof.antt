@@ -1,319 +1,384 @@
--- `walk::walk` meets its contract. The invariant: the walk from the first entry on is the walk from here on over the goals on the stack, and these are at most 256 and seven for each use so far.
--- The inner loop's: what the search finds in the table's rules is what it finds in those from here on.
+-- `walk::walk` meets its contract. The invariant: the walk from the first entry on is the walk from here on over the pending goals, of which there are at most as many lists as uses so far; outside the cursors the work space is as it was.
+-- The inner loop's: the search for the use's name and goal comes to this node.
 -- Assumes nothing.
-use mathlib.Core.Path.{_≡_, refl, sym, subst, ap, _∙_}
-use mathlib.Core.Bool.{Bool, true, false, not}
-use mathlib.Core.Option.{some}
+use mathlib.Core.Path.{_≡_, sym, subst, _∙_}
+use mathlib.Core.Bool.{true, false}
 use mathlib.Core.List.{List}
-use Prim.Native.Nat.{ℕ, _+_, _*_, _-_, _/_, _≤_, _<_}
+use Prim.Native.Nat.{ℕ, _+_, _*_, _-_, _≤_, _<_}
 use native.Mathlib.Omega.{arith}
 use denote.Ref.{now}
 use lib.ListN.{length, getD}
 use borrow.Author.Needs.{needs}
 use Rattle.words.specs.Word.{word}
-use Rattle.format.specs.declared.values.RuleName.{RuleName}
 use Rattle.format.specs.declared.values.Goal.{Goal}
+use Rattle.format.specs.Limits.{mostRules, mostUses}
 use Rattle.format.specs.Results.{Result}
-use Rattle.format.specs.Values.{ruleName, goal}
 use Rattle.format.specs.Goals.{goalsAt}
-use Rattle.tables.specs.Tables.{Rule, Table}
-use Rattle.tables.specs.Lookup.{foundRule, findRuleIn, findRule}
-use Rattle.tables.specs.Standing.{RulesStand, TableStands}
-use Rattle.tables.proofs.LookupLaws as rules
+use Rattle.tables.specs.Tables.{Table}
+use Rattle.index.specs.Keys.{isKey}
+use Rattle.index.specs.Build.{RulesIndexed}
 use Rattle.files.specs.Derivations.{Entry}
+use Rattle.files.proofs.EntryBytes.{entries-end}
 use Rattle.hitac.specs.FlatWalk.{flatWalk}
-use Rattle.derivation.specs.Pending.{pendingIn, EntryInside, carriedGoal, carriesFirst, firstEntry, Given, Ready, mostPending}
-use Rattle.derivation.proofs.WalkLaws.{Reached, here-inside, stack-fits, at-end, entry-inside, not-first, pending-here, goes-open, no-rule, room-for, goes-use}
+use Rattle.derivation.specs.declared.pending.Pending.{Pending}
+use Rattle.derivation.specs.Layout.{indexPlace}
+use Rattle.derivation.specs.Pending.{firstEntry, pendingIn, carriesFirst, Passes, Takes, RuleInside}
+use Rattle.derivation.specs.Walks.{EntryInside, carriedGoal, Given, Ready}
+use Rattle.derivation.proofs.RuleLaws.{indexed-still, Descends, at-first, none-at-all, AtNode, node-few, node-inside, rule-here, rule-inside, rule-found, none-found, goes-down, higher}
+use Rattle.derivation.proofs.WalkLaws.{other-told, left-told, Keeps, keeps-first, keeps-passed, keeps-pushed, Reached, reached-first, here-inside, lists-few, at-end, entry-inside, not-first, goes-open, no-rule, room-for, goes-use}
 use Rattle.derivation.proofs.walk.walk.Statement.{statement}
 use Rattle.derivation.proofs.walk.walk.Tie as tie
 
 abbrev Inv-loop : tie.InvT-loop
-Inv-loop table rules flat roots work at pending rule₀ rule =
-    (T : Table) → TableStands table rules T
-    → (rs : List Rule) × RulesStand table rule rs rules × (findRule T (ruleName (word flat (at + 3))) (goal (word flat (at + 5))) ≡ findRuleIn (ruleName (word flat (at + 3))) (goal (word flat (at + 5))) rs)
+Inv-loop table rules flat roots work at pending node₀ rest₀ node rest = Descends table work (word flat (at + 3)) (word flat (at + 5)) rest node
 
 abbrev μ-loop : tie.MeasureT-loop
-μ-loop table rules flat roots work at pending rule₀ rule = rules - rule
+μ-loop table rules flat roots work at pending node₀ rest₀ node rest = mostRules - node
 
 abbrev Inv-walk : tie.InvT-walk
 Inv-walk table rules flat roots work₀ at₀ pending₀ work at pending =
-    (length work ≡ length work₀)
-    × ((T : Table) (es : List Entry) → Given table rules flat roots T es → Reached T flat (flatWalk T (firstEntry roots) (pendingIn work₀ roots) es) work at pending)
+    Keeps table flat roots work₀ work pending
+    × ((T : Table) (es : List Entry) → Given table rules flat roots T es → Reached T flat (flatWalk T (firstEntry roots) (goalsAt flat 3 roots) es) at (pending .lists) (pendingIn table flat roots work pending))
 
 abbrev μ-walk : tie.MeasureT-walk
 μ-walk table rules flat roots work₀ at₀ pending₀ work at pending = length flat - at
 
--- the places that the answers go back to: the head of the walk's loop, an entry there that carries the first pending goal, the head of the rule scan, a rule, the rule that was found
+-- the places that the answers go back to: the call, the head of the walk's loop, an entry there, what `take` made of its goal, an entry whose goal is not the first pending one, one whose goal was taken, a node on the way to the rule of a use, the rule at that node, and whether it is the one
+abbrev Begun : Type 0
+Begun = tie.Start Inv-loop μ-loop Inv-walk μ-walk
+
 abbrev Head : Type 0
 Head = tie.At-walk Inv-loop μ-loop Inv-walk μ-walk
 
-abbrev Carried : Type 0
-Carried = tie.Else2 Inv-loop μ-loop Inv-walk μ-walk
+abbrev Here : Type 0
+Here = tie.Else1 Inv-loop μ-loop Inv-walk μ-walk
 
-abbrev Scanning : Type 0
-Scanning = tie.At-loop Inv-loop μ-loop Inv-walk μ-walk
+abbrev Tried : Type 0
+Tried = tie.After-take Inv-loop μ-loop Inv-walk μ-walk
+
+abbrev Refused : Type 0
+Refused = tie.After-enum-told Inv-loop μ-loop Inv-walk μ-walk
+
+abbrev Passed : Type 0
+Passed = tie.After-shared-slice-known3 Inv-loop μ-loop Inv-walk μ-walk
+
+abbrev Node : Type 0
+Node = tie.At-loop Inv-loop μ-loop Inv-walk μ-walk
 
 abbrev Compared : Type 0
-Compared = tie.Else4 Inv-loop μ-loop Inv-walk μ-walk
+Compared = tie.After-is-rule-of Inv-loop μ-loop Inv-walk μ-walk
 
 abbrev Hit : Type 0
-Hit = tie.Then5 Inv-loop μ-loop Inv-walk μ-walk
+Hit = tie.Then4 Inv-loop μ-loop Inv-walk μ-walk
+
+abbrev Missed : Type 0
+Missed = tie.Else4 Inv-loop μ-loop Inv-walk μ-walk
 
 module _ (w : Head) where
   abbrev table : List ℕ
-  table = w .before .before .before .before .args .table .now
+  table = now (w .before .before .before .before .args .table)
 
   abbrev rulesEnd : ℕ
   rulesEnd = w .before .before .before .before .args .rules
 
   abbrev flat : List ℕ
-  flat = w .before .before .before .before .args .flat .now
+  flat = now (w .before .before .before .before .args .flat)
 
   abbrev roots : ℕ
   roots = w .before .before .before .before .args .roots
 
-  abbrev pre : Ready table rulesEnd flat roots (length (w .before .before .before .before .args .work .now))
+  abbrev begun : List ℕ
+  begun = now (w .before .before .before .before .args .work)
+
+  abbrev pre : Ready table rulesEnd flat roots begun
   pre = w .before .before .before .before .pre
 
-  abbrev whole : Table → List Entry → Result (List Goal)
-  whole T es = flatWalk T (firstEntry roots) (pendingIn (w .before .before .before .before .args .work .now) roots) es
+  abbrev at : ℕ
+  at = w .walk .at
+
+  abbrev pending : List Goal
+  pending = pendingIn table flat roots (w .walk .work) (w .walk .pending)
 
   abbrev Holds : Table → List Entry → Type 0
-  Holds T es = Reached T flat (whole T es) (w .walk .work) (w .walk .at) (w .walk .pending)
+  Holds T es = Reached T flat (flatWalk T (firstEntry roots) (goalsAt flat 3 roots) es) at (w .walk .pending .lists) pending
 
   abbrev reached : Holds (pre .the-table) (pre .the-entries)
   reached = w .walk .inv .1 (pre .the-table) (pre .the-entries) (pre .given)
 
-  within : w .walk .at ≤ length flat
+  within : at ≤ length flat
   within = here-inside _ _ _ _ _ _ reached
 
-  room : mostPending * 2 ≤ length (w .walk .work)
-  room = omega (arith, pre .room, w .walk .inv .0)
+-- an entry
+module _ (c : Here) where
+  abbrev head : Head
+  head = c .before
 
-  fits : w .walk .pending * 2 ≤ length (w .walk .work)
-  fits = stack-fits _ _ _ _ _ _ reached (length (w .walk .work)) room
+  more : at head < length (flat head)
+  more = c .if1 .left
 
--- a test that was negated
-negated : (b v : Bool) → not b ≡ v → b ≡ not v
-negated true v e = ap not e
-negated false v e = ap not e
+  inside : EntryInside (flat head) (at head)
+  inside = entry-inside _ _ _ _ _ _ (reached head) more
 
-abbrev head : Carried → Head
-head c = c .before .before .before .before
+module _ (c : Tried) where
+  abbrev entry : Here
+  entry = c .before .before .before
 
--- an entry that carries the first pending goal
-module _ (c : Carried) where
-  more : head c .walk .at < length (flat (head c))
-  more = c .before .before .before .if1 .left
+  abbrev space : List ℕ
+  space = c .take .last .1 .1 .1 .0
 
-  carried : carriesFirst (carriedGoal (flat (head c)) (head c .walk .at)) (pendingIn (head c .walk .work) (head c .walk .pending)) ≡ true
-  carried = sym (c .before .carries-first .ensures) ∙ negated _ false (c .if2 .left)
+  takes : Takes (table (head entry)) (flat (head entry)) (roots (head entry)) (head entry .walk .work) space (head entry .walk .pending) (carriedGoal (flat (head entry)) (at (head entry))) (c .take .result)
+  takes = subst (λ (γ : Goal). Takes (table (head entry)) (flat (head entry)) (roots (head entry)) (head entry .walk .work) space (head entry .walk .pending) γ (c .take .result)) (c .before .before .carried-goal .ensures) (c .take .ensures)
 
-  some-goal : 0 < head c .walk .pending
-  some-goal = pending-here _ _ _ _ _ _ (reached (head c)) more carried
+-- the entry carries the first pending goal, which was taken off
+module _ (c : Passed) where
+  abbrev tried : Tried
+  tried = c .before .before .before .before .before .before
 
-  inside : EntryInside (flat (head c)) (head c .walk .at)
-  inside = entry-inside _ _ _ _ _ _ (reached (head c)) more
+  abbrev first : Here
+  first = entry tried
+
+  abbrev start : Head
+  start = head first
+
+  abbrev left : Pending
+  left = c .before .before .others .given .0 .0
+
+  told : (carriesFirst (carriedGoal (flat start) (at start)) (pending start) ≡ true) × Passes (table start) (flat start) (roots start) (start .walk .work) (space tried) (start .walk .pending) left
+  told = left-told _ _ _ _ _ _ _ _ (takes tried) _ (c .before .before .others .given .1)
+
+  keeps : Keeps (table start) (flat start) (roots start) (begun start) (space tried) left
+  keeps = keeps-passed _ _ _ _ _ _ _ _ (start .walk .inv .0) (tried .take .kept .1 .1 .1 .0) (lists-few _ _ _ _ _ _ (reached start)) (told .1)
+
+  indexed : RulesIndexed (table start) (rulesEnd start) (space tried) indexPlace
+  indexed = indexed-still _ _ _ _ (keeps .size) (keeps .kept) (pre start .indexed)
+
+-- the roots lie within the flat file
+roots-inside : (i : Begun) → firstEntry (i .args .roots) ≤ length (now (i .args .flat))
+roots-inside i = omega (arith, entries-end _ _ _ _ (i .pre .given .entries-stand))
 
 mul-at : tie.Need-mul-at Inv-loop μ-loop Inv-walk μ-walk
-mul-at c = omega (arith, c .before .before .before .pre .few-roots)
+mul-at c = omega (arith, roots-inside (c .before .before .before), c .before .before .before .good)
 
 add-at : tie.Need-add-at Inv-loop μ-loop Inv-walk μ-walk
-add-at c = omega (arith, c .before .before .before .pre .few-roots)
+add-at c = omega (arith, roots-inside (c .before .before .before), c .before .before .before .good)
 
 walk-holds : tie.Need-walk-holds Inv-loop μ-loop Inv-walk μ-walk
-walk-holds c =
-    let p = c .before .before .before .pre in
-    (refl, λ T es g. record { rest = es; stand = g .entries-stand; same = refl; used = 0; few = omega (arith, g .few-uses); bound = omega (arith, p .few-roots) })
+walk-holds c = let i = c .before .before .before in (keeps-first _ _ _ _ (roots-inside i) (i .pre .room), λ T es g. reached-first _ _ _ _ _ T es g)
 
-carries-first-requires : tie.Need-carries-first-requires Inv-loop μ-loop Inv-walk μ-walk
-carries-first-requires c κs =
-    let w = c .before .before in
-    (entry-inside _ _ _ _ _ _ (reached w) (c .before .if1 .left), fits w)
+carried-goal-requires : tie.Need-carried-goal-requires Inv-loop μ-loop Inv-walk μ-walk
+carried-goal-requires c κs = inside c
 
-shared-slice-read-if3 : tie.Need-shared-slice-read-if3 Inv-loop μ-loop Inv-walk μ-walk
-shared-slice-read-if3 c = more (c .before)
+take-requires : tie.Need-take-requires Inv-loop μ-loop Inv-walk μ-walk
+take-requires c κs = let w = c .before .before .before in (w .walk .inv .0 .pends, pre w .short)
+
+enum-known-others : tie.Need-enum-known-others Inv-loop μ-loop Inv-walk μ-walk
+enum-known-others c = search needs
+
+enum-told : tie.Need-enum-told Inv-loop μ-loop Inv-walk μ-walk
+enum-told c = search needs
+
+shared-slice-read-if2 : tie.Need-shared-slice-read-if2 Inv-loop μ-loop Inv-walk μ-walk
+shared-slice-read-if2 c = more (first c)
 
 add-at-2 : tie.Need-add-at-2 Inv-loop μ-loop Inv-walk μ-walk
-add-at-2 c = omega (arith, inside (c .before .before), c .before .before .before .before .before .before .before .before .before .before .good)
-
-sub-pending : tie.Need-sub-pending Inv-loop μ-loop Inv-walk μ-walk
-sub-pending c = omega (arith, some-goal (c .before .before))
+add-at-2 c = omega (arith, inside (first (c .before)), c .before .before .before .before .before .before .before .before .before .before .before .before .before .before .before .good)
 
 walk-less : tie.Need-walk-less Inv-loop μ-loop Inv-walk μ-walk
-walk-less c = omega (arith, more (c .before .before))
+walk-less c = omega (arith, more (first (c .before)))
 
 walk-again : tie.Need-walk-again Inv-loop μ-loop Inv-walk μ-walk
 walk-again c =
-    let e = c .before .before in
-    let w = head e in
-    (w .walk .inv .0, λ T es g. goes-open _ _ _ _ _ _ (w .walk .inv .1 T es g) (more e) (carried e) (c .if3 .taken) (fits w))
+    let p = c .before in
+    let t = told p in
+    (keeps p, λ T es g. goes-open _ _ _ _ _ _ (start p .walk .inv .1 T es g) (more (first p)) (t .0) (c .if2 .taken) _ _ (t .1 .few) (t .1 .others))
+
+digits-at-requires : tie.Need-digits-at-requires Inv-loop μ-loop Inv-walk μ-walk
+digits-at-requires c κs = inside (first (c .before .before)) .some-use (c .before .if2 .left)
 
 loop-holds : tie.Need-loop-holds Inv-loop μ-loop Inv-walk μ-walk
-unfolding findRule
-loop-holds c = λ T st. (T .rules, st .rules-stand, refl)
+loop-holds c = at-first _ _ _ _ _ (c .digits-at .ensures)
 
--- the use whose rule is looked for
-module _ (l : Scanning) where
-  abbrev the-entry : Carried
-  the-entry = l .before .before .before
+-- a node on the way down to the rule of the use
+module _ (c : Node) where
+  abbrev the-use : Passed
+  the-use = c .before .before .before .before
 
-  abbrev name : RuleName
-  name = ruleName (word (flat (head the-entry)) (head the-entry .walk .at + 3))
+  abbrev begin : Head
+  begin = start the-use
 
-  abbrev on : Goal
-  on = goal (word (flat (head the-entry)) (head the-entry .walk .at + 5))
+  abbrev name : ℕ
+  name = word (flat begin) (at begin + 3)
 
-  is-use : getD (flat (head the-entry)) (head the-entry .walk .at) 0 ≡ 32
-  is-use = l .before .if3 .left
+  abbrev on : ℕ
+  on = word (flat begin) (at begin + 5)
 
--- the rule's field at this place
-abbrev scan : Compared → Scanning
-scan c = c .before
+  is-use : getD (flat begin) (at begin) 0 ≡ 32
+  is-use = c .before .before .before .if2 .left
 
-field : (c : Compared) → rules.RuleBounds (table (head (the-entry (scan c)))) (scan c .loop .rule) (rulesEnd (head (the-entry (scan c))))
-field c =
-    let l = scan c in
-    let p = pre (head (the-entry l)) in
-    let i = l .loop .inv (p .the-table) (p .given .rules-stand) in
-    rules.rule-bounds _ (i .0) _ _ (i .1) (c .if4 .left)
+  at-node : AtNode (table begin) (rulesEnd begin) (space (tried the-use)) name on (c .loop .rest) (c .loop .node)
+  at-node = record { indexed = indexed the-use; the-table = pre begin .the-table; stands = pre begin .given .rules-stand; some-rule = c .before .before .if3 .left; way = c .loop .inv }
+
+mul-load16 : tie.Need-mul-load16 Inv-loop μ-loop Inv-walk μ-walk
+mul-load16 c = omega (arith, node-few (at-node (c .before)))
 
 add-load16 : tie.Need-add-load16 Inv-loop μ-loop Inv-walk μ-walk
-add-load16 c = omega (arith, field c, c .before .before .before .before .before .before .before .before .before .before .before .before .good)
+add-load16 c = omega (arith, node-few (at-node (c .before)))
 
 load16-requires : tie.Need-load16-requires Inv-loop μ-loop Inv-walk μ-walk
-load16-requires c κs = omega (arith, field c)
+load16-requires c κs = omega (arith, node-inside (at-node (c .before)))
 
-cast-len : tie.Need-cast-len Inv-loop μ-loop Inv-walk μ-walk
-cast-len c = search needs
+cast-place : tie.Need-cast-place Inv-loop μ-loop Inv-walk μ-walk
+cast-place c = search needs
 
 is-rule-of-requires : tie.Need-is-rule-of-requires Inv-loop μ-loop Inv-walk μ-walk
-is-rule-of-requires c κs = let l = c .before .before in (field (c .before) .seven, inside (the-entry l) .some-use (is-use l))
+is-rule-of-requires c κs =
+    let n = c .before .before in
+    (rule-here (at-node n) _ (c .load16 .ensures), inside (first (the-use n)) .some-use (is-use n))
 
-sub-count : tie.Need-sub-count Inv-loop μ-loop Inv-walk μ-walk
-sub-count c = omega (arith, field (c .before .before .before), c .before .before .load16 .ensures)
+mul-link : tie.Need-mul-link Inv-loop μ-loop Inv-walk μ-walk
+mul-link c = omega (arith, node-few (at-node (c .before .before .before .before .before)))
 
-add-rule : tie.Need-add-rule Inv-loop μ-loop Inv-walk μ-walk
-add-rule c = omega (arith, field (c .before .before .before), c .before .before .load16 .ensures)
+add-link : tie.Need-add-link Inv-loop μ-loop Inv-walk μ-walk
+add-link c = omega (arith, node-few (at-node (c .before .before .before .before .before)))
 
-add-rule-2 : tie.Need-add-rule-2 Inv-loop μ-loop Inv-walk μ-walk
-add-rule-2 c = omega (arith, field (c .before .before .before), c .before .before .load16 .ensures, c .before .before .before .before .before .before .before .before .before .before .before .before .before .before .before .good)
+link-requires : tie.Need-link-requires Inv-loop μ-loop Inv-walk μ-walk
+link-requires c κs = omega (arith, node-inside (at-node (c .before .before .before .before .before)))
+
+-- the rule at a node was compared
+module _ (c : Compared) where
+  abbrev node : Node
+  node = c .before .before .before
+
+  abbrev place : ℕ
+  place = c .before .load16 .result
+
+  read : place ≡ word (space (tried (the-use node))) (indexPlace + node .loop .node * 5)
+  read = c .before .load16 .ensures
+
+-- it has another name or goal
+module _ (c : Missed) where
+  abbrev missed : Compared
+  missed = c .before
+
+  other-key : isKey 6 (table (begin (node missed))) (name (node missed)) (on (node missed)) (place missed) ≡ false
+  other-key = sym (missed .is-rule-of .ensures) ∙ c .if4 .left
 
 loop-less : tie.Need-loop-less Inv-loop μ-loop Inv-walk μ-walk
-loop-less c = omega (arith, c .before .before .before .if4 .left)
+loop-less c =
+    let m = c .before .before .before in
+    omega (arith, higher (at-node (node (missed m))) (place (missed m)) (read (missed m)) (other-key m) _ (c .before .link .ensures) (c .if5 .left))
 
 loop-again : tie.Need-loop-again Inv-loop μ-loop Inv-walk μ-walk
-loop-again c = λ T st.
-    let i = c .before .before .before .before .loop .inv T st in
-    let n = rules.next-rule _ _ _ (i .0) _ _ (i .1) (c .before .before .before .if4 .left) (sym (c .before .is-rule-of .ensures) ∙ c .if5 .left) in
-    (n .0, rw (c .before .before .load16 .ensures) (n .1), i .2 ∙ n .2)
+loop-again c =
+    let m = c .before .before .before in
+    goes-down (at-node (node (missed m))) (place (missed m)) (read (missed m)) (other-key m) _ (c .before .link .ensures) (c .if5 .left)
 
--- the rule that was found: its premises lie within the table, and there is room for them
-record Premises (table : List ℕ) (rule count pending space : ℕ) : Type 0 where
-  few : count ≤ 8
-  within-table : rule + 7 + count * 2 ≤ length table
-  room-there : (pending - 1 + count) * 2 ≤ space
-
+-- it is the rule of the use
 module _ (c : Hit) where
-  abbrev the-scan : Scanning
-  the-scan = c .before .before .before .before
+  abbrev hit : Compared
+  hit = c .before
 
-  abbrev the-use : Carried
-  the-use = the-entry the-scan
+  abbrev applied : Passed
+  applied = the-use (node hit)
 
-  abbrev the-head : Head
-  the-head = head the-use
+  abbrev origin : Head
+  origin = start applied
 
-  abbrev count : ℕ
-  count = c .before .before .load16 .result / 2 - 2
+  is-key : isKey 6 (table origin) (name (node hit)) (on (node hit)) (place hit) ≡ true
+  is-key = sym (hit .is-rule-of .ensures) ∙ c .if4 .taken
 
-  found : (T : Table) → TableStands (table the-head) (rulesEnd the-head) T → findRule T (name the-scan) (on the-scan) ≡ some (foundRule (goalsAt (table the-head) (the-scan .loop .rule + 7) count))
-  found T st =
-      let i = the-scan .loop .inv T st in
-      i .2
-      ∙ rules.this-rule _ _ _ (i .0) _ _ (i .1) (c .before .before .before .if4 .left) (sym (c .before .is-rule-of .ensures) ∙ c .if5 .taken)
-      ∙ ap (λ (k : ℕ). some (foundRule (goalsAt (table the-head) (the-scan .loop .rule + 7) (k / 2 - 2)))) (sym (c .before .before .load16 .ensures))
+  rule-fits : RuleInside (table origin) (place hit)
+  rule-fits = rule-inside (at-node (node hit)) (place hit) (read hit) is-key
 
-  premises : Premises (table the-head) (the-scan .loop .rule) count (the-head .walk .pending) (length (the-head .walk .work))
-  premises =
-      let f = field (c .before .before .before) in
-      let len = c .before .before .load16 .ensures in
-      let few : count ≤ 8 = omega (arith, f, len) in
-      record {
-        few = few;
-        within-table = omega (arith, f, len);
-        room-there = room-for _ _ _ _ _ _ (reached the-head) (more the-use) (carried the-use) (is-use the-scan) count (length (the-head .walk .work)) few (room the-head);
-      }
+  one-more : left applied .lists < mostUses
+  one-more = omega (arith, told applied .1 .few, room-for _ _ _ _ _ _ (reached origin) (more (first applied)) (told applied .0) (is-use (node hit)))
+
+push-requires : tie.Need-push-requires Inv-loop μ-loop Inv-walk μ-walk
+push-requires c κs =
+    let h = c .before in
+    let s = origin h in
+    (rule-fits h, pre s .short, omega (arith, one-more h, pre s .room, keeps (applied h) .size))
 
 add-at-3 : tie.Need-add-at-3 Inv-loop μ-loop Inv-walk μ-walk
-add-at-3 c = omega (arith, inside (the-use c) .some-use (is-use (the-scan c)), c .before .before .before .before .before .before .before .before .before .before .before .before .before .before .before .good)
-
-sub-pending-2 : tie.Need-sub-pending-2 Inv-loop μ-loop Inv-walk μ-walk
-sub-pending-2 c = omega (arith, some-goal (the-use c))
-
-add-pending : tie.Need-add-pending Inv-loop μ-loop Inv-walk μ-walk
-add-pending c = let r = reached (the-head c) in omega (arith, premises c, r .few, r .bound)
-
-mul-top : tie.Need-mul-top Inv-loop μ-loop Inv-walk μ-walk
-mul-top c = let r = reached (the-head c) in omega (arith, premises c, r .few, r .bound)
-
-sub-top : tie.Need-sub-top Inv-loop μ-loop Inv-walk μ-walk
-sub-top c = omega (arith, premises c, room (the-head c))
-
-add-copy-in : tie.Need-add-copy-in Inv-loop μ-loop Inv-walk μ-walk
-add-copy-in c = omega (arith, premises (c .before), c .before .before .before .before .before .before .before .before .before .before .before .before .before .before .before .before .good)
-
-mul-copy-in : tie.Need-mul-copy-in Inv-loop μ-loop Inv-walk μ-walk
-mul-copy-in c = omega (arith, premises (c .before))
-
-copy-in-requires : tie.Need-copy-in-requires Inv-loop μ-loop Inv-walk μ-walk
-copy-in-requires c κs = let p = premises (c .before) in (p .within-table, omega (arith, p, some-goal (the-use (c .before)), room (the-head (c .before))))
+add-at-3 c =
+    let h = c .before .before .before .before in
+    omega (arith, inside (first (applied h)) .some-use (is-use (node (hit h))), c .before .before .before .before .before .before .before .before .before .before .before .before .before .before .before .before .before .before .before .before .before .before .before .before .before .before .good)
 
 walk-less-2 : tie.Need-walk-less-2 Inv-loop μ-loop Inv-walk μ-walk
-walk-less-2 c = omega (arith, more (the-use (c .before .before .before .before)))
+walk-less-2 c = omega (arith, more (first (applied (c .before .before .before .before))))
 
 walk-again-2 : tie.Need-walk-again-2 Inv-loop μ-loop Inv-walk μ-walk
 walk-again-2 c =
     let h = c .before .before .before .before in
-    let l = the-scan h in
-    let e = the-use h in
-    let w = the-head h in
-    let p = premises h in (
-      c .before .before .copy-in .kept .0 ∙ w .walk .inv .0,
-      λ T es g. subst (λ (x : List ℕ). Reached T (flat w) (whole w T es) x (w .walk .at + 7) (w .walk .pending - 1 + count h))
-          (sym (c .before .before .copy-in .ensures))
-          (goes-use T (flat w) (whole w T es) (w .walk .work) _ _ (w .walk .inv .1 T es g) (more e) (carried e) (is-use l) (table w) (l .loop .rule) (count h) (found h T (g .rules-stand)) (p .few) (p .within-table) (room w)),
+    let p = applied h in
+    let t = told p in
+    let push = c .before .before .push in
+    let pushes = push .ensures _ _ (keeps p .pends) in (
+      keeps-pushed _ _ _ _ _ _ _ _ (keeps p) (push .kept .1 .1 .0) _ (one-more h) pushes,
+      λ T es g. goes-use _ _ _ _ _ _ (origin h .walk .inv .1 T es g) (more (first p)) (t .0) (is-use (node (hit h))) _ _ _ _
+          (rule-found (at-node (node (hit h))) (place (hit h)) (read (hit h)) (is-key h) T (g .rules-stand)) (t .1 .others) (pushes .in-front) (omega (arith, pushes .few, t .1 .few)),
     )
 
 same-length : tie.Need-same-length Inv-loop μ-loop Inv-walk μ-walk
-same-length c = c .before .walk .inv .0
+same-length c = c .before .walk .inv .0 .size
 
 returns : tie.Need-returns Inv-loop μ-loop Inv-walk μ-walk
 returns c =
     let w = c .before in
-    (λ T es g. at-end _ _ _ _ _ _ (w .walk .inv .1 T es g) (c .if1 .taken), within w)
+    record { result = λ T es g. at-end _ _ _ _ _ _ (w .walk .inv .1 T es g) (c .if1 .taken); inside = within w; pends = w .walk .inv .0 .pends; kept = w .walk .inv .0 .kept }
+
+-- another goal is the first, or none is pending: the work space is as it was
+module _ (c : Refused) where
+  abbrev refused : Tried
+  refused = c .before .before .before .before
+
+  abbrev stopped : Head
+  stopped = head (entry refused)
+
+  other : (carriesFirst (carriedGoal (flat stopped) (at stopped)) (pending stopped) ≡ false) × (space refused ≡ stopped .walk .work)
+  other = other-told _ _ _ _ _ _ _ _ (takes refused) (c .enum-told .given .1)
+
+  kept-all : Keeps (table stopped) (flat stopped) (roots stopped) (begun stopped) (space refused) (stopped .walk .pending)
+  kept-all = subst (λ (v : List ℕ). Keeps (table stopped) (flat stopped) (roots stopped) (begun stopped) v (stopped .walk .pending)) (sym (other .1)) (stopped .walk .inv .0)
 
 same-length-2 : tie.Need-same-length-2 Inv-loop μ-loop Inv-walk μ-walk
-same-length-2 c = c .before .before .before .before .walk .inv .0
+same-length-2 c = kept-all c .size
 
 returns-2 : tie.Need-returns-2 Inv-loop μ-loop Inv-walk μ-walk
 returns-2 c =
-    let w = c .before .before .before .before in
-    (λ T es g. not-first _ _ _ _ _ _ (w .walk .inv .1 T es g) (c .before .before .before .if1 .left) (sym (c .before .carries-first .ensures) ∙ negated _ true (c .if2 .taken)), within w)
+    let w = stopped c in
+    record { result = λ T es g. not-first _ _ _ _ _ _ (w .walk .inv .1 T es g) (more (entry (refused c))) (other c .0) _; inside = within w; pends = kept-all c .pends; kept = kept-all c .kept }
 
 same-length-3 : tie.Need-same-length-3 Inv-loop μ-loop Inv-walk μ-walk
-same-length-3 c = c .before .before .before .before .before .before .before .before .walk .inv .0
+same-length-3 c = keeps (c .before .before) .size
 
 returns-3 : tie.Need-returns-3 Inv-loop μ-loop Inv-walk μ-walk
 returns-3 c =
-    let l = c .before in
-    let e = the-entry l in
-    let w = head e in (
-      λ T es g.
-          let i = l .loop .inv T (g .rules-stand) in
-          no-rule T (flat w) (whole w T es) (w .walk .work) _ _ (w .walk .inv .1 T es g) (more e) (carried e) (is-use l) (i .2 ∙ rules.no-rule _ _ _ (i .0) _ _ (i .1) (c .if4 .taken)),
-      within w,
-    )
+    let p = c .before .before in
+    let w = start p in
+    record {
+      result = λ T es g. no-rule _ _ _ _ _ _ (w .walk .inv .1 T es g) (more (first p)) (told p .0) (c .before .if2 .left) (none-at-all _ _ _ (indexed p) (c .if3 .taken) _ _ T (g .rules-stand)) _;
+      inside = within w;
+      pends = keeps p .pends;
+      kept = keeps p .kept;
+    }
+
+same-length-4 : tie.Need-same-length-4 Inv-loop μ-loop Inv-walk μ-walk
+same-length-4 c = keeps (c .before .before .before .before .before .before .before .before .before .before .before) .size
+
+returns-4 : tie.Need-returns-4 Inv-loop μ-loop Inv-walk μ-walk
+returns-4 c =
+    let m = c .before .before .before in
+    let n = node (missed m) in
+    let p = the-use n in
+    let w = start p in
+    record {
+      result = λ T es g. no-rule _ _ _ _ _ _ (w .walk .inv .1 T es g) (more (first p)) (told p .0) (is-use n)
+          (none-found (at-node n) (place (missed m)) (read (missed m)) (other-key m) _ (c .before .link .ensures) (c .if5 .taken) T (g .rules-stand)) _;
+      inside = within w;
+      pends = keeps p .pends;
+      kept = keeps p .kept;
+    }
 
 pub walk-spec : {M : Type 1} → statement M
 walk-spec =
@@ -326,30 +391,28 @@ walk-spec =
     mul-at
     add-at
     walk-holds
-    carries-first-requires
-    shared-slice-read-if3
+    carried-goal-requires
+    take-requires
+    enum-known-others
+    enum-told
+    shared-slice-read-if2
     add-at-2
-    sub-pending
     walk-less
     walk-again
+    digits-at-requires
     loop-holds
+    mul-load16
     add-load16
     load16-requires
-    cast-len
+    cast-place
     is-rule-of-requires
-    sub-count
-    add-rule
-    add-rule-2
+    mul-link
+    add-link
+    link-requires
     loop-less
     loop-again
+    push-requires
     add-at-3
-    sub-pending-2
-    add-pending
-    mul-top
-    sub-top
-    add-copy-in
-    mul-copy-in
-    copy-in-requires
     walk-less-2
     walk-again-2
     same-length
@@ -357,4 +420,6 @@ walk-spec =
     same-length-2
     returns-2
     same-length-3
-    returns-3)
+    returns-3
+    same-length-4
+    returns-4)
