@@ -7,7 +7,7 @@ use mathlib.Core.List.{List, [], _∷_, _++_, append-assoc}
 use Prim.Native.Nat.{ℕ, zero, suc, _+_, _*_, _-_, _/_, _≤_, _<_}
 use native.Mathlib.Numerals.{add-one}
 use native.Mathlib.Omega.{arith}
-use lib.Dec.{eqb, ltb}
+use lib.Dec.{ltb}
 use lib.ListN.{length, drop}
 use borrow.Author.Tests.{ltb-true, ltb-false, eq-eqb, ne-eqb}
 use Rattle.words.specs.Word.{word, putWord}
@@ -20,7 +20,7 @@ use Rattle.format.specs.Goals.{goalsAt}
 use Rattle.derivation.specs.declared.pending.Pending.{Pending}
 use Rattle.derivation.specs.declared.pending.Taken.the-variants as T
 use Rattle.derivation.specs.Layout.{cursorsPlace}
-use Rattle.derivation.specs.Pending.{placeIn, leftIn, waiting, firstEntry, lastRoots, pendingIn, Cursor, Pends, carriesFirst, Passes, Takes, RuleInside, Pushes}
+use Rattle.derivation.specs.Pending.{placeIn, leftIn, waiting, firstEntry, lastRoots, pendingIn, Cursor, Pends, carriesFirst, Takes, RuleInside, Pushes}
 
 split : (i k : ℕ) → (i < k) ⊎ (k ≤ i)
 split i k = go (ltb i k) refl

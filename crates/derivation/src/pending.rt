@@ -1,4 +1,4 @@
-// The pending goals, without room for a goal: first those of lists of premises, which stand in the table; then roots, which stand in the flat file. Of each list that is not used up a cursor stands in the work space: the place of its first goal and how many are left, two bytes each, the first pending list last.
+// The pending goals: first those of lists of premises, which stand in the table; then roots, which stand in the flat file. No goal is copied: of each list that is not used up a cursor stands in the work space, the place of its first goal and how many are left, two bytes each. The first pending list has the last cursor.
 ghost use mathlib.Core.Path.{_≡_};
 ghost use mathlib.Core.List.{List};
 ghost use Prim.Native.Nat.{ℕ, _+_, _*_, _≤_};
@@ -29,13 +29,13 @@ pub fn some_pending(pending: Pending) -> bool
     0 < pending.roots
 }
 
-// What is left without a goal: nothing to say where the first pending goal is another, or there is none.
+// What comes of taking a goal off: the first pending goal is another, or there is none; or what is left without it.
 pub enum Taken {
     Other,
     Left(Pending),
 }
 
-// Takes a goal off, if it is the first pending one. There were `roots` roots at first.
+// Takes a goal off, if it is the first pending one. The flat file has `roots` roots.
 pub fn take(
     table: &[u8],
     flat: &[u8],

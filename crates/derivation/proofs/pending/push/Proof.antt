@@ -1,7 +1,7 @@
 -- `pending::push` meets its contract: nothing for a rule without premises, else a cursor more.
 -- Assumes nothing.
-use Rattle.derivation.proofs.PendingLaws.{push-none, push-list}
 use borrow.Author.Needs.{needs}
+use Rattle.derivation.proofs.PendingLaws.{push-none, push-list}
 use Rattle.derivation.proofs.pending.push.Statement.{statement}
 use Rattle.derivation.proofs.pending.push.Tie as tie
 

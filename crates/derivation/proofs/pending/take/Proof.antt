@@ -4,8 +4,8 @@ use Prim.Native.Nat.{_+_, _*_, _≤_}
 use native.Mathlib.Omega.{arith}
 use denote.Ref.{now}
 use lib.ListN.{length}
-use Rattle.derivation.proofs.PendingLaws.{none-taken, other-root, root-taken, goal-inside, other-listed, last-taken, two-left, one-taken}
 use borrow.Author.Needs.{needs}
+use Rattle.derivation.proofs.PendingLaws.{none-taken, other-root, root-taken, goal-inside, other-listed, last-taken, two-left, one-taken}
 use Rattle.derivation.proofs.pending.take.Statement.{statement}
 use Rattle.derivation.proofs.pending.take.Tie as tie
 
@@ -70,11 +70,15 @@ same-length-2 : tie.Need-same-length-2
 same-length-2 c = search needs
 
 returns-5 : tie.Need-returns-5
-returns-5 c = last-taken _ _ _ _ _ (c .before .before .before .before .before .before .before .before .before .before .before .before .before .before .before .before .pre .0) (c .before .before .before .before .before .before .before .before .before .before .before .if1 .left) _ (c .before .before .before .before .before .before .before .before .load16 .ensures) _ _ (c .before .before .before .before .before .before .before .goal-at2 .ensures) (c .before .before .before .before .if4 .left) _ (c .before .before .load162 .ensures) (c .before .if5 .taken)
+returns-5 c =
+    let s = c .before .before .before .before in
+    last-taken _ _ _ _ _ (s .before .before .before .before .before .before .before .before .before .before .before .before .pre .0) (s .before .before .before .before .before .before .before .if1 .left) _ (s .before .before .before .before .load16 .ensures) _ _ (s .before .before .before .goal-at2 .ensures) (s .if4 .left) _ (c .before .before .load162 .ensures) (c .before .if5 .taken)
 
 -- more than one goal is left of the last list
 more : (c : tie.Else5) → (2 ≤ c .before .load162 .result) × (c .before .before .before .before .before .before .before .load16 .result + c .before .load162 .result * 2 ≤ length (now (c .before .before .before .before .before .before .before .before .before .before .before .before .before .before .before .args .table)))
-more c = two-left _ _ _ _ _ (c .before .before .before .before .before .before .before .before .before .before .before .before .before .before .before .pre .0) (c .before .before .before .before .before .before .before .before .before .before .if1 .left) _ (c .before .before .before .before .before .before .before .load16 .ensures) _ _ (c .before .before .before .before .before .before .goal-at2 .ensures) (c .before .before .before .if4 .left) _ (c .before .load162 .ensures) (c .if5 .left)
+more c =
+    let s = c .before .before .before in
+    two-left _ _ _ _ _ (s .before .before .before .before .before .before .before .before .before .before .before .before .pre .0) (s .before .before .before .before .before .before .before .if1 .left) _ (s .before .before .before .before .load16 .ensures) _ _ (s .before .before .before .goal-at2 .ensures) (s .if4 .left) _ (c .before .load162 .ensures) (c .if5 .left)
 
 add-store16 : tie.Need-add-store16
 add-store16 c = omega (arith, more (c .before), c .before .before .before .before .before .before .before .before .before .before .before .before .before .before .before .before .pre .1)
@@ -95,7 +99,10 @@ same-length-3 : tie.Need-same-length-3
 same-length-3 c = search needs
 
 returns-6 : tie.Need-returns-6
-returns-6 c = one-taken _ _ _ _ _ (c .before .before .before .before .before .before .before .before .before .before .before .before .before .before .before .before .before .before .before .before .before .before .before .pre .0) (c .before .before .before .before .before .before .before .before .before .before .before .before .before .before .before .before .before .before .if1 .left) _ (c .before .before .before .before .before .before .before .before .before .before .before .before .before .before .before .load16 .ensures) _ _ (c .before .before .before .before .before .before .before .before .before .before .before .before .before .before .goal-at2 .ensures) (c .before .before .before .before .before .before .before .before .before .before .before .if4 .left) _ (c .before .before .before .before .before .before .before .before .before .load162 .ensures) (c .before .before .before .before .before .before .before .before .if5 .left) _ _ (c .before .before .before .before .before .before .store16 .ensures) (c .before .before .store162 .ensures)
+returns-6 c =
+    let d = c .before .before .before .before .before .before .before .before in
+    let s = d .before .before .before in
+    one-taken _ _ _ _ _ (s .before .before .before .before .before .before .before .before .before .before .before .before .pre .0) (s .before .before .before .before .before .before .before .if1 .left) _ (s .before .before .before .before .load16 .ensures) _ _ (s .before .before .before .goal-at2 .ensures) (s .if4 .left) _ (d .before .load162 .ensures) (d .if5 .left) _ _ (c .before .before .before .before .before .before .store16 .ensures) (c .before .before .store162 .ensures)
 
 pub take-spec : {M : Type 1} → statement M
 take-spec =

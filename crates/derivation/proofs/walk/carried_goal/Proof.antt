@@ -2,8 +2,8 @@
 -- Assumes nothing.
 use mathlib.Core.Path.{sym, _∙_}
 use native.Mathlib.Omega.{arith}
-use Rattle.derivation.proofs.EntryLaws.{use-goal, open-goal, as-told}
 use borrow.Author.Needs.{needs}
+use Rattle.derivation.proofs.EntryLaws.{use-goal, open-goal, as-told}
 use Rattle.derivation.proofs.walk.carried_goal.Statement.{statement}
 use Rattle.derivation.proofs.walk.carried_goal.Tie as tie
 

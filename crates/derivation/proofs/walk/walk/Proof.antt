@@ -12,7 +12,6 @@ use borrow.Author.Needs.{needs}
 use Rattle.words.specs.Word.{word}
 use Rattle.format.specs.declared.values.Goal.{Goal}
 use Rattle.format.specs.Limits.{mostRules, mostUses}
-use Rattle.format.specs.Results.{Result}
 use Rattle.format.specs.Goals.{goalsAt}
 use Rattle.tables.specs.Tables.{Table}
 use Rattle.index.specs.Keys.{isKey}
