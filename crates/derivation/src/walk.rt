@@ -6,6 +6,7 @@ ghost use Rattle.words.specs.Word.{word};
 ghost use Rattle.index.specs.Keys.{isKey, digits};
 ghost use Rattle.derivation.specs.Walks.{EntryInside, carriedGoal, Ready, Walks};
 use crate::layout::INDEX;
+use crate::layout::NODES;
 use crate::pending::Pending;
 use crate::pending::Taken;
 use crate::pending::push;
@@ -14,6 +15,8 @@ use files::flats::USE;
 use format::values::Goal;
 use format::values::goal_at;
 use format::values::rule_name_at;
+use index::layout::HEADS;
+use index::node::head_of;
 use index::node::link;
 use index::seek::digits_of;
 use tables::lookup::carries;
@@ -74,17 +77,19 @@ pub fn walk(table: &[u8], rules: usize, flat: &[u8], roots: usize, work: &mut [u
             at += 5;
             continue;
         }
-        if rules == 0 {
+        let digits = digits_at(flat, at);
+        let head = head_of(work, INDEX, digits);
+        if head == 0 {
             break 'walk at;
         }
-        let mut node: usize = 0;
-        let mut rest = digits_at(flat, at);
+        let mut node = head - 1;
+        let mut rest = digits / HEADS;
         let rule = loop {
-            let place = load16(work, INDEX + node * 5) as usize;
+            let place = load16(work, NODES + node * 5) as usize;
             if is_rule_of(table, place, flat, at) {
                 break place;
             }
-            node = link(work, INDEX + node * 5, rest % 2);
+            node = link(work, NODES + node * 5, rest % 2);
             if node == 0 {
                 break 'walk at;
             }

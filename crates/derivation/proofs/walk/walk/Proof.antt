@@ -20,19 +20,19 @@ use Rattle.files.specs.Derivations.{Entry}
 use Rattle.files.proofs.EntryBytes.{entries-end}
 use Rattle.hitac.specs.FlatWalk.{flatWalk}
 use Rattle.derivation.specs.declared.pending.Pending.{Pending}
-use Rattle.derivation.specs.Layout.{indexPlace}
+use Rattle.derivation.specs.Layout.{indexPlace, nodesPlace}
 use Rattle.derivation.specs.Pending.{firstEntry, pendingIn, carriesFirst, Passes, Takes, RuleInside}
 use Rattle.derivation.specs.Walks.{EntryInside, carriedGoal, Given, Ready}
-use Rattle.derivation.proofs.RuleLaws.{indexed-still, Descends, at-first, none-at-all, AtNode, node-few, node-inside, rule-here, rule-inside, rule-found, none-found, goes-down, higher}
+use Rattle.derivation.proofs.RuleLaws.{indexed-still, Descends, at-first, none-headed, AtNode, node-few, node-inside, rule-here, rule-inside, rule-found, none-found, goes-down, higher}
 use Rattle.derivation.proofs.WalkLaws.{other-told, left-told, Keeps, keeps-first, keeps-passed, keeps-pushed, Reached, reached-first, here-inside, lists-few, at-end, entry-inside, not-first, goes-open, no-rule, room-for, goes-use}
 use Rattle.derivation.proofs.walk.walk.Statement.{statement}
 use Rattle.derivation.proofs.walk.walk.Tie as tie
 
 abbrev Inv-loop : tie.InvT-loop
-Inv-loop table rules flat roots work at pending node₀ rest₀ node rest = Descends table work (word flat (at + 3)) (word flat (at + 5)) rest node
+Inv-loop table rules flat roots work at pending digits head node₀ rest₀ node rest = Descends table work (word flat (at + 3)) (word flat (at + 5)) rest node
 
 abbrev μ-loop : tie.MeasureT-loop
-μ-loop table rules flat roots work at pending node₀ rest₀ node rest = mostRules - node
+μ-loop table rules flat roots work at pending digits head node₀ rest₀ node rest = mostRules - node
 
 abbrev Inv-walk : tie.InvT-walk
 Inv-walk table rules flat roots work₀ at₀ pending₀ work at pending =
@@ -192,15 +192,21 @@ walk-again c =
     (keeps p, λ T es g. goes-open _ _ _ _ _ _ (start p .walk .inv .1 T es g) (more (first p)) (t .0) (c .if2 .taken) _ _ (t .1 .few) (t .1 .others))
 
 digits-at-requires : tie.Need-digits-at-requires Inv-loop μ-loop Inv-walk μ-walk
-digits-at-requires c κs = inside (first (c .before .before)) .some-use (c .before .if2 .left)
+digits-at-requires c κs = inside (first (c .before)) .some-use (c .if2 .left)
+
+head-of-requires : tie.Need-head-of-requires Inv-loop μ-loop Inv-walk μ-walk
+head-of-requires c κs = omega (arith, indexed (c .before .before .before) .2 .1 .sound .room)
+
+sub-node : tie.Need-sub-node Inv-loop μ-loop Inv-walk μ-walk
+sub-node c = search needs
 
 loop-holds : tie.Need-loop-holds Inv-loop μ-loop Inv-walk μ-walk
-loop-holds c = at-first _ _ _ _ _ (c .digits-at .ensures)
+loop-holds c = at-first _ _ _ _ _ _ (c .before .before .before .digits-at .ensures) (c .before .head-of .ensures) (c .if3 .left)
 
 -- a node on the way down to the rule of the use
 module _ (c : Node) where
   abbrev the-use : Passed
-  the-use = c .before .before .before .before
+  the-use = c .before .before .before .before .before .before
 
   abbrev begin : Head
   begin = start the-use
@@ -212,10 +218,10 @@ module _ (c : Node) where
   on = word (flat begin) (at begin + 5)
 
   is-use : getD (flat begin) (at begin) 0 ≡ 32
-  is-use = c .before .before .before .if2 .left
+  is-use = c .before .before .before .before .before .if2 .left
 
   at-node : AtNode (table begin) (rulesEnd begin) (space (tried the-use)) name on (c .loop .rest) (c .loop .node)
-  at-node = record { indexed = indexed the-use; the-table = pre begin .the-table; stands = pre begin .given .rules-stand; some-rule = c .before .before .if3 .left; way = c .loop .inv }
+  at-node = record { indexed = indexed the-use; the-table = pre begin .the-table; stands = pre begin .given .rules-stand; way = c .loop .inv }
 
 mul-load16 : tie.Need-mul-load16 Inv-loop μ-loop Inv-walk μ-walk
 mul-load16 c = omega (arith, node-few (at-node (c .before)))
@@ -251,7 +257,7 @@ module _ (c : Compared) where
   abbrev place : ℕ
   place = c .before .load16 .result
 
-  read : place ≡ word (space (tried (the-use node))) (indexPlace + node .loop .node * 5)
+  read : place ≡ word (space (tried (the-use node))) (nodesPlace + node .loop .node * 5)
   read = c .before .load16 .ensures
 
 -- it has another name or goal
@@ -301,7 +307,7 @@ push-requires c κs =
 add-at-3 : tie.Need-add-at-3 Inv-loop μ-loop Inv-walk μ-walk
 add-at-3 c =
     let h = c .before .before .before .before in
-    omega (arith, inside (first (applied h)) .some-use (is-use (node (hit h))), c .before .before .before .before .before .before .before .before .before .before .before .before .before .before .before .before .before .before .before .before .before .before .before .before .before .before .good)
+    omega (arith, inside (first (applied h)) .some-use (is-use (node (hit h))), c .before .before .before .before .before .before .before .before .before .before .before .before .before .before .before .before .before .before .before .before .before .before .before .before .before .before .before .before .good)
 
 walk-less-2 : tie.Need-walk-less-2 Inv-loop μ-loop Inv-walk μ-walk
 walk-less-2 c = omega (arith, more (first (applied (c .before .before .before .before))))
@@ -349,21 +355,22 @@ returns-2 c =
     record { result = λ T es g. not-first _ _ _ _ _ _ (w .walk .inv .1 T es g) (more (entry (refused c))) (other c .0) _; inside = within w; pends = kept-all c .pends; kept = kept-all c .kept }
 
 same-length-3 : tie.Need-same-length-3 Inv-loop μ-loop Inv-walk μ-walk
-same-length-3 c = keeps (c .before .before) .size
+same-length-3 c = keeps (c .before .before .before .before .before) .size
 
 returns-3 : tie.Need-returns-3 Inv-loop μ-loop Inv-walk μ-walk
 returns-3 c =
-    let p = c .before .before in
+    let p = c .before .before .before .before .before in
     let w = start p in
     record {
-      result = λ T es g. no-rule _ _ _ _ _ _ (w .walk .inv .1 T es g) (more (first p)) (told p .0) (c .before .if2 .left) (none-at-all _ _ _ (indexed p) (c .if3 .taken) _ _ T (g .rules-stand)) _;
+      result = λ T es g. no-rule _ _ _ _ _ _ (w .walk .inv .1 T es g) (more (first p)) (told p .0) (c .before .before .before .before .if2 .left)
+          (none-headed _ _ _ _ _ _ (c .before .before .before .digits-at .ensures) (c .before .head-of .ensures) _ (indexed p) (c .if3 .taken) T (g .rules-stand)) _;
       inside = within w;
       pends = keeps p .pends;
       kept = keeps p .kept;
     }
 
 same-length-4 : tie.Need-same-length-4 Inv-loop μ-loop Inv-walk μ-walk
-same-length-4 c = keeps (c .before .before .before .before .before .before .before .before .before .before .before) .size
+same-length-4 c = keeps (c .before .before .before .before .before .before .before .before .before .before .before .before .before) .size
 
 returns-4 : tie.Need-returns-4 Inv-loop μ-loop Inv-walk μ-walk
 returns-4 c =
@@ -399,6 +406,8 @@ walk-spec =
     walk-less
     walk-again
     digits-at-requires
+    head-of-requires
+    sub-node
     loop-holds
     mul-load16
     add-load16
