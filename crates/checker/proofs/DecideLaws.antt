@@ -1,8 +1,8 @@
--- One law for each ending of decide: what the walk came to, and whether its goals are those stated, say what is decided of a proof.
+-- One law for each ending of decide: what the walk came to, and whether its goals are those stated, say which answer it is.
 -- Assumes nothing.
 use mathlib.Core.Path.{_≡_, refl, sym, subst, ap, _∙_}
-use mathlib.Core.Bool.{Bool, true, false, cond}
-use mathlib.Core.Logic.{inl}
+use mathlib.Core.Bool.{Bool, true, false}
+use mathlib.Core.Logic.{_⊎_, inl, inr}
 use mathlib.Core.List.{List}
 use Prim.Native.Nat.{ℕ, _+_, _*_, _-_, _≤_}
 use native.Mathlib.Omega.{arith}
@@ -11,197 +11,129 @@ use lib.Seq.{paste}
 use Rattle.words.specs.Kept.{Kept}
 use Rattle.words.proofs.KeptLaws.{kept-copy}
 use Rattle.format.specs.declared.values.Goal.{Goal}
+use Rattle.format.specs.Limits.{mostBytes}
 use Rattle.format.specs.Refusals.{Cause, number, remainingDiffer}
 use Rattle.format.specs.Results.{Result, gives, refused, andThen}
-use Rattle.format.specs.Terms.{Term, size, fields}
+use Rattle.format.specs.Terms.{fields}
 use Rattle.format.specs.Goals.{goalsAt}
-use Rattle.format.specs.Standing.{Stands}
-use Rattle.format.proofs.ResultLaws.{never-gives, same-place, same-cause}
 use Rattle.format.proofs.GoalsAt.{goals-paste}
 use Rattle.tables.specs.Tables.{Table}
 use Rattle.files.specs.declared.proofs.ProofParts.{ProofParts}
 use Rattle.files.specs.Proofs.{Proof, readProof, termPlace, remainingPlace}
 use Rattle.files.specs.Shapes.{partsOf}
-use Rattle.files.specs.Standing.{ProofStands}
-use Rattle.files.proofs.WhatStands.{proof-stands}
-use Rattle.files.proofs.Sizes.{proof-size}
 use Rattle.hitac.specs.Hiproofs.{atomics}
 use Rattle.hitac.specs.Walk.{walk}
 use Rattle.hitac.proofs.TermBounds.{atomics-fields}
+use Rattle.answers.specs.Answers as answer
 use Rattle.entries.specs.Check.{sameGoals, remainingAre, checked, proofCounts}
 use Rattle.entries.proofs.SameGoals.{same-equal, equal-same}
+use Rattle.walks.specs.Layout.{stackEnd, framesEnd, aritiesEnd}
+use Rattle.walks.specs.Arities.{Noted}
+use Rattle.walks.proofs.ArityLaws.{ahead-kept}
+use Rattle.walks.proofs.ProofLaws.{Small, standing, small, term-room}
 use Rattle.checker.specs.declared.walk.Walked.{Walked}
 use Rattle.checker.specs.declared.walk.Walked.the-variants as W
-use Rattle.checker.specs.Arities.{slot, Noted}
-use Rattle.checker.specs.Walks.{Ready, Comes, Leaves, Walks}
-use Rattle.checker.proofs.ArityLaws.{arities-kept}
-use Rattle.checker.proofs.WalkLaws.{gives-bound}
-use Rattle.checker.specs.declared.decide.Decided.the-variants as D
-use Rattle.checker.specs.Decides.{stackEnd, Decides}
+use Rattle.checker.specs.Acts.{Behind}
+use Rattle.checker.specs.Walks.{Ready, Walks}
+use Rattle.checker.specs.Checks.{checkedAnswer}
+use Rattle.checker.proofs.StepLaws.{behind-kept}
 
--- ---- a proof is refused or accepted whatever it is checked for
+-- ---- the answers
 
-module _ {A B : Type 0} (T : Table) (p : Proof) (a : A) (b : B) where
-  refused-by : (h : List Goal) (t : Bool) (c : Cause) (q : ℕ) → sameGoals h (p .remaining) ≡ t → cond t (gives a) (refused remainingDiffer (remainingPlace p)) ≡ refused c q → remainingAre p b h ≡ refused c q
-  unfolding remainingAre
-  refused-by h true c q f e = never-gives (sym e)
-  refused-by h false c q f e = rw (f, same-cause e, same-place e)
+module _ (T : Table) (p : Proof) where
+  ends-refused : (c : Cause) (k q : ℕ) → number c ≡ k → walk T (p .term) (termPlace p) (p .goals) ≡ refused c q → checkedAnswer T p ≡ answer.refusal k 2 q 0
+  unfolding checkedAnswer checked andThen
+  ends-refused c k q n e = rw (e, n)
 
-  refused-after : (x : Result (List Goal)) (c : Cause) (q : ℕ) → andThen x (remainingAre p a) ≡ refused c q → andThen x (remainingAre p b) ≡ refused c q
-  unfolding andThen remainingAre
-  refused-after (gives h) c q e = refused-by h (sameGoals h (p .remaining)) c q refl e
-  refused-after (refused d r) c q e = rw (same-cause e, same-place e)
+  ends-other : (h : List Goal) → walk T (p .term) (termPlace p) (p .goals) ≡ gives h → sameGoals h (p .remaining) ≡ false → checkedAnswer T p ≡ answer.refusal 21 2 (remainingPlace p) 0
+  unfolding checkedAnswer checked andThen remainingAre number
+  ends-other h e f = rw (e, f)
 
-  pub refused-whatever : (c : Cause) (q : ℕ) → checked T p a ≡ refused c q → checked T p b ≡ refused c q
-  unfolding checked
-  refused-whatever c q e = refused-after (walk T (p .term) (termPlace p) (p .goals)) c q e
+  ends-accepted : (h : List Goal) (u : ℕ) → walk T (p .term) (termPlace p) (p .goals) ≡ gives h → sameGoals h (p .remaining) ≡ true → u ≡ atomics (p .term) → checkedAnswer T p ≡ answer.counted (fields (p .term)) u (length (p .remaining))
+  unfolding checkedAnswer checked andThen remainingAre proofCounts
+  ends-accepted h u e f n = rw (e, f, n)
 
-pub accepted-whatever : {A : Type 0} (T : Table) (p : Proof) (a : A) → walk T (p .term) (termPlace p) (p .goals) ≡ gives (p .remaining) → checked T p a ≡ gives a
-unfolding checked andThen remainingAre
-accepted-whatever T p a e = rw (e, equal-same (p .remaining))
+-- ---- the walk of a proof's term, on its goals at the end of the stacks
 
--- ---- what is known of the sizes of a proof that reads
+abbrev top : ProofParts → ℕ
+top q = stackEnd - q .goals * 2
 
-pub record Small (s : List ℕ) (q : ProofParts) : Type 0 where
-  pub goals : q .goals ≤ 256
-  pub goals-inside : 3 + q .goals * 2 ≤ length s
-  pub remaining : q .remaining ≤ 256
-  pub remaining-inside : q .rest + 3 + q .remaining * 2 ≤ length s
-  pub file : length s ≤ 21510
-  pub term-fields : q .fields ≤ 4096
+module _ (s : List ℕ) (p : Proof) (e : readProof s ≡ gives p) (q : ProofParts) (is : partsOf p ≡ q) (w₁ w₂ : List ℕ) (copied : w₂ ≡ paste w₁ (top q) (drop 3 s) (q .goals * 2)) (enough : aritiesEnd ≤ length w₁) where
+  copy-kept : Kept w₁ w₂ 0 stackEnd
+  copy-kept =
+      let z = small s p e q is in
+      subst (λ (l : List ℕ). Kept w₁ l 0 stackEnd) (sym copied) (kept-copy w₁ s (top q) 3 (q .goals * 2) 0 stackEnd (omega (arith, z .goals)) (z .goals-inside) (omega arith) (omega (arith, z .goals)))
 
-pub record SmallTerm (s : List ℕ) (at : ℕ) (t : Term) : Type 0 where
-  pub stands : Stands s at t
-  pub uses : atomics t ≤ 2048
-  pub inside : at + size t ≤ length s
-  pub arities-below : slot (at + size t) ≤ 16384
+  pub walk-ready : (w₀ : List ℕ) → Noted w₀ w₁ (p .term) → Ready s (q .term) (p .term) w₂ (q .goals)
+  walk-ready w₀ n =
+      let z = small s p e q is in
+      let r = term-room s p e q is w₁ enough in
+      record { stands = r .stands; ahead = ahead-kept w₁ w₂ 0 stackEnd framesEnd _ copy-kept (inl (omega arith)) (n .ahead); fields-few = r .few; goals-few = z .goals }
 
-module _ (s : List ℕ) (p : Proof) (e : readProof s ≡ gives p) where
-  pub standing : ProofStands s p
-  standing = proof-stands s p e
+  -- the index stays behind the arities
+  pub behind-still : (table : List ℕ) (first : ℕ) (w₀ : List ℕ) → Noted w₀ w₁ (p .term) → length w₁ ≡ length w₀ → length w₂ ≡ length w₁ → Behind table first w₀ → Behind table first w₂
+  behind-still table first w₀ n l l₂ b = behind-kept table first w₁ w₂ 0 stackEnd l₂ copy-kept (omega arith) (behind-kept table first w₀ w₁ 0 aritiesEnd l (n .kept) (omega arith) b)
 
-  small-of : Small s (partsOf p)
-  unfolding partsOf termPlace remainingPlace
-  small-of =
-      let st = standing in
-      record {
-        goals = st .goals-stand .few;
-        goals-inside = omega (arith, st .goals-stand .head);
-        remaining = st .remaining-stand .few;
-        remaining-inside = omega (arith, st .end-is);
-        file = proof-size s p e;
-        term-fields = st .few-fields;
-      }
+  pub goals-there : goalsAt w₂ (top q) (q .goals) ≡ p .goals
+  unfolding partsOf
+  goals-there =
+      let z = small s p e q is in
+      let many : q .goals ≡ length (p .goals) = ap (λ (x : ProofParts). x .goals) (sym is) in
+      ap (λ (l : List ℕ). goalsAt l (top q) (q .goals)) copied
+      ∙ goals-paste w₁ s (top q) 3 (q .goals) (omega (arith, z .goals)) (z .goals-inside)
+      ∙ ap (goalsAt s 3) many
+      ∙ sym (standing s p e .goals-stand .goals-are)
 
-  term-of : SmallTerm s (termPlace p) (p .term)
-  unfolding slot termPlace remainingPlace
-  term-of =
-      let st = standing in
-      record {
-        stands = st .term-stands;
-        uses = omega (arith, st .few-fields, atomics-fields (p .term));
-        inside = omega (arith, st .end-is);
-        arities-below = omega (arith, st .end-is, proof-size s p e);
-      }
+-- what was walked
+pub record Walking (T : Table) (s : List ℕ) (p : Proof) (q : ProofParts) (w₂ w₃ : List ℕ) (r : Walked) : Type 0 where
+  pub reads : readProof s ≡ gives p
+  pub parts-are : partsOf p ≡ q
+  pub goals-are : goalsAt w₂ (top q) (q .goals) ≡ p .goals
+  pub walked : Walks T (p .term) (q .term) (length s) w₂ w₃ (q .goals) r
 
-  -- the same by the parts that the reader gave
-  module _ (q : ProofParts) (is : partsOf p ≡ q) where
-    pub small : Small s q
-    small = subst (Small s) is small-of
+module _ (T : Table) (s : List ℕ) (p : Proof) (q : ProofParts) (w₂ w₃ : List ℕ) (r : Walked) (x : Walking T s p q w₂ w₃ r) where
+  sizes : Small s q
+  sizes = small s p (x .reads) q (x .parts-are)
 
-    pub small-term : SmallTerm s (q .term) (p .term)
+  same-walk : walk T (p .term) (q .term) (goalsAt w₂ (top q) (q .goals)) ≡ walk T (p .term) (termPlace p) (p .goals)
+  unfolding partsOf
+  same-walk = let e : q .term ≡ termPlace p = ap (λ (y : ProofParts). y .term) (sym (x .parts-are)) in rw (x .goals-are, e)
+
+  module _ (k at : ℕ) (t : r ≡ W.Refused k at) where
+    pub decides-refused : (checkedAnswer T p ≡ answer.refusal k 2 at 0) × (at ≤ mostBytes)
+    unfolding Walks
+    decides-refused =
+        let z = subst (Walks T (p .term) (q .term) (length s) w₂ w₃ (q .goals)) t (x .walked) in
+        (ends-refused T p (z .0) k at (z .1) (sym same-walk ∙ z .2), omega (arith, z .3, sizes .file))
+
+  module _ (n u : ℕ) (t : r ≡ W.Gives n u) where
+    gave : (walk T (p .term) (termPlace p) (p .goals) ≡ gives (goalsAt w₃ 0 n)) × (u ≡ atomics (p .term)) × (n * 2 ≤ stackEnd)
+    unfolding Walks
+    gave = let z = subst (Walks T (p .term) (q .term) (length s) w₂ w₃ (q .goals)) t (x .walked) in (sym same-walk ∙ z .0, z .1, z .2)
+
+    pub decides-bound : n * 2 ≤ stackEnd
+    decides-bound = gave .2
+
+    abbrev Compared : Bool → Type 0
+    Compared b = sameGoals (goalsAt w₃ 0 n) (goalsAt s (q .rest + 3) (q .remaining)) ≡ b
+
+    compared : (b : Bool) → Compared b → sameGoals (goalsAt w₃ 0 n) (p .remaining) ≡ b
     unfolding partsOf
-    small-term = subst (λ (x : ProofParts). SmallTerm s (x .term) (p .term)) is term-of
+    compared b f =
+        ap (sameGoals (goalsAt w₃ 0 n)) (standing s p (x .reads) .remaining-stand .goals-are ∙ ap (λ (y : ProofParts). goalsAt s (y .rest + 3) (y .remaining)) (x .parts-are)) ∙ f
 
--- The walk of a proof's term, on its goals at the end of a space where its arities are noted.
-pub record Walking (T : Table) (s : List ℕ) (p : Proof) (w₀ w₁ w₂ w₃ : List ℕ) (r₀ top : ℕ) (q : ProofParts) (r : Walked) : Type 0 where
-  pub noted : Noted w₀ w₁ (q .term) (p .term) r₀
-  pub copied : w₂ ≡ paste w₁ top (drop 3 s) (q .goals * 2)
-  pub at-end : top + q .goals * 2 ≡ stackEnd
-  pub enough : stackEnd ≤ length w₁
-  pub walked : Walks T (p .term) (q .term) (length s) w₂ w₃ 16384 top (q .goals) r
-
--- the term is ready to be walked
-pub walk-ready : (s : List ℕ) (p : Proof) (e : readProof s ≡ gives p) (q : ProofParts) (is : partsOf p ≡ q) (w₀ w₁ w₂ : List ℕ) (r₀ top : ℕ) → Noted w₀ w₁ (q .term) (p .term) r₀
-    → w₂ ≡ paste w₁ top (drop 3 s) (q .goals * 2) → top + q .goals * 2 ≡ stackEnd → stackEnd ≤ length w₁ → Ready s (q .term) (p .term) w₂ 16384 top
-walk-ready s p e q is w₀ w₁ w₂ r₀ top noted copied at-end enough =
-    let z = small s p e q is in
-    let t = small-term s p e q is in
-    let kept : Kept w₁ w₂ top stackEnd = subst (λ (l : List ℕ). Kept w₁ l top stackEnd) (sym copied) (kept-copy w₁ s top 3 (q .goals * 2) top stackEnd (omega arith) (omega (arith, z .goals-inside)) (omega arith) (omega arith)) in
-    record {
-      stands = t .stands;
-      noted = arities-kept w₁ w₂ top stackEnd kept (p .term) (q .term) (inl (omega (arith, t .arities-below, z .goals))) (noted .noted);
-      noted-below = t .arities-below;
-      room = omega (arith, t .uses, z .goals);
-    }
-
-module _ (T : Table) (s : List ℕ) (p : Proof) (e : readProof s ≡ gives p) (w₀ w₁ w₂ w₃ : List ℕ) (r₀ top : ℕ) (r : Walked) where
-  module _ (x : Walking T s p w₀ w₁ w₂ w₃ r₀ top (partsOf p) r) where
-    outcome : Comes w₃ 16384 (walk T (p .term) (termPlace p) (p .goals)) r
+    pub decides-accepted : Compared true → (checkedAnswer T p ≡ answer.counted (q .fields) u (q .remaining)) × ((q .fields ≤ mostBytes) × (u ≤ mostBytes) × (q .remaining ≤ mostBytes))
     unfolding partsOf
-    outcome =
-        let z = small-of s p e in
-        let there : goalsAt w₂ top (length (p .goals)) ≡ p .goals =
-        ap (λ (l : List ℕ). goalsAt l top (length (p .goals))) (x .copied)
-        ∙ goals-paste w₁ s top 3 (length (p .goals)) (omega (arith, x .at-end, x .enough)) (z .goals-inside)
-        ∙ sym (standing s p e .goals-stand .goals-are) in
-        subst (λ (g : List Goal). Comes w₃ 16384 (walk T (p .term) (termPlace p) g) r) there (x .walked .outcome)
-
-    refused-of : (k q : ℕ) → r ≡ W.Refused k q → Decides T p w₃ (D.Refused k q)
-    unfolding Decides checked andThen Comes Leaves partsOf
-    refused-of k q t =
-        let o = subst (Comes w₃ 16384 (walk T (p .term) (termPlace p) (p .goals))) t outcome in
-        let l : q ≤ length s = subst (Leaves (p .term) (length s) w₂ w₃ 16384 top (length (p .goals))) t (x .walked .leaves) in
-        (o .0, o .1, ap (λ (y : Result (List Goal)). andThen y (remainingAre p (proofCounts T p))) (o .2), omega (arith, small-of s p e .file))
-
-    bound-of : (n u : ℕ) → r ≡ W.Gives n u → (u ≡ atomics (p .term)) × (16384 + n * 2 ≤ stackEnd) × (u ≤ 2048)
-    unfolding partsOf
-    bound-of n u t =
-        let b = gives-bound T (p .term) (termPlace p) (length s) w₂ w₃ 16384 top (length (p .goals)) n u r t (x .walked) in
-        let z = term-of s p e in
-        (b .0, omega (arith, b .0, b .1, z .uses, small-of s p e .goals), omega (arith, b .0, z .uses))
-
-    abbrev Compared : (n : ℕ) → Bool → Type 0
-    Compared n b = sameGoals (goalsAt w₃ 16384 n) (goalsAt s (partsOf p .rest + 3) (partsOf p .remaining)) ≡ b
-
-    remaining-compared : (n : ℕ) (b : Bool) → Compared n b → sameGoals (goalsAt w₃ 16384 n) (p .remaining) ≡ b
-    unfolding partsOf
-    remaining-compared n b f = ap (sameGoals (goalsAt w₃ 16384 n)) (standing s p e .remaining-stand .goals-are) ∙ f
-
-    accepted-of : (n u : ℕ) → r ≡ W.Gives n u → Compared n true → Decides T p w₃ (D.Accepted u)
-    unfolding Decides Comes partsOf
-    accepted-of n u t f =
-        let o = subst (Comes w₃ 16384 (walk T (p .term) (termPlace p) (p .goals))) t outcome in
-        let y = term-of s p e in
-        let k = gives-bound T (p .term) (termPlace p) (length s) w₂ w₃ 16384 top (length (p .goals)) n u r t (x .walked) .2 in
-        let rd = walk-ready s p e (partsOf p) refl w₀ w₁ w₂ r₀ top (x .noted) (x .copied) (x .at-end) (x .enough) in (
-          o ∙ ap gives (same-equal (goalsAt w₃ 16384 n) (p .remaining) (remaining-compared n true f)),
-          bound-of n u t .0,
-          arities-kept w₂ w₃ 16384 (top + length (p .goals) * 2) k (p .term) (termPlace p) (inl (y .arities-below)) (rd .noted),
+    decides-accepted f =
+        let z = sizes in
+        let few = standing s p (x .reads) .few-fields in (
+          subst (λ (y : ProofParts). checkedAnswer T p ≡ answer.counted (y .fields) u (y .remaining)) (x .parts-are) (ends-accepted T p (goalsAt w₃ 0 n) u (gave .0) (compared true f) (gave .1)),
+          (omega (arith, z .term-fields), omega (arith, gave .1, atomics-fields (p .term), few), omega (arith, z .remaining)),
         )
 
-    other-of : (n u : ℕ) → r ≡ W.Gives n u → Compared n false → Decides T p w₃ (D.Refused 21 (partsOf p .rest))
-    unfolding Decides Comes checked andThen remainingAre number partsOf
-    other-of n u t f =
-        let o = subst (Comes w₃ 16384 (walk T (p .term) (termPlace p) (p .goals))) t outcome in
-        let z = small-of s p e in
-        (remainingDiffer, refl, rw (o, remaining-compared n false f), omega (arith, z .remaining-inside, z .file))
-
-  -- the same by the parts that the reader gave
-  module _ (q : ProofParts) (is : partsOf p ≡ q) (y : Walking T s p w₀ w₁ w₂ w₃ r₀ top q r) where
-    x : Walking T s p w₀ w₁ w₂ w₃ r₀ top (partsOf p) r
-    x = subst (λ (v : ProofParts). Walking T s p w₀ w₁ w₂ w₃ r₀ top v r) (sym is) y
-
-    pub decides-refused : (k at : ℕ) → r ≡ W.Refused k at → Decides T p w₃ (D.Refused k at)
-    decides-refused = refused-of x
-
-    pub decides-bound : (n u : ℕ) → r ≡ W.Gives n u → 16384 + n * 2 ≤ stackEnd
-    decides-bound n u t = bound-of x n u t .1
-
-    pub decides-accepted : (n u : ℕ) → r ≡ W.Gives n u → sameGoals (goalsAt w₃ 16384 n) (goalsAt s (q .rest + 3) (q .remaining)) ≡ true → Decides T p w₃ (D.Accepted u)
-    decides-accepted n u t f = accepted-of x n u t (subst (λ (v : ProofParts). sameGoals (goalsAt w₃ 16384 n) (goalsAt s (v .rest + 3) (v .remaining)) ≡ true) (sym is) f)
-
-    pub decides-other : (n u : ℕ) → r ≡ W.Gives n u → sameGoals (goalsAt w₃ 16384 n) (goalsAt s (q .rest + 3) (q .remaining)) ≡ false → Decides T p w₃ (D.Refused 21 (q .rest))
-    decides-other n u t f =
-        subst (λ (v : ProofParts). Decides T p w₃ (D.Refused 21 (v .rest))) is
-        (other-of x n u t (subst (λ (v : ProofParts). sameGoals (goalsAt w₃ 16384 n) (goalsAt s (v .rest + 3) (v .remaining)) ≡ false) (sym is) f))
+    pub decides-other : Compared false → (checkedAnswer T p ≡ answer.refusal 21 2 (q .rest) 0) × (q .rest ≤ mostBytes)
+    unfolding partsOf
+    decides-other f = (
+      subst (λ (y : ProofParts). checkedAnswer T p ≡ answer.refusal 21 2 (y .rest) 0) (x .parts-are) (ends-other T p (goalsAt w₃ 0 n) (gave .0) (compared false f)),
+      omega (arith, sizes .remaining-inside, sizes .file),
+    )

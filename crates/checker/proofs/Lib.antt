@@ -1,10 +1,7 @@
-pub mod ArityLaws
-pub mod WalkLaws
-pub mod ReadyLaws
 pub mod OtherTerms
-pub mod LabelLaws
-pub mod SequenceLaws
-pub mod TensorLaws
+pub mod LeafLaws
+pub mod ActLaws
+pub mod StepLaws
 pub mod SameGoals
 pub mod DecideLaws
 pub mod CheckLaws

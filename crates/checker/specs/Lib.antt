@@ -1,5 +1,3 @@
-pub mod Arities
-pub mod Labels
+pub mod Acts
 pub mod Walks
-pub mod Decides
 pub mod Checks

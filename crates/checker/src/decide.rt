@@ -1,4 +1,4 @@
-// What is decided of a proof that was read: the walk over its goals, and whether it gives the stated remaining ones. The entry flatten begins with it too.
+// What is decided of a proof that was read: the walk over its goals, and whether it gives the stated remaining ones.
 ghost use mathlib.Core.Path.{_≡_};
 ghost use Prim.Native.Nat.{_+_, _*_, _≤_};
 ghost use lib.ListN.{length};
@@ -9,25 +9,19 @@ ghost use Rattle.tables.specs.Standing.{TableStands};
 ghost use Rattle.files.specs.Proofs.{Proof, readProof};
 ghost use Rattle.files.specs.Shapes.{partsOf};
 ghost use Rattle.entries.specs.Check.{sameGoals};
-ghost use Rattle.checker.specs.Decides.{stackEnd, Decides};
-use crate::arity::note_arities;
+ghost use Rattle.walks.specs.Layout.{aritiesEnd};
+ghost use Rattle.checker.specs.Acts.{Behind};
+ghost use Rattle.checker.specs.Checks.{checkedAnswer};
 use crate::walk::Walked;
 use crate::walk::walk;
+use answers::Answer;
+use answers::counted;
+use answers::refusal;
 use files::proofs::ProofParts;
+use walks::arity::note_arities;
+use walks::layout::STACK_END;
 use words::copy_in;
 use words::load16;
-
-// Arities are noted below this place; what is given grows up from there.
-pub const STACKS: usize = 16384;
-
-// What is to be taken lies below this place.
-pub const STACK_END: usize = 47104;
-
-// What is decided: the refusal's number and place, or the number of uses.
-pub enum Decided {
-    Refused(u8, usize),
-    Accepted(usize),
-}
 
 // Whether the goals from a place of the space on are those from a place of the proof on.
 fn same_goals(
@@ -56,39 +50,30 @@ fn same_goals(
     true
 }
 
-// The walk of a proof that was read, and whether it gives the stated remaining goals. The arities that it notes stay.
+// The walk of a proof that was read: its refusal, or 21, or the proof's counts.
 pub fn decide(
     table: &[u8],
     first: usize,
     proof: &[u8],
-    space: &mut [u8],
+    work: &mut [u8],
     parts: ProofParts,
-) -> Decided
-    requires { ⌜ ((T : Table) × TableStands (now table) first T) × ((p : Proof) × (readProof (now proof) ≡ gives p) × (partsOf p ≡ parts)) × (stackEnd ≤ length (now space)) ⌝ }
-    ensures { λ r. ⌜ ((T : Table) (p : Proof) → TableStands (now (table .entry)) first T → readProof (now (proof .entry)) ≡ gives p → Decides T p (now (space .exit)) r) ⌝ }
+) -> Answer
+    requires { ⌜ ((T : Table) × TableStands (now table) first T) × ((p : Proof) × (readProof (now proof) ≡ gives p) × (partsOf p ≡ parts)) × (aritiesEnd ≤ length (now work)) × Behind (now table) first (now work) ⌝ }
+    ensures { λ r. ⌜ ((T : Table) (p : Proof) → TableStands (now (table .entry)) first T → readProof (now (proof .entry)) ≡ gives p → r ≡ checkedAnswer T p) ⌝ }
 {
-    note_arities(proof, parts.term, space);
-    let top = STACK_END - parts.goals * 2;
-    copy_in(space, top, proof, 3, parts.goals * 2);
-    let walked = walk(
-        table,
-        first,
-        proof,
-        parts.term,
-        parts.goals,
-        space,
-        STACKS,
-        top,
-    );
+    note_arities(proof, parts.term, work);
+    let goals = parts.goals;
+    copy_in(work, STACK_END - goals * 2, proof, 3, goals * 2);
+    let walked = walk(table, first, proof, parts.term, work, goals);
     match walked {
-        Walked::Refused(number, place) => Decided::Refused(number, place),
+        Walked::Refused(number, place) => refusal(number, 2, place, 0),
         Walked::Gives(given, uses) => {
             let rest = parts.rest;
-            let same = same_goals(space, STACKS, given, proof, rest + 3, parts.remaining);
+            let same = same_goals(work, 0, given, proof, rest + 3, parts.remaining);
             if same {
-                return Decided::Accepted(uses);
+                return counted(parts.fields, uses, parts.remaining);
             }
-            Decided::Refused(21, rest)
+            refusal(21, 2, rest, 0)
         }
     }
 }

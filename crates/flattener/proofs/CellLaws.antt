@@ -5,8 +5,8 @@ use mathlib.Core.Logic.{_⊎_, inl, inr, ⊎-elim}
 use mathlib.Core.List.{List, [], _∷_, _++_, map, append-assoc, append-nil}
 use Prim.Native.Nat.{ℕ, zero, suc, _+_, _*_, _-_, _≤_, _<_}
 use native.Mathlib.Omega.{arith}
-use lib.ListN.{length, getD, set, take, length-set}
-use lib.Seq.{ext-getD, getD-set-same, getD-set-other, getD-take}
+use lib.ListN.{length, getD, set, length-set}
+use lib.Seq.{ext-getD, getD-set-same, getD-set-other}
 use Rattle.words.specs.Word.{word, putWord}
 use Rattle.words.specs.Kept.{Kept}
 use Rattle.words.proofs.WordLaws.{length-putWord, word-same, word-other}
@@ -14,7 +14,8 @@ use Rattle.words.proofs.KeptLaws.{kept-put, kept-same, kept-both, word-below, w
 use Rattle.format.specs.declared.values.Goal.{Goal}
 use Rattle.format.specs.Values.{ruleName, goal}
 use Rattle.hitac.proofs.Nodes.{Cell, openCell, useCell, noCell, cellAt, goalOf}
-use Rattle.flattener.specs.Space.{floor, cellBytes, cellFrom, cellIn, cellsFrom, cellsOf, putUse, putOpens}
+use Rattle.walks.specs.Layout.{indexEnd}
+use Rattle.flattener.specs.Space.{cellPlace, cellFrom, cellIn, cellsFrom, cellsOf, putUse, putOpens}
 
 goal-from : (g a f m : ℕ) → goalOf (cellFrom g a f m) ≡ goal g
 unfolding cellFrom
@@ -50,8 +51,8 @@ cell-from (suc k) s at (suc n) h =
     let e : at + 8 + n * 8 ≡ at + suc n * 8 = omega arith in
     cell-from k s (at + 8) n (omega arith) ∙ ap (cellIn s) e
 
-pub cell-of : (k : ℕ) (s : List ℕ) (n : ℕ) → n < k → cellAt (cellsOf s k) n ≡ cellIn s (n * 8)
-cell-of k s n h = let e : 0 + n * 8 ≡ n * 8 = omega arith in cell-from k s 0 n h ∙ ap (cellIn s) e
+pub cell-of : (k : ℕ) (s : List ℕ) (n : ℕ) → n < k → cellAt (cellsOf s k) n ≡ cellIn s (cellPlace n)
+cell-of k s n h = cell-from k s indexEnd n h
 
 -- the same bytes are the same cells
 same-word : (s s′ : List ℕ) (at : ℕ) → getD s at 0 ≡ getD s′ at 0 → getD s (at + 1) 0 ≡ getD s′ (at + 1) 0 → word s at ≡ word s′ at
@@ -76,13 +77,12 @@ same-cells-from zero s s′ at h = refl
 same-cells-from (suc k) s s′ at h =
     ap₂ (λ (x : Cell) (l : List Cell). x ∷ l) (same-cell s s′ at (λ i a b. h i a (omega arith))) (same-cells-from k s s′ (at + 8) (λ i a b. h i (omega arith) (omega arith)))
 
--- the first cells, behind which bytes change
-pub cells-below : (w w′ : List ℕ) (low high k : ℕ) → Kept w w′ low high → k * 8 ≤ low → cellsOf w′ k ≡ cellsOf w k
-cells-below w w′ low high k p h = same-cells-from k w′ w 0 (λ i a b. p .below i (omega arith))
+-- the first cells, where only bytes behind them change, or bytes before all cells
+pub cells-below : (w w′ : List ℕ) (low high k : ℕ) → Kept w w′ low high → cellPlace k ≤ low → cellsOf w′ k ≡ cellsOf w k
+cells-below w w′ low high k p h = same-cells-from k w′ w indexEnd (λ i a b. p .below i (omega arith))
 
--- the cells all lie below the floor
-pub cells-inside : (w : List ℕ) (k : ℕ) → k * 8 ≤ floor → cellsOf (cellBytes w) k ≡ cellsOf w k
-cells-inside w k h = same-cells-from k (cellBytes w) w 0 (λ i a b. getD-take floor w i 0 (omega arith))
+pub cells-above : (w w′ : List ℕ) (low high k : ℕ) → Kept w w′ low high → high ≤ indexEnd → cellsOf w′ k ≡ cellsOf w k
+cells-above w w′ low high k p h = same-cells-from k w′ w indexEnd (λ i a b. p .above i (omega arith))
 
 cells-append : (j k : ℕ) (s : List ℕ) (at : ℕ) → cellsFrom s at (j + k) ≡ cellsFrom s at j ++ cellsFrom s (at + j * 8) k
 unfolding cellsFrom
@@ -101,107 +101,106 @@ cells-append (suc j) k s at =
 
 module _ (s : List ℕ) (n a f c : ℕ) where
   abbrev one : List ℕ
-  one = putWord s (n * 8 + 2) a
+  one = putWord s (cellPlace n + 2) a
 
   abbrev two : List ℕ
-  two = putWord one (n * 8 + 4) f
+  two = putWord one (cellPlace n + 4) f
 
   pub length-use : length (putUse s n a f c) ≡ length s
   unfolding putUse
-  length-use = length-putWord two (n * 8 + 6) (c + 1) ∙ length-putWord one (n * 8 + 4) f ∙ length-putWord s (n * 8 + 2) a
+  length-use = length-putWord two (cellPlace n + 6) (c + 1) ∙ length-putWord one (cellPlace n + 4) f ∙ length-putWord s (cellPlace n + 2) a
 
-  pub kept-use : Kept s (putUse s n a f c) (n * 8) (n * 8 + 8)
+  pub kept-use : Kept s (putUse s n a f c) (cellPlace n) (cellPlace n + 8)
   unfolding putUse
   kept-use =
-      kept-both s two (putUse s n a f c) (n * 8) (n * 8 + 8) (n * 8) (n * 8 + 8) (n * 8) (n * 8 + 8)
-      (kept-both s one two (n * 8) (n * 8 + 8) (n * 8) (n * 8 + 8) (n * 8) (n * 8 + 8) (kept-put s (n * 8 + 2) a (n * 8) (n * 8 + 8) (omega arith) (omega arith)) (kept-put one (n * 8 + 4) f (n * 8) (n * 8 + 8) (omega arith) (omega arith)) (omega arith) (omega arith) (omega arith) (omega arith))
-      (kept-put two (n * 8 + 6) (c + 1) (n * 8) (n * 8 + 8) (omega arith) (omega arith)) (omega arith) (omega arith) (omega arith) (omega arith)
+      kept-both s two (putUse s n a f c) (cellPlace n) (cellPlace n + 8) (cellPlace n) (cellPlace n + 8) (cellPlace n) (cellPlace n + 8)
+      (kept-both s one two (cellPlace n) (cellPlace n + 8) (cellPlace n) (cellPlace n + 8) (cellPlace n) (cellPlace n + 8) (kept-put s (cellPlace n + 2) a (cellPlace n) (cellPlace n + 8) (omega arith) (omega arith)) (kept-put one (cellPlace n + 4) f (cellPlace n) (cellPlace n + 8) (omega arith) (omega arith)) (omega arith) (omega arith) (omega arith) (omega arith))
+      (kept-put two (cellPlace n + 6) (c + 1) (cellPlace n) (cellPlace n + 8) (omega arith) (omega arith)) (omega arith) (omega arith) (omega arith) (omega arith)
 
-  module _ (inside : n * 8 + 8 ≤ length s) where
-    use-here : cellIn (putUse s n a f c) (n * 8) ≡ useCell (ruleName a) (goal (word s (n * 8))) f c
+  module _ (inside : cellPlace n + 8 ≤ length s) where
+    use-here : cellIn (putUse s n a f c) (cellPlace n) ≡ useCell (ruleName a) (goal (word s (cellPlace n))) f c
     unfolding putUse cellIn cellFrom
     use-here =
-        let l₁ = length-putWord s (n * 8 + 2) a in
-        let l₂ = length-putWord one (n * 8 + 4) f in
-        let g : word (putUse s n a f c) (n * 8) ≡ word s (n * 8) =
-        word-other two (n * 8 + 6) (c + 1) (n * 8) (inl (omega arith)) ∙ word-other one (n * 8 + 4) f (n * 8) (inl (omega arith)) ∙ word-other s (n * 8 + 2) a (n * 8) (inl (omega arith)) in
-        let p : word (putUse s n a f c) (n * 8 + 2) ≡ a =
-        word-other two (n * 8 + 6) (c + 1) (n * 8 + 2) (inl (omega arith)) ∙ word-other one (n * 8 + 4) f (n * 8 + 2) (inl (omega arith)) ∙ word-same s (n * 8 + 2) a (omega arith) in
-        let q : word (putUse s n a f c) (n * 8 + 4) ≡ f = word-other two (n * 8 + 6) (c + 1) (n * 8 + 4) (inl (omega arith)) ∙ word-same one (n * 8 + 4) f (omega arith) in
-        let r : word (putUse s n a f c) (n * 8 + 6) ≡ c + 1 = word-same two (n * 8 + 6) (c + 1) (omega arith) in
+        let l₁ = length-putWord s (cellPlace n + 2) a in
+        let l₂ = length-putWord one (cellPlace n + 4) f in
+        let g : word (putUse s n a f c) (cellPlace n) ≡ word s (cellPlace n) =
+        word-other two (cellPlace n + 6) (c + 1) (cellPlace n) (inl (omega arith)) ∙ word-other one (cellPlace n + 4) f (cellPlace n) (inl (omega arith)) ∙ word-other s (cellPlace n + 2) a (cellPlace n) (inl (omega arith)) in
+        let p : word (putUse s n a f c) (cellPlace n + 2) ≡ a =
+        word-other two (cellPlace n + 6) (c + 1) (cellPlace n + 2) (inl (omega arith)) ∙ word-other one (cellPlace n + 4) f (cellPlace n + 2) (inl (omega arith)) ∙ word-same s (cellPlace n + 2) a (omega arith) in
+        let q : word (putUse s n a f c) (cellPlace n + 4) ≡ f = word-other two (cellPlace n + 6) (c + 1) (cellPlace n + 4) (inl (omega arith)) ∙ word-same one (cellPlace n + 4) f (omega arith) in
+        let r : word (putUse s n a f c) (cellPlace n + 6) ≡ c + 1 = word-same two (cellPlace n + 6) (c + 1) (omega arith) in
         let t : c + 1 ≡ suc c = omega arith in
         λ i. cellFrom (g i) (p i) (q i) ((r ∙ t) i)
 
     -- a cell that lies beside it
     beside : (k j : ℕ) → j < k → (j < n) ⊎ (n < j) → cellAt (cellsOf (putUse s n a f c) k) j ≡ cellAt (cellsOf s k) j
     beside k j h (inl l) =
-        cell-of k (putUse s n a f c) j h ∙ same-cell (putUse s n a f c) s (j * 8) (λ i p q. kept-use .below i (omega arith)) ∙ sym (cell-of k s j h)
+        cell-of k (putUse s n a f c) j h ∙ same-cell (putUse s n a f c) s (cellPlace j) (λ i p q. kept-use .below i (omega arith)) ∙ sym (cell-of k s j h)
     beside k j h (inr l) =
-        cell-of k (putUse s n a f c) j h ∙ same-cell (putUse s n a f c) s (j * 8) (λ i p q. kept-use .above i (omega arith)) ∙ sym (cell-of k s j h)
+        cell-of k (putUse s n a f c) j h ∙ same-cell (putUse s n a f c) s (cellPlace j) (λ i p q. kept-use .above i (omega arith)) ∙ sym (cell-of k s j h)
 
     abbrev made : Cell
-    made = useCell (ruleName a) (goal (word s (n * 8))) f c
+    made = useCell (ruleName a) (goal (word s (cellPlace n))) f c
 
     each : (k : ℕ) → n < k → (j : ℕ) → j < k → (j ≡ n) ⊎ ((j < n) ⊎ (n < j)) → cellAt (cellsOf (putUse s n a f c) k) j ≡ cellAt (set (cellsOf s k) n made) j
     each k l j h (inl e) =
-        let b : n < length (cellsOf s k) = omega (arith, length-cells k s 0) in
+        let b : n < length (cellsOf s k) = omega (arith, length-cells k s indexEnd) in
         rw e (cell-of k (putUse s n a f c) n l ∙ use-here ∙ sym (getD-set-same (cellsOf s k) n made noCell b))
     each k l j h (inr d) = beside k j h d ∙ sym (getD-set-other (cellsOf s k) n j made noCell (differ d))
 
     pub cells-use : (k : ℕ) → n < k → cellsOf (putUse s n a f c) k ≡ set (cellsOf s k) n made
     cells-use k l =
         ext-getD noCell (cellsOf (putUse s n a f c) k) (set (cellsOf s k) n made)
-        (length-cells k (putUse s n a f c) 0 ∙ sym (length-set (cellsOf s k) n made ∙ length-cells k s 0))
-        (λ j h. each k l j (omega (arith, length-cells k (putUse s n a f c) 0)) (compared j n))
+        (length-cells k (putUse s n a f c) indexEnd ∙ sym (length-set (cellsOf s k) n made ∙ length-cells k s indexEnd))
+        (λ j h. each k l j (omega (arith, length-cells k (putUse s n a f c) indexEnd)) (compared j n))
 
 -- ---- open goals
 
 module _ (s : List ℕ) (n v : ℕ) where
   abbrev opened : List ℕ
-  opened = putWord (putWord s (n * 8) v) (n * 8 + 6) 0
+  opened = putWord (putWord s (cellPlace n) v) (cellPlace n + 6) 0
 
   length-opened : length opened ≡ length s
-  length-opened = length-putWord (putWord s (n * 8) v) (n * 8 + 6) 0 ∙ length-putWord s (n * 8) v
+  length-opened = length-putWord (putWord s (cellPlace n) v) (cellPlace n + 6) 0 ∙ length-putWord s (cellPlace n) v
 
-  kept-opened : Kept s opened (n * 8) (n * 8 + 8)
+  kept-opened : Kept s opened (cellPlace n) (cellPlace n + 8)
   kept-opened =
-      kept-both s (putWord s (n * 8) v) opened (n * 8) (n * 8 + 8) (n * 8) (n * 8 + 8) (n * 8) (n * 8 + 8)
-      (kept-put s (n * 8) v (n * 8) (n * 8 + 8) (omega arith) (omega arith)) (kept-put (putWord s (n * 8) v) (n * 8 + 6) 0 (n * 8) (n * 8 + 8) (omega arith) (omega arith)) (omega arith) (omega arith) (omega arith) (omega arith)
+      kept-both s (putWord s (cellPlace n) v) opened (cellPlace n) (cellPlace n + 8) (cellPlace n) (cellPlace n + 8) (cellPlace n) (cellPlace n + 8)
+      (kept-put s (cellPlace n) v (cellPlace n) (cellPlace n + 8) (omega arith) (omega arith)) (kept-put (putWord s (cellPlace n) v) (cellPlace n + 6) 0 (cellPlace n) (cellPlace n + 8) (omega arith) (omega arith)) (omega arith) (omega arith) (omega arith) (omega arith)
 
-  opened-here : n * 8 + 8 ≤ length s → cellIn opened (n * 8) ≡ openCell (goal v)
+  opened-here : cellPlace n + 8 ≤ length s → cellIn opened (cellPlace n) ≡ openCell (goal v)
   unfolding cellIn cellFrom
   opened-here h =
-      let g : word opened (n * 8) ≡ v = word-other (putWord s (n * 8) v) (n * 8 + 6) 0 (n * 8) (inl (omega arith)) ∙ word-same s (n * 8) v (omega arith) in
-      let m : word opened (n * 8 + 6) ≡ 0 = word-same (putWord s (n * 8) v) (n * 8 + 6) 0 (omega (arith, length-putWord s (n * 8) v)) in
-      λ i. cellFrom (g i) (word opened (n * 8 + 2)) (word opened (n * 8 + 4)) (m i)
+      let g : word opened (cellPlace n) ≡ v = word-other (putWord s (cellPlace n) v) (cellPlace n + 6) 0 (cellPlace n) (inl (omega arith)) ∙ word-same s (cellPlace n) v (omega arith) in
+      let m : word opened (cellPlace n + 6) ≡ 0 = word-same (putWord s (cellPlace n) v) (cellPlace n + 6) 0 (omega (arith, length-putWord s (cellPlace n) v)) in
+      λ i. cellFrom (g i) (word opened (cellPlace n + 2)) (word opened (cellPlace n + 4)) (m i)
 
-  cells-opened : n * 8 + 8 ≤ length s → cellsOf opened (suc n) ≡ cellsOf s n ++ (openCell (goal v) ∷ [])
+  cells-opened : cellPlace n + 8 ≤ length s → cellsOf opened (suc n) ≡ cellsOf s n ++ (openCell (goal v) ∷ [])
   unfolding cellsFrom
   cells-opened h =
       let e : suc n ≡ n + 1 = omega arith in
-      let o : 0 + n * 8 ≡ n * 8 = omega arith in
-      ap (cellsFrom opened 0) e
-      ∙ cells-append n 1 opened 0
-      ∙ ap₂ (λ (l : List Cell) (x : Cell). l ++ (x ∷ [])) (cells-below s opened (n * 8) (n * 8 + 8) n kept-opened (omega arith)) (ap (cellIn opened) o ∙ opened-here h)
+      ap (cellsFrom opened indexEnd) e
+      ∙ cells-append n 1 opened indexEnd
+      ∙ ap₂ (λ (l : List Cell) (x : Cell). l ++ (x ∷ [])) (cells-below s opened (cellPlace n) (cellPlace n + 8) n kept-opened (omega arith)) (opened-here h)
 
 pub length-opens : (g : List Goal) (s : List ℕ) (n : ℕ) → length (putOpens s n g) ≡ length s
 unfolding putOpens
 length-opens [] s n = refl
 length-opens (γ ∷ g) s n = length-opens g (opened s n (γ .0)) (suc n) ∙ length-opened s n (γ .0)
 
-pub kept-opens : (g : List Goal) (s : List ℕ) (n : ℕ) → Kept s (putOpens s n g) (n * 8) ((n + length g) * 8)
+pub kept-opens : (g : List Goal) (s : List ℕ) (n : ℕ) → Kept s (putOpens s n g) (cellPlace n) (cellPlace (n + length g))
 unfolding putOpens
-kept-opens [] s n = kept-same s (n * 8) ((n + 0) * 8)
+kept-opens [] s n = kept-same s (cellPlace n) (cellPlace (n + 0))
 kept-opens (γ ∷ g) s n =
-    kept-both s (opened s n (γ .0)) (putOpens (opened s n (γ .0)) (suc n) g) (n * 8) (n * 8 + 8) (suc n * 8) ((suc n + length g) * 8) (n * 8) ((n + suc (length g)) * 8)
+    kept-both s (opened s n (γ .0)) (putOpens (opened s n (γ .0)) (suc n) g) (cellPlace n) (cellPlace n + 8) (cellPlace (suc n)) (cellPlace (suc n + length g)) (cellPlace n) (cellPlace (n + suc (length g)))
     (kept-opened s n (γ .0)) (kept-opens g (opened s n (γ .0)) (suc n)) (omega arith) (omega arith) (omega arith) (omega arith)
 
-pub cells-opens : (g : List Goal) (s : List ℕ) (n : ℕ) → (n + length g) * 8 ≤ length s → cellsOf (putOpens s n g) (n + length g) ≡ cellsOf s n ++ map openCell g
+pub cells-opens : (g : List Goal) (s : List ℕ) (n : ℕ) → cellPlace (n + length g) ≤ length s → cellsOf (putOpens s n g) (n + length g) ≡ cellsOf s n ++ map openCell g
 unfolding putOpens
-cells-opens [] s n h = let e : n + 0 ≡ n = omega arith in ap (cellsFrom s 0) e ∙ sym (append-nil (cellsOf s n))
+cells-opens [] s n h = let e : n + 0 ≡ n = omega arith in ap (cellsFrom s indexEnd) e ∙ sym (append-nil (cellsOf s n))
 cells-opens (γ ∷ g) s n h =
     let e : n + suc (length g) ≡ suc n + length g = omega arith in
-    ap (cellsFrom (putOpens (opened s n (γ .0)) (suc n) g) 0) e
+    ap (cellsFrom (putOpens (opened s n (γ .0)) (suc n) g) indexEnd) e
     ∙ cells-opens g (opened s n (γ .0)) (suc n) (omega (arith, length-opened s n (γ .0)))
     ∙ ap (λ (l : List Cell). l ++ map openCell g) (cells-opened s n (γ .0) (omega arith))
     ∙ append-assoc (cellsOf s n) (openCell γ ∷ []) (map openCell g)

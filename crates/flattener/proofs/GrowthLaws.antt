@@ -7,7 +7,7 @@ use mathlib.Core.List.{List, [], _∷_, _++_, map}
 use Prim.Native.Nat.{ℕ, zero, suc, _+_, _*_, _≤_, _<_}
 use native.Mathlib.Omega.{arith}
 use lib.ListN.{length, take, drop, set, getD, length-append, length-set, length-map, List·getD-append}
-use lib.Seq.{getD-set-same, getD-set-other, getD-append-seam, append-snoc}
+use lib.Seq.{take-at, drop-at, getD-set-same, getD-set-other, getD-append-seam, append-snoc}
 use Rattle.format.specs.declared.values.RuleName.{RuleName}
 use Rattle.format.specs.declared.values.Goal.{Goal}
 use Rattle.format.specs.Terms.{Term, atomic, id, label, sequence, tensor, empty}
@@ -18,8 +18,6 @@ use Rattle.hitac.specs.Forest.{premisesIn, premisesOf}
 use Rattle.hitac.proofs.ValidatesLaws.{arity-of}
 use Rattle.hitac.proofs.ForestLaws.{Takes}
 use Rattle.hitac.proofs.Nodes.{Cell, openCell, useCell, noCell, cellAt, goalOf, range, NodeWalk, markUse, nodeWalk}
-use Rattle.flattener.specs.Space.{mostNodes}
-use Rattle.flattener.specs.Walks.{Suits}
 use Rattle.flattener.specs.Prints.{Closed}
 use Rattle.flattener.proofs.CellLaws.{compared, differ}
 
@@ -39,7 +37,7 @@ keeps-both x y = record { longer = omega (arith, x .longer, y .longer); goals = 
 keeps-same : (A : List Cell) → Keeps A A
 keeps-same A = record { longer = omega arith; goals = λ m l. refl }
 
-carry-kept : {A B : List Cell} {ns : List ℕ} {g : List Goal} → Keeps A B → Carry A ns g → Carry B ns g
+pub carry-kept : {A B : List Cell} {ns : List ℕ} {g : List Goal} → Keeps A B → Carry A ns g → Carry B ns g
 carry-kept k Carry-None = Carry-None
 carry-kept k (Carry-Node {n = n} l e c) = Carry-Node {n = n} (omega (arith, k .longer)) (k .goals n l ∙ e) (carry-kept k c)
 
@@ -47,13 +45,15 @@ carry-append : {A : List Cell} {ns ms : List ℕ} {g h : List Goal} → Carry A 
 carry-append Carry-None q = q
 carry-append (Carry-Node l e c) q = Carry-Node l e (carry-append c q)
 
-carry-take : {A : List Cell} (g h : List Goal) {ns : List ℕ} → Carry A ns (g ++ h) → Carry A (take (length g) ns) g
-carry-take [] h c = Carry-None
-carry-take (γ ∷ g) h (Carry-Node l e c) = Carry-Node l e (carry-take g h c)
+pub carry-take : (j : ℕ) {A : List Cell} {ns : List ℕ} {g : List Goal} → Carry A ns g → Carry A (take j ns) (take j g)
+carry-take zero c = Carry-None
+carry-take (suc j) Carry-None = Carry-None
+carry-take (suc j) (Carry-Node l e c) = Carry-Node l e (carry-take j c)
 
-carry-drop : {A : List Cell} (g h : List Goal) {ns : List ℕ} → Carry A ns (g ++ h) → Carry A (drop (length g) ns) h
-carry-drop [] h c = c
-carry-drop (γ ∷ g) h (Carry-Node l e c) = carry-drop g h c
+pub carry-drop : (j : ℕ) {A : List Cell} {ns : List ℕ} {g : List Goal} → Carry A ns g → Carry A (drop j ns) (drop j g)
+carry-drop zero c = c
+carry-drop (suc j) Carry-None = Carry-None
+carry-drop (suc j) (Carry-Node l e c) = carry-drop j c
 
 pub carry-length : {A : List Cell} {ns : List ℕ} {g : List Goal} → Carry A ns g → length ns ≡ length g
 carry-length Carry-None = refl
@@ -108,7 +108,6 @@ pub record Grows (T : Table) (s : Term) (A : List Cell) (ns : List ℕ) (h : Lis
   pub carry : Carry (nodeWalk T s A ns .cells) (nodeWalk T s A ns .nodes) h
   pub count : length (nodeWalk T s A ns .cells) + length ns ≡ length A + atomics s + length h
   pub closed : Closed (length A) A → Closed (length (nodeWalk T s A ns .cells)) (nodeWalk T s A ns .cells)
-  pub suits : length (nodeWalk T s A ns .cells) ≤ mostNodes → Suits T s A ns
 
 module _ (T : Table) (a : RuleName) (A : List Cell) (n : ℕ) (inside : n < length A) (h : List Goal) (found : premisesOf T a (goalOf (cellAt A n)) ≡ h) where
   abbrev γ : Goal
@@ -131,7 +130,7 @@ module _ (T : Table) (a : RuleName) (A : List Cell) (n : ℕ) (inside : n < leng
   goal-set m (inr d) = ap goalOf (getD-set-other A n m u noCell (differ d))
 
   grows-atomic : Grows T (atomic a) A (n ∷ []) h
-  unfolding nodeWalk atomics Suits
+  unfolding nodeWalk atomics
   grows-atomic = record {
     keeps = record {
       longer = omega (arith, made-length);
@@ -140,16 +139,15 @@ module _ (T : Table) (a : RuleName) (A : List Cell) (n : ℕ) (inside : n < leng
     carry = subst (Carry made (range (length A) (length p))) found (subst (λ (k : ℕ). Carry made (range k (length p)) p) (length-set A n u) (carry-new (set A n u) p));
     count = omega (arith, made-length, ap length found);
     closed = λ c. subst (λ (b : ℕ). Closed b made) (sym made-length) (closed-append (length A + length p) (set A n u) (map openCell p) (closed-set (length A + length p) a γ (length A) (length p) (omega arith) A n (closed-more (length A) (length A + length p) (omega arith) A c)) (closed-opens (length A + length p) p));
-    suits = λ l. (n, refl, inside, l);
   }
 
 pub grows : (T : Table) {s : Term} {g h : List Goal} → Takes T s g h → (A : List Cell) {ns : List ℕ} → Carry A ns g → Grows T s A ns h
-unfolding nodeWalk atomics Suits
+unfolding nodeWalk atomics
 grows T (V-Atomic {a = a} {γ = γ} {h = h} rl) A (Carry-Node {n = n} l e Carry-None) = grows-atomic T a A n l h (ap (premisesOf T a) e ∙ ap premisesIn rl)
-grows T (V-Identity {γ = γ}) A (Carry-Node l e Carry-None) = record { keeps = keeps-same A; carry = Carry-Node l e Carry-None; count = omega arith; closed = λ c. c; suits = λ b. refl }
+grows T (V-Identity {γ = γ}) A (Carry-Node l e Carry-None) = record { keeps = keeps-same A; carry = Carry-Node l e Carry-None; count = omega arith; closed = λ c. c }
 grows T (V-Label v) A c =
     let x = grows T v A c in
-    record { keeps = x .keeps; carry = x .carry; count = x .count; closed = x .closed; suits = x .suits }
+    record { keeps = x .keeps; carry = x .carry; count = x .count; closed = x .closed }
 grows T (V-Sequence {s = s} v w) A {ns} c =
     let x = grows T v A c in
     let y = grows T w (nodeWalk T s A ns .cells) (x .carry) in
@@ -158,11 +156,10 @@ grows T (V-Sequence {s = s} v w) A {ns} c =
       carry = y .carry;
       count = omega (arith, x .count, y .count, carry-length (x .carry));
       closed = λ k. y .closed (x .closed k);
-      suits = λ b. (x .suits (omega (arith, y .keeps .longer)), y .suits b);
     }
 grows T (V-Tensor {s = s} {t = t} {g₁ = g₁} {g₂ = g₂} {h₁ = h₁} {h₂ = h₂} v w f) A {ns} c =
-    let i : Carry A (take (inputArity s) ns) g₁ = rw (← arity-of v) (carry-take g₁ g₂ c) in
-    let j : Carry A (drop (inputArity s) ns) g₂ = rw (← arity-of v) (carry-drop g₁ g₂ c) in
+    let i : Carry A (take (inputArity s) ns) g₁ = subst (Carry A (take (inputArity s) ns)) (take-at g₁ g₂ (inputArity s) (arity-of v)) (carry-take (inputArity s) c) in
+    let j : Carry A (drop (inputArity s) ns) g₂ = subst (Carry A (drop (inputArity s) ns)) (drop-at g₁ g₂ (inputArity s) (arity-of v)) (carry-drop (inputArity s) c) in
     let x = grows T v A i in
     let y = grows T w (nodeWalk T s A (take (inputArity s) ns) .cells) (carry-kept (x .keeps) j) in
     record {
@@ -170,6 +167,5 @@ grows T (V-Tensor {s = s} {t = t} {g₁ = g₁} {g₂ = g₂} {h₁ = h₁} {h�
       carry = carry-append (carry-kept (y .keeps) (x .carry)) (y .carry);
       count = omega (arith, x .count, y .count, carry-length c, carry-length i, carry-length j, length-append g₁ g₂, length-append h₁ h₂);
       closed = λ k. y .closed (x .closed k);
-      suits = λ b. (omega (arith, carry-length c, length-append g₁ g₂, arity-of v), x .suits (omega (arith, y .keeps .longer)), y .suits b);
     }
-grows T V-Empty A Carry-None = record { keeps = keeps-same A; carry = Carry-None; count = omega arith; closed = λ c. c; suits = λ b. tt }
+grows T V-Empty A Carry-None = record { keeps = keeps-same A; carry = Carry-None; count = omega arith; closed = λ c. c }

@@ -1,11 +1,9 @@
 pub mod SpaceLaws
-pub mod StackLaws
+pub mod RowLaws
 pub mod CellLaws
+pub mod LeafLaws
 pub mod WalkLaws
-pub mod PairLaws
-pub mod LabelLaws
+pub mod GrowthLaws
+pub mod AgreeLaws
 pub mod PrintLaws
 pub mod PassLaws
-pub mod GrowthLaws
-pub mod PlantLaws
-pub mod FlattenLaws

@@ -14,12 +14,14 @@ use Rattle.format.specs.declared.values.RuleName.{RuleName}
 use Rattle.format.specs.Goals.{goalsAt}
 use Rattle.files.specs.Derivations.{Entry, entryBytes, entriesBytes}
 use Rattle.hitac.proofs.Nodes.{Cell, openCell, useCell, noCell, cellAt, entryOf, premiseNodes, range, nodeEntries}
-use Rattle.checker.specs.Decides.{stackEnd}
+use Rattle.walks.specs.Layout.{stackEnd, indexEnd}
+use Rattle.walks.specs.Values.{valuesAt}
+use Rattle.walks.proofs.ValueLaws.{length-values}
 use Rattle.flattener.specs.declared.print.Printed.{Printed}
-use Rattle.flattener.specs.Space.{mostNodes, floor, cellBytes, stacks, cellIn, cellsOf, nodesAt, putRange}
+use Rattle.flattener.specs.Space.{mostNodes, cellsOf, putRange}
 use Rattle.flattener.specs.Prints.{topCell, firstPremise, cellEntry, Closed, forestEntries, PrintReady, NodePrinted, Printable}
-use Rattle.flattener.proofs.StackLaws.{length-nodes, nodes-stacks, same-cells, length-range, kept-range, nodes-range}
-use Rattle.flattener.proofs.CellLaws.{length-cells, cell-of, cells-inside}
+use Rattle.flattener.proofs.RowLaws.{length-range, kept-range, nodes-range}
+use Rattle.flattener.proofs.CellLaws.{length-cells, cell-of, cells-above}
 use Rattle.flattener.proofs.PrintLaws.{range-length, sets-append}
 
 -- all of the nodes are among the first b
@@ -86,55 +88,53 @@ module _ (A : List Cell) (l n : ℕ) (ns : List ℕ) where
 pub record Running (w₀ o₀ : List ℕ) (roots nodes at₀ : ℕ) (w o : List ℕ) (top at left : ℕ) : Type 0 where
   pub written : List ℕ
   pub pending : ℕ
-  pub cells-are : cellBytes w ≡ cellBytes w₀
+  pub cells-are : cellsOf w nodes ≡ cellsOf w₀ nodes
   pub space : length w ≡ length w₀
   pub stack-end : top + pending * 2 ≡ stackEnd
   pub fewer : left ≤ nodes
-  pub inside : Below nodes (nodesAt (stacks w) top pending)
-  pub whole : Whole (cellsOf (cellBytes w₀) nodes) left (nodesAt (stacks w) top pending)
-  pub count : length (nodeEntries left (cellsOf (cellBytes w₀) nodes) (nodesAt (stacks w) top pending)) ≡ left
+  pub inside : Below nodes (valuesAt w top pending)
+  pub whole : Whole (cellsOf w₀ nodes) left (valuesAt w top pending)
+  pub count : length (nodeEntries left (cellsOf w₀ nodes) (valuesAt w top pending)) ≡ left
   pub out-is : o ≡ sets o₀ at₀ written
   pub at-is : at ≡ at₀ + length written
-  pub all-is : written ++ entriesBytes (nodeEntries left (cellsOf (cellBytes w₀) nodes) (nodesAt (stacks w) top pending)) ≡ entriesBytes (forestEntries w₀ roots nodes)
+  pub all-is : written ++ entriesBytes (nodeEntries left (cellsOf w₀ nodes) (valuesAt w top pending)) ≡ entriesBytes (forestEntries w₀ roots nodes)
 
 -- the roots are put on the stack: the cells are as they were
-module _ (w w′ : List ℕ) (roots nodes at room top : ℕ) (p : Printable w roots nodes at room) (e : top + roots * 2 ≡ stackEnd) (pushed : w′ ≡ putRange w (floor + top) 0 roots) where
+module _ (w w′ : List ℕ) (roots nodes at room top : ℕ) (p : Printable w roots nodes at room) (e : top + roots * 2 ≡ stackEnd) (pushed : w′ ≡ putRange w top 0 roots) where
   abbrev x : List ℕ
-  x = putRange w (floor + top) 0 roots
+  x = putRange w top 0 roots
 
   pushed-length : length w′ ≡ length w
-  pushed-length = ap length pushed ∙ length-range roots w (floor + top) 0
+  pushed-length = ap length pushed ∙ length-range roots w top 0
 
-  pub pushed-cells : cellBytes w′ ≡ cellBytes w
-  pushed-cells =
-      let k : Kept w x (floor + top) (floor + (top + roots * 2)) = subst (λ (q : ℕ). Kept w x (floor + top) q) (omega arith) (kept-range roots w (floor + top) 0) in
-      ap cellBytes pushed ∙ same-cells w x top (top + roots * 2) k (length-range roots w (floor + top) 0) (omega (arith, p .within))
+  pub pushed-cells : cellsOf w′ nodes ≡ cellsOf w nodes
+  pushed-cells = ap (λ (l : List ℕ). cellsOf l nodes) pushed ∙ cells-above w x top (top + roots * 2) nodes (kept-range roots w top 0) (omega arith)
 
-  pub pushed-roots : nodesAt (stacks w′) top roots ≡ range 0 roots
-  pushed-roots = ap (λ (q : List ℕ). nodesAt (stacks q) top roots) pushed ∙ nodes-stacks x top roots ∙ nodes-range roots w (floor + top) 0 (omega (arith, p .within))
+  pub pushed-roots : valuesAt w′ top roots ≡ range 0 roots
+  pushed-roots = ap (λ (q : List ℕ). valuesAt q top roots) pushed ∙ nodes-range roots w top 0 (omega (arith, p .within))
 
   pub printable-still : Printable w′ roots nodes at room
   printable-still =
       let s = sym pushed-cells in
       record {
         few = p .few;
-        closed = subst (λ (l : List ℕ). Closed nodes (cellsOf l nodes)) s (p .closed);
-        whole = subst (λ (l : List ℕ). (j : ℕ) → nodeEntries (nodes + j) (cellsOf l nodes) (range 0 roots) ≡ nodeEntries nodes (cellsOf l nodes) (range 0 roots)) s (p .whole);
-        count = subst (λ (l : List ℕ). length (nodeEntries nodes (cellsOf l nodes) (range 0 roots)) ≡ nodes) s (p .count);
+        closed = subst (Closed nodes) s (p .closed);
+        whole = subst (λ (A : List Cell). (j : ℕ) → nodeEntries (nodes + j) A (range 0 roots) ≡ nodeEntries nodes A (range 0 roots)) s (p .whole);
+        count = subst (λ (A : List Cell). length (nodeEntries nodes A (range 0 roots)) ≡ nodes) s (p .count);
         roots-there = p .roots-there;
-        fits = subst (λ (l : List ℕ). at + length (entriesBytes (nodeEntries nodes (cellsOf l nodes) (range 0 roots))) ≤ room) s (p .fits);
+        fits = subst (λ (A : List Cell). at + length (entriesBytes (nodeEntries nodes A (range 0 roots))) ≤ room) s (p .fits);
         within = omega (arith, p .within, pushed-length);
       }
 
 module _ (w₀ o₀ : List ℕ) (roots nodes at₀ : ℕ) (p : Printable w₀ roots nodes at₀ (length o₀)) where
   abbrev B : List Cell
-  B = cellsOf (cellBytes w₀) nodes
+  B = cellsOf w₀ nodes
 
   abbrev State : List ℕ → List ℕ → ℕ → ℕ → ℕ → Type 0
   State w o top at left = Running w₀ o₀ roots nodes at₀ w o top at left
 
   -- the roots are on the stack
-  pub pass-begins : (top : ℕ) → top + roots * 2 ≡ stackEnd → nodesAt (stacks w₀) top roots ≡ range 0 roots → State w₀ o₀ top at₀ nodes
+  pub pass-begins : (top : ℕ) → top + roots * 2 ≡ stackEnd → valuesAt w₀ top roots ≡ range 0 roots → State w₀ o₀ top at₀ nodes
   pass-begins top e s = record {
     written = [];
     pending = roots;
@@ -152,16 +152,16 @@ module _ (w₀ o₀ : List ℕ) (roots nodes at₀ : ℕ) (p : Printable w₀ ro
 
   module _ (w o : List ℕ) (top at : ℕ) where
     abbrev n : ℕ
-    n = word (stacks w) top
+    n = word w top
 
     abbrev rest : ℕ → List ℕ
-    rest m = nodesAt (stacks w) (top + 2) m
+    rest m = valuesAt w (top + 2) m
 
     -- a state in which entries are left has a node on top of its stack
     record Topped (l : ℕ) : Type 0 where
       written : List ℕ
       m : ℕ
-      cells-are : cellBytes w ≡ cellBytes w₀
+      cells-are : cellsOf w nodes ≡ cellsOf w₀ nodes
       space : length w ≡ length w₀
       stack-end : top + 2 + m * 2 ≡ stackEnd
       there : n < nodes
@@ -173,19 +173,18 @@ module _ (w₀ o₀ : List ℕ) (roots nodes at₀ : ℕ) (p : Printable w₀ ro
       at-is : at ≡ at₀ + length written
       all-is : written ++ (cellEntry (cellAt B n) ++ entriesBytes (nodeEntries l B (premiseNodes (cellAt B n) ++ rest m))) ≡ entriesBytes (forestEntries w₀ roots nodes)
 
-    cell-there : cellBytes w ≡ cellBytes w₀ → n < nodes → topCell w top ≡ cellAt B n
-    cell-there e h =
-        sym (cell-of nodes w n h) ∙ ap (λ (A : List Cell). cellAt A n) (sym (cells-inside w nodes (omega (arith, p .few)))) ∙ ap (λ (s : List ℕ). cellAt (cellsOf s nodes) n) e
+    cell-there : cellsOf w nodes ≡ cellsOf w₀ nodes → n < nodes → topCell w top ≡ cellAt B n
+    cell-there e h = sym (cell-of nodes w n h) ∙ ap (λ (A : List Cell). cellAt A n) e
 
     topped : (l pending : ℕ) (s : State w o top at (suc l)) → s .pending ≡ pending → Topped l
     unfolding goalsAt Below nodeEntries
     topped l zero s e =
-        let c : length (nodeEntries (suc l) B (nodesAt (stacks w) top 0)) ≡ suc l = subst (λ (k : ℕ). length (nodeEntries (suc l) B (nodesAt (stacks w) top k)) ≡ suc l) e (s .count) in
+        let c : length (nodeEntries (suc l) B (valuesAt w top 0)) ≡ suc l = subst (λ (k : ℕ). length (nodeEntries (suc l) B (valuesAt w top k)) ≡ suc l) e (s .count) in
         absurd (omega (arith, c))
     topped l (suc m) s e =
-        let i : Below nodes (n ∷ rest m) = subst (λ (k : ℕ). Below nodes (nodesAt (stacks w) top k)) e (s .inside) in
+        let i : Below nodes (n ∷ rest m) = subst (λ (k : ℕ). Below nodes (valuesAt w top k)) e (s .inside) in
         let a : s .written ++ entriesBytes (nodeEntries (suc l) B (n ∷ rest m)) ≡ entriesBytes (forestEntries w₀ roots nodes) =
-        subst (λ (k : ℕ). s .written ++ entriesBytes (nodeEntries (suc l) B (nodesAt (stacks w) top k)) ≡ entriesBytes (forestEntries w₀ roots nodes)) e (s .all-is) in
+        subst (λ (k : ℕ). s .written ++ entriesBytes (nodeEntries (suc l) B (valuesAt w top k)) ≡ entriesBytes (forestEntries w₀ roots nodes)) e (s .all-is) in
         record {
           written = s .written;
           m = m;
@@ -195,8 +194,8 @@ module _ (w₀ o₀ : List ℕ) (roots nodes at₀ : ℕ) (p : Printable w₀ ro
           there = i .0;
           inside = i .1;
           cell-is = cell-there (s .cells-are) (i .0);
-          whole = whole-next B l n (rest m) (subst (λ (k : ℕ). Whole B (suc l) (nodesAt (stacks w) top k)) e (s .whole));
-          count = count-next B l n (rest m) (subst (λ (k : ℕ). length (nodeEntries (suc l) B (nodesAt (stacks w) top k)) ≡ suc l) e (s .count));
+          whole = whole-next B l n (rest m) (subst (λ (k : ℕ). Whole B (suc l) (valuesAt w top k)) e (s .whole));
+          count = count-next B l n (rest m) (subst (λ (k : ℕ). length (nodeEntries (suc l) B (valuesAt w top k)) ≡ suc l) e (s .count));
           out-is = s .out-is;
           at-is = s .at-is;
           all-is = ap (λ (x : List ℕ). s .written ++ x) (sym (bytes-next B l n (rest m))) ∙ a;
@@ -207,14 +206,14 @@ module _ (w₀ o₀ : List ℕ) (roots nodes at₀ : ℕ) (p : Printable w₀ ro
       t = let s : State w o top at (suc l) = subst (State w o top at) left-is state in topped l (s .pending) s refl
 
       premises : (firstPremise (cellAt B n) + length (premiseNodes (cellAt B n)) ≤ nodes) × Below nodes (premiseNodes (cellAt B n))
-      premises = closed-at nodes B n (omega (arith, t .there, length-cells nodes (cellBytes w₀) 0)) (p .closed)
+      premises = closed-at nodes B n (omega (arith, t .there, length-cells nodes w₀ indexEnd)) (p .closed)
 
       -- no more nodes wait than entries are left, so there is room for the premises
-      waits : length (premiseNodes (cellAt B n)) + t .m ≤ mostNodes
+      waits : (length (premiseNodes (cellAt B n)) + t .m) * 2 ≤ stackEnd
       waits =
           let ps = premiseNodes (cellAt B n) in
           let q = rest (t .m) in
-          omega (arith, waiting B l (ps ++ q) (t .whole) (t .count), length-append ps q, length-nodes (stacks w) (top + 2) (t .m), state .fewer, p .few)
+          omega (arith, waiting B l (ps ++ q) (t .whole) (t .count), length-append ps q, length-values w (top + 2) (t .m), state .fewer, p .few)
 
       sizes : length (t .written) + length (cellEntry (cellAt B n)) ≤ length (entriesBytes (forestEntries w₀ roots nodes))
       sizes =
@@ -227,7 +226,8 @@ module _ (w₀ o₀ : List ℕ) (roots nodes at₀ : ℕ) (p : Printable w₀ ro
           let e = ap (λ (c : Cell). length (premiseNodes c)) (t .cell-is) in
           record {
             node-there = omega (arith, t .there, p .few);
-            within = omega (arith, t .stack-end, t .space, p .within);
+            on-stack = omega (arith, t .stack-end);
+            within = omega (arith, t .space, p .within);
             entry-fits = omega (arith, sizes, t .at-is, p .fits, ap (λ (c : Cell). length (cellEntry c)) (t .cell-is), ap length (t .out-is), length-sets o₀ at₀ (t .written));
             premises-fit = omega (arith, waits, t .stack-end, e);
             premises-there = omega (arith, premises .0, p .few, e, ap firstPremise (t .cell-is));
@@ -239,12 +239,12 @@ module _ (w₀ o₀ : List ℕ) (roots nodes at₀ : ℕ) (p : Printable w₀ ro
           let ps = premiseNodes c in
           let k = length ps in
           let e = t .cell-is in
-          let s : nodesAt (stacks w′) (r .top) (k + t .m) ≡ ps ++ rest (t .m) =
-          subst (λ (x : Cell). nodesAt (stacks w′) (r .top) (length (premiseNodes x) + t .m) ≡ premiseNodes x ++ rest (t .m)) e (d .pending (t .m)) in
+          let s : valuesAt w′ (r .top) (k + t .m) ≡ ps ++ rest (t .m) =
+          subst (λ (x : Cell). valuesAt w′ (r .top) (length (premiseNodes x) + t .m) ≡ premiseNodes x ++ rest (t .m)) e (d .pending (t .m)) in
           record {
             written = t .written ++ cellEntry c;
             pending = k + t .m;
-            cells-are = d .cells-same ∙ t .cells-are;
+            cells-are = cells-above w w′ 0 stackEnd nodes (d .kept) (omega arith) ∙ t .cells-are;
             space = same ∙ t .space;
             stack-end = omega (arith, d .top-is, ap (λ (x : Cell). length (premiseNodes x)) e, t .stack-end);
             fewer = omega (arith, state .fewer);
@@ -259,5 +259,5 @@ module _ (w₀ o₀ : List ℕ) (roots nodes at₀ : ℕ) (p : Printable w₀ ro
     pub pass-ends : (left : ℕ) → left ≡ 0 → State w o top at left → o ≡ sets o₀ at₀ (entriesBytes (forestEntries w₀ roots nodes))
     unfolding nodeEntries entriesBytes
     pass-ends left z s =
-        let a : s .written ++ [] ≡ entriesBytes (forestEntries w₀ roots nodes) = subst (λ (k : ℕ). s .written ++ entriesBytes (nodeEntries k B (nodesAt (stacks w) top (s .pending))) ≡ entriesBytes (forestEntries w₀ roots nodes)) z (s .all-is) in
+        let a : s .written ++ [] ≡ entriesBytes (forestEntries w₀ roots nodes) = subst (λ (k : ℕ). s .written ++ entriesBytes (nodeEntries k B (valuesAt w top (s .pending))) ≡ entriesBytes (forestEntries w₀ roots nodes)) z (s .all-is) in
         s .out-is ∙ ap (sets o₀ at₀) (sym (append-nil (s .written)) ∙ a)

@@ -8,6 +8,7 @@ use lib.ListN.{length, set}
 use lib.Seq.{sets}
 use Rattle.words.specs.Word.{word, putWord}
 use Rattle.words.specs.Kept.{Kept}
+use Rattle.words.proofs.KeptLaws.{kept-same, kept-both}
 use Rattle.format.specs.declared.values.RuleName.{RuleName}
 use Rattle.format.specs.declared.values.Goal.{Goal}
 use Rattle.format.specs.Values.{ruleName, goal}
@@ -19,8 +20,11 @@ use Rattle.files.specs.Derivations.{Entry, useEntry, openEntry, entryBytes}
 use Rattle.hitac.proofs.Nodes.{Cell, openCell, useCell, entryOf, premiseNodes, range}
 use Rattle.flattener.specs.declared.print.Printed.{Printed}
 use Rattle.flattener.specs.Prints.{topCell, firstPremise, cellEntry, PrintReady, NodePrinted}
-use Rattle.flattener.proofs.StackLaws.{nodes-append, nodes-above, nodes-stacks, kept-stacks, same-cells, length-range, kept-range, nodes-range}
-use Rattle.flattener.specs.Space.{floor, cellBytes, stacks, cellFrom, cellIn, nodesAt, putRange}
+use Rattle.walks.specs.Layout.{stackEnd}
+use Rattle.walks.specs.Values.{valuesAt}
+use Rattle.walks.proofs.ValueLaws.{values-append, values-above}
+use Rattle.flattener.specs.Space.{cellPlace, cellsEnd, cellFrom, cellIn, putRange}
+use Rattle.flattener.proofs.RowLaws.{kept-range, nodes-range}
 
 -- blocks one behind the other
 pub sets-append : (a b l : List ℕ) (i : ℕ) → sets l i (a ++ b) ≡ sets (sets l i a) (i + length a) b
@@ -86,11 +90,11 @@ pub range-length : (f c : ℕ) → length (range f c) ≡ c
 range-length f zero = refl
 range-length f (suc c) = ap suc (range-length (suc f) c)
 
-pub open-there : (w : List ℕ) (top n v : ℕ) → n ≡ word (stacks w) top → v ≡ word w (n * 8 + 6) → v ≡ 0 → topCell w top ≡ openCell (goal (word w (n * 8)))
-open-there w top n v e f z = rw (← e) (cell-open w (n * 8) (sym f ∙ z))
+pub open-there : (w : List ℕ) (top n v : ℕ) → n ≡ word w top → v ≡ word w (cellPlace n + 6) → v ≡ 0 → topCell w top ≡ openCell (goal (word w (cellPlace n)))
+open-there w top n v e f z = rw (← e) (cell-open w (cellPlace n) (sym f ∙ z))
 
-pub use-there : (w : List ℕ) (top n v : ℕ) → n ≡ word (stacks w) top → v ≡ word w (n * 8 + 6) → (v ≡ 0 → ⊥) → topCell w top ≡ useCell (ruleName (word w (n * 8 + 2))) (goal (word w (n * 8))) (word w (n * 8 + 4)) (v - 1)
-use-there w top n v e f z = rw (← e) (cell-use w (n * 8) (v - 1) (sym f ∙ omega (arith, z)))
+pub use-there : (w : List ℕ) (top n v : ℕ) → n ≡ word w top → v ≡ word w (cellPlace n + 6) → (v ≡ 0 → ⊥) → topCell w top ≡ useCell (ruleName (word w (cellPlace n + 2))) (goal (word w (cellPlace n))) (word w (cellPlace n + 4)) (v - 1)
+use-there w top n v e f z = rw (← e) (cell-use w (cellPlace n) (v - 1) (sym f ∙ omega (arith, z)))
 
 -- printed as an open leaf
 pub printed-open : (w : List ℕ) (top at : ℕ) (o o′ : List ℕ) (γ : Goal) (x : ℕ) → γ .0 ≡ x → topCell w top ≡ openCell (goal x) → o′ ≡ sets o at (entryBytes (openEntry γ))
@@ -101,14 +105,14 @@ printed-open w top at o o′ γ x g e p =
     record {
       out-is = p ∙ ap (λ (c : Cell). sets o at (cellEntry c)) q;
       at-is = ap (λ (c : Cell). at + length (cellEntry c)) q;
-      cells-same = refl;
+      kept = kept-same w 0 stackEnd;
       top-is = ap (λ (c : Cell). top + 2 + length (premiseNodes c) * 2) (sym q) ∙ omega arith;
-      pending = λ m. ap (λ (c : Cell). nodesAt (stacks w) (top + 2) (length (premiseNodes c) + m)) (sym q) ∙ ap (nodesAt (stacks w) (top + 2)) (omega arith) ∙ ap (λ (c : Cell). premiseNodes c ++ nodesAt (stacks w) (top + 2) m) q;
+      pending = λ m. ap (λ (c : Cell). valuesAt w (top + 2) (length (premiseNodes c) + m)) (sym q) ∙ ap (valuesAt w (top + 2)) (omega arith) ∙ ap (λ (c : Cell). premiseNodes c ++ valuesAt w (top + 2) m) q;
     }
 
 -- printed as a use, its premises put in its place
 module _ (w : List ℕ) (top at : ℕ) (o o′ : List ℕ) (a : RuleName) (γ : Goal) (f k above y x : ℕ) (an : a .0 ≡ y) (gn : γ .0 ≡ x) (here : topCell w top ≡ useCell (ruleName y) (goal x) f k)
-    (p : o′ ≡ sets o at (entryBytes (useEntry a γ))) (w′ : List ℕ) (pushed : w′ ≡ putRange w (floor + above) f k) (above-is : above + k * 2 ≡ top + 2) (inside : floor + top + 2 ≤ length w) where
+    (p : o′ ≡ sets o at (entryBytes (useEntry a γ))) (w′ : List ℕ) (pushed : w′ ≡ putRange w above f k) (above-is : above + k * 2 ≡ top + 2) (inside : top + 2 ≤ stackEnd) (within : cellsEnd ≤ length w) where
   abbrev made : Cell
   made = useCell a γ f k
 
@@ -116,26 +120,26 @@ module _ (w : List ℕ) (top at : ℕ) (o o′ : List ℕ) (a : RuleName) (γ : 
   same = (λ i. useCell (record { 0 = an i }) (record { 0 = gn i }) f k) ∙ sym here
 
   abbrev v : List ℕ
-  v = putRange w (floor + above) f k
+  v = putRange w above f k
 
-  kept-v : Kept w v (floor + above) (floor + (above + k * 2))
-  kept-v = subst (λ (q : ℕ). Kept w v (floor + above) q) (omega arith) (kept-range k w (floor + above) f)
+  kept-v : Kept w v above (above + k * 2)
+  kept-v = kept-range k w above f
 
   count-is : length (premiseNodes made) ≡ k
   count-is = range-length f k
 
-  all-pending : (m : ℕ) → nodesAt (stacks v) above (k + m) ≡ range f k ++ nodesAt (stacks w) (top + 2) m
+  all-pending : (m : ℕ) → valuesAt v above (k + m) ≡ range f k ++ valuesAt w (top + 2) m
   all-pending m =
-      nodes-append k m (stacks v) above
-      ∙ ap₂ (λ (i j : List ℕ). i ++ j) (nodes-stacks v above k ∙ nodes-range k w (floor + above) f (omega arith))
-      (nodes-above (stacks w) (stacks v) above (above + k * 2) (above + k * 2) m (kept-stacks w v above (above + k * 2) kept-v) (omega arith) ∙ ap (λ (q : ℕ). nodesAt (stacks w) q m) above-is)
+      values-append k m v above
+      ∙ ap₂ (λ (i j : List ℕ). i ++ j) (nodes-range k w above f (omega arith))
+      (values-above w v above (above + k * 2) (above + k * 2) m kept-v (omega arith) ∙ ap (λ (q : ℕ). valuesAt w q m) above-is)
 
   pub printed-use : NodePrinted w w′ top at o o′ (record { top = above; at = at + 7 })
   unfolding entryBytes
   printed-use = rw pushed (record {
     out-is = p ∙ ap (λ (c : Cell). sets o at (cellEntry c)) same;
     at-is = ap (λ (c : Cell). at + length (cellEntry c)) same;
-    cells-same = same-cells w v above (above + k * 2) kept-v (length-range k w (floor + above) f) (omega arith);
+    kept = kept-both w v v above (above + k * 2) above (above + k * 2) 0 stackEnd kept-v (kept-same v above (above + k * 2)) (omega arith) (omega arith) (omega arith) (omega arith);
     top-is = ap (λ (c : Cell). above + length (premiseNodes c) * 2) (sym same) ∙ ap (λ (q : ℕ). above + q * 2) count-is ∙ above-is;
-    pending = λ m. ap (λ (c : Cell). nodesAt (stacks v) above (length (premiseNodes c) + m)) (sym same) ∙ ap (λ (q : ℕ). nodesAt (stacks v) above (q + m)) count-is ∙ all-pending m ∙ ap (λ (c : Cell). premiseNodes c ++ nodesAt (stacks w) (top + 2) m) same;
+    pending = λ m. ap (λ (c : Cell). valuesAt v above (length (premiseNodes c) + m)) (sym same) ∙ ap (λ (q : ℕ). valuesAt v above (q + m)) count-is ∙ all-pending m ∙ ap (λ (c : Cell). premiseNodes c ++ valuesAt w (top + 2) m) same;
   })

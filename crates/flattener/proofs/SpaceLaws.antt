@@ -1,24 +1,11 @@
--- Turns of the loops that store nodes: what is stored and what is left make the whole. The stacks begin at the floor.
+-- Turns of the loops that store nodes: what is stored and what is left make the whole.
 -- Assumes nothing.
-use mathlib.Core.Path.{_≡_, ap, ap₂, _∙_}
+use mathlib.Core.Path.{_≡_}
 use mathlib.Core.List.{List}
 use Prim.Native.Nat.{ℕ, suc, _+_, _*_}
-use native.Mathlib.Omega.{arith}
-use lib.ListN.{getD}
-use lib.Seq.{getD-drop}
 use Rattle.words.specs.Word.{word, putWord}
 use Rattle.format.specs.Goals.{goalsAt}
-use Rattle.flattener.specs.Space.{floor, stacks, putOpens, putRange}
-
--- ---- the stacks begin at the floor
-
-pub word-stacks : (w : List ℕ) (at : ℕ) → word (stacks w) at ≡ word w (floor + at)
-unfolding word
-word-stacks w at =
-    let e : floor + (at + 1) ≡ floor + at + 1 = omega arith in
-    ap₂ (λ (x y : ℕ). x * 256 + y) (getD-drop floor w at 0) (getD-drop floor w (at + 1) 0 ∙ ap (λ (i : ℕ). getD w i 0) e)
-
--- ---- a turn of each loop
+use Rattle.flattener.specs.Space.{cellPlace, putOpens, putRange}
 
 pub range-moved : (s : List ℕ) (at f k at′ f′ k′ : ℕ) → at ≡ at′ → f ≡ f′ → k ≡ k′ → putRange s at f k ≡ putRange s at′ f′ k′
 range-moved s at f k at′ f′ k′ p q r = λ i. putRange s (p i) (q i) (r i)
@@ -34,7 +21,7 @@ range-end s at f k e = rw e
 pub opens-moved : (s file : List ℕ) (n place k n′ place′ k′ : ℕ) → n ≡ n′ → place ≡ place′ → k ≡ k′ → putOpens s n (goalsAt file place k) ≡ putOpens s n′ (goalsAt file place′ k′)
 opens-moved s file n place k n′ place′ k′ p q r = λ i. putOpens s (p i) (goalsAt file (q i) (r i))
 
-pub opens-turn : (s s₁ s′ file : List ℕ) (n place k v n′ k′ : ℕ) → v ≡ word file place → s₁ ≡ putWord s (n * 8) v → s′ ≡ putWord s₁ (n * 8 + 6) 0 → suc n ≡ n′ → (place′ : ℕ) → place + 2 ≡ place′ → k ≡ suc k′
+pub opens-turn : (s s₁ s′ file : List ℕ) (n place k v n′ k′ : ℕ) → v ≡ word file place → s₁ ≡ putWord s (cellPlace n) v → s′ ≡ putWord s₁ (cellPlace n + 6) 0 → suc n ≡ n′ → (place′ : ℕ) → place + 2 ≡ place′ → k ≡ suc k′
     → putOpens s n (goalsAt file place k) ≡ putOpens s′ n′ (goalsAt file place′ k′)
 unfolding putOpens goalsAt
 opens-turn s s₁ s′ file n place k v n′ k′ e f g p place′ q r = rw (r, g, f, e, ← p, ← q)

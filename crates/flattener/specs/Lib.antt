@@ -1,4 +1,5 @@
 pub mod Space
+pub mod NodeActs
+pub mod Leaves
 pub mod Walks
 pub mod Prints
-pub mod Forests

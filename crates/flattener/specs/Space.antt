@@ -1,26 +1,23 @@
--- The work space of the flattener: cells of nodes below one place, arities and two stacks of nodes from it on.
+-- The cells of the nodes, behind all that the walk shares with the checker's: eight bytes for each node.
 use Prim.Native.Nat.{ℕ, zero, suc, _+_, _*_}
-use mathlib.Core.List.{List, [], _∷_, map}
-use lib.ListN.{length, take, drop}
+use mathlib.Core.List.{List, [], _∷_}
+use lib.ListN.{length}
 use Rattle.words.specs.Word.{word, putWord}
 use Rattle.format.specs.declared.values.Goal.{Goal}
+use Rattle.format.specs.Limits.{mostGoals}
 use Rattle.format.specs.Values.{ruleName, goal}
-use Rattle.format.specs.Goals.{goalsAt}
 use Rattle.hitac.proofs.Nodes.{Cell, openCell, useCell}
+use Rattle.walks.specs.Layout.{mostAtomics, indexEnd}
 
--- No more nodes than entries: 2,048 uses and 256 open leaves.
+-- The stated goals, and at most eight premises for each atomic: also a walk that is refused makes no more.
 abbrev pub mostNodes : ℕ
-mostNodes = 2304
+mostNodes = mostGoals + 8 * mostAtomics
 
--- eight bytes for each
-abbrev pub floor : ℕ
-floor = 18432
+abbrev pub cellPlace : (node : ℕ) → ℕ
+cellPlace n = indexEnd + n * 8
 
-abbrev pub cellBytes : List ℕ → List ℕ
-cellBytes w = take floor w
-
-abbrev pub stacks : List ℕ → List ℕ
-stacks w = drop floor w
+abbrev pub cellsEnd : ℕ
+cellsEnd = cellPlace mostNodes
 
 -- A cell: its goal, then of a use its name, its first premise's node and one more than the count of its premises; an open goal has 0 there.
 unfoldable pub cellFrom : (goal name first mark : ℕ) → Cell
@@ -37,29 +34,26 @@ cellsFrom s at (suc k) = cellIn s at ∷ cellsFrom s (at + 8) k
 
 -- the cells of the first so many nodes
 abbrev pub cellsOf : List ℕ → (count : ℕ) → List Cell
-cellsOf s k = cellsFrom s 0 k
-
--- so many nodes from a place on: each has the 16 bits of a value
-abbrev pub nodeIn : Goal → ℕ
-nodeIn γ = γ .0
-
-abbrev pub nodesAt : List ℕ → (at count : ℕ) → List ℕ
-nodesAt s at k = map nodeIn (goalsAt s at k)
+cellsOf s k = cellsFrom s indexEnd k
 
 -- the cell of a node made that of a use
 unfoldable pub putUse : List ℕ → (node name first count : ℕ) → List ℕ
-putUse s n a f c = putWord (putWord (putWord s (n * 8 + 2) a) (n * 8 + 4) f) (n * 8 + 6) (c + 1)
+putUse s n a f c = putWord (putWord (putWord s (cellPlace n + 2) a) (cellPlace n + 4) f) (cellPlace n + 6) (c + 1)
 
 -- the cells of open goals, from a node on
 unfoldable pub putOpens : List ℕ → (node : ℕ) → List Goal → List ℕ
 putOpens s n [] = s
-putOpens s n (γ ∷ g) = putOpens (putWord (putWord s (n * 8) (γ .0)) (n * 8 + 6) 0) (suc n) g
+putOpens s n (γ ∷ g) = putOpens (putWord (putWord s (cellPlace n) (γ .0)) (cellPlace n + 6) 0) (suc n) g
 
 -- so many nodes in a row, from a place on
 unfoldable pub putRange : List ℕ → (at first count : ℕ) → List ℕ
 putRange s at f zero = s
 putRange s at f (suc c) = putRange (putWord s at f) (at + 2) (suc f) c
 
--- a node made a use of its premises g, which become new nodes from f on and are put on a stack
-unfoldable pub grown : List ℕ → (node name f : ℕ) → (g : List Goal) → (low : ℕ) → List ℕ
-grown w n a f g low = putRange (putOpens (putUse w n a f (length g)) f g) (floor + low) f (length g)
+-- a node made a use of its premises g, which become new nodes from f on
+abbrev pub planted : List ℕ → (node name f : ℕ) → (g : List Goal) → List ℕ
+planted w n a f g = putOpens (putUse w n a f (length g)) f g
+
+-- and are put on a stack
+abbrev pub grown : List ℕ → (node name f : ℕ) → (g : List Goal) → (low : ℕ) → List ℕ
+grown w n a f g low = putRange (planted w n a f g) low f (length g)

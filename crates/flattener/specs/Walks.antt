@@ -1,42 +1,38 @@
--- What the walk over nodes comes to in the work space, against the walk of hitac over cells.
+-- Where the walk over nodes stands, by what is shared with the checker's walk: the cells made so far are the first ones behind the index.
 use Prim.Native.Nat.{ℕ, _+_, _*_, _≤_, _<_}
 use mathlib.Core.Path.{_≡_}
-use mathlib.Core.List.{List, [], _∷_}
-use lib.ListN.{length, take, drop}
-use Rattle.words.specs.Kept.{Kept}
-use Rattle.format.specs.Terms.{Term, atomic, id, label, sequence, tensor, empty, alternation, assert, defined}
+use mathlib.Core.List.{List}
+use lib.ListN.{length, getD}
+use Rattle.format.specs.Limits.{mostBytes}
+use Rattle.format.specs.Refusals.{Cause, number}
+use Rattle.format.specs.Results.{gives, refused}
 use Rattle.tables.specs.Tables.{Table}
-use Rattle.hitac.specs.Hiproofs.{inputArity, atomics}
-use Rattle.hitac.proofs.Nodes.{Cell, NodeWalk, nodeWalk}
-use Rattle.checker.specs.Walks.{Ready}
-use Rattle.flattener.specs.declared.walk.Given.{Given}
-use Rattle.flattener.specs.Space.{mostNodes, floor, cellBytes, stacks, cellsOf, nodesAt}
+use Rattle.tables.specs.Standing.{TableStands}
+use Rattle.index.specs.Build.{RulesIndexed}
+use Rattle.walks.specs.Layout.{stackEnd, aritiesEnd, indexEnd}
+use Rattle.walks.specs.Values.{valuesAt}
+use Rattle.walks.specs.Walks.{out}
+use Rattle.walks.specs.Loops.{Aim, Turned}
+use Rattle.flattener.specs.declared.walk.Stepped.{Stepped}
+use Rattle.flattener.specs.declared.walk.Walked.{Walked}
+use Rattle.flattener.specs.declared.walk.Walked.the-variants as W
+use Rattle.flattener.specs.Space.{cellsEnd, cellsOf}
+use Rattle.flattener.specs.NodeActs.{nodeAct}
 
--- The term can be walked from these nodes: an atomic and an id have one node, an atomic's is there and has room for its premises, a tensor has enough for its left term.
-unfoldable pub Suits : Table → Term → List Cell → List ℕ → Type 0
-Suits T (atomic a) A ns = (n : ℕ) × (ns ≡ n ∷ []) × (n < length A) × (length (nodeWalk T (atomic a) A ns .cells) ≤ mostNodes)
-Suits T id A ns = length ns ≡ 1
-Suits T (label l s) A ns = Suits T s A ns
-Suits T (sequence s t) A ns = Suits T s A ns × Suits T t (nodeWalk T s A ns .cells) (nodeWalk T s A ns .nodes)
-Suits T (tensor s t) A ns = (inputArity s ≤ length ns) × Suits T s A (take (inputArity s) ns) × Suits T t (nodeWalk T s A (take (inputArity s) ns) .cells) (drop (inputArity s) ns)
-Suits T empty A ns = Unit {0}
-Suits T (alternation s t) A ns = Unit {0}
-Suits T (assert γ) A ns = Unit {0}
-Suits T (defined n) A ns = Unit {0}
+-- the table stands with its rules indexed, and the whole walk is refused for no cause but those of a walk
+pub record Walkable (T : Table) (x : Aim) (table : List ℕ) (first : ℕ) (s w : List ℕ) : Type 0 where
+  pub table-stands : TableStands table first T
+  pub indexed : RulesIndexed table first w aritiesEnd
+  pub sound : (c : Cause) (p : ℕ) → x .result ≡ refused c p → 20 ≤ number c
+  pub file : length s ≤ mostBytes
+  pub space : cellsEnd ≤ length w
 
--- the walk of hitac over the cells and the nodes of a work space
-abbrev pub nodeWalkIn : Table → Term → List ℕ → (top count next : ℕ) → NodeWalk
-nodeWalkIn T t w top count next = nodeWalk T t (cellsOf (cellBytes w) next) (nodesAt (stacks w) top count)
+-- a step that left the index as it was
+pub record Goes (T : Table) (x : Aim) (s w w′ : List ℕ) (at : ℕ) (r : Stepped) : Type 0 where
+  pub turned : Turned (nodeAct T) x (cellsOf w′ (r .next)) s w′ at (r .turn)
+  pub index-kept : (i : ℕ) → aritiesEnd ≤ i → i < indexEnd → getD w′ i 0 ≡ getD w i 0
 
--- The term at a place can be walked in a work space.
-pub record NodesReady (T : Table) (s : List ℕ) (at : ℕ) (t : Term) (w : List ℕ) (low top count next : ℕ) : Type 0 where
-  pub ready : Ready s at t (stacks w) low top
-  pub suits : Suits T t (cellsOf (cellBytes w) next) (nodesAt (stacks w) top count)
-  pub within : floor + top + count * 2 ≤ length w
-
--- The term took its nodes in a work space w and left the work space w′: the cells, the nodes given, at most seven more for each atomic, and what was kept.
-pub record NodesWalked (T : Table) (t : Term) (w w′ : List ℕ) (low top count next : ℕ) (r : Given) : Type 0 where
-  pub cells : cellsOf (cellBytes w′) (r .next) ≡ nodeWalkIn T t w top count next .cells
-  pub nodes : nodesAt (stacks w′) low (r .given) ≡ nodeWalkIn T t w top count next .nodes
-  pub few : r .given ≤ count + 7 * atomics t
-  pub kept : Kept (stacks w) (stacks w′) low (top + count * 2)
+-- how the whole walk ended in the work space w
+unfoldable pub Ends : Aim → List ℕ → List ℕ → Walked → Type 0
+Ends x s w (W.Refused k p) = (c : Cause) × (number c ≡ k) × (x .result ≡ refused c p) × (p ≤ length s)
+Ends x s w (W.Gives given uses nodes) = (x .result ≡ gives (out (cellsOf w nodes) (valuesAt w 0 given))) × (uses ≡ x .uses) × (given * 2 ≤ stackEnd)

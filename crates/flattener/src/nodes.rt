@@ -1,16 +1,16 @@
-// Nodes in the work space: the cells of all nodes below FLOOR, eight bytes each; arities and two stacks of nodes from there on.
+// Nodes in the work space: their cells behind the index, eight bytes each, and their numbers on the stacks.
 ghost use mathlib.Core.Path.{_≡_};
 ghost use Prim.Native.Nat.{_+_, _*_, _≤_, _<_};
 ghost use lib.ListN.{length};
-ghost use Rattle.words.specs.Word.{word};
 ghost use Rattle.format.specs.Goals.{goalsAt};
-ghost use Rattle.flattener.specs.Space.{floor, stacks, putUse, putOpens, putRange};
+ghost use Rattle.flattener.specs.Space.{cellPlace, putUse, putOpens, putRange};
 use format::values::RuleName;
+use walks::layout::INDEX_END;
 use words::load16;
 use words::store16;
 
-// Where the cells end. No proof has more than 2,304 nodes: 2,048 uses and 256 open leaves.
-pub const FLOOR: usize = 18432;
+// Where the cells begin.
+pub const CELLS: usize = INDEX_END;
 
 // Stores so many nodes in a row from a place on.
 pub fn put_range(s: &mut [u8], at: usize, first: usize, count: usize)
@@ -26,13 +26,13 @@ pub fn put_range(s: &mut [u8], at: usize, first: usize, count: usize)
 
 // The cells of so many open goals, those from a place of a file on.
 pub fn put_opens(s: &mut [u8], node: usize, file: &[u8], place: usize, count: usize)
-    requires { ⌜ ((node + count) * 8 ≤ length (now s)) × (place + count * 2 ≤ length (now file)) ⌝ }
+    requires { ⌜ (cellPlace (node + count) ≤ length (now s)) × (place + count * 2 ≤ length (now file)) ⌝ }
     ensures { λ _. ⌜ now (s .exit) ≡ putOpens (now (s .entry)) node (goalsAt (now (file .entry)) place count) ⌝ }
 {
     let mut i: usize = 0;
     while i < count {
         let goal = load16(file, place + i * 2);
-        let at = (node + i) * 8;
+        let at = CELLS + (node + i) * 8;
         store16(s, at, goal);
         store16(s, at + 6, 0);
         i += 1;
@@ -41,19 +41,11 @@ pub fn put_opens(s: &mut [u8], node: usize, file: &[u8], place: usize, count: us
 
 // The cell of a node becomes that of a use.
 pub fn put_use(s: &mut [u8], node: usize, name: RuleName, first: usize, count: usize)
-    requires { ⌜ (node * 8 + 8 ≤ length (now s)) × (first ≤ 65535) × (count < 65535) ⌝ }
+    requires { ⌜ (cellPlace node + 8 ≤ length (now s)) × (first ≤ 65535) × (count < 65535) ⌝ }
     ensures { λ _. ⌜ now (s .exit) ≡ putUse (now (s .entry)) node (name .0) first count ⌝ }
 {
-    let at = node * 8;
+    let at = CELLS + node * 8;
     store16(s, at + 2, name.0);
     store16(s, at + 4, first as u16);
     store16(s, at + 6, (count + 1) as u16);
-}
-
-// The node at a place of the stacks.
-pub fn node_at(work: &[u8], at: usize) -> usize
-    requires { ⌜ floor + at + 1 < length (now work) ⌝ }
-    ensures { λ r. ⌜ r ≡ word (stacks (now (work .entry))) at ⌝ }
-{
-    load16(work, FLOOR + at) as usize
 }

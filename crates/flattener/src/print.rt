@@ -6,16 +6,14 @@ ghost use lib.Seq.{sets};
 ghost use Rattle.format.specs.Goals.{goalsAt};
 ghost use Rattle.format.specs.Encoding.{goalBytes, goalListBytes};
 ghost use Rattle.files.specs.Derivations.{useEntry, openEntry, entryBytes, entriesBytes};
-ghost use Rattle.flattener.specs.Space.{floor};
 ghost use Rattle.flattener.specs.Prints.{PrintReady, NodePrinted, forestEntries, Printable};
-use crate::nodes::FLOOR;
-use crate::nodes::node_at;
+use crate::nodes::CELLS;
 use crate::nodes::put_range;
-use checker::decide::STACK_END;
 use format::values::Goal;
 use format::values::RuleName;
 use format::values::goal_at;
 use format::values::rule_name_at;
+use walks::layout::STACK_END;
 use words::load16;
 use words::store16;
 
@@ -74,8 +72,8 @@ fn print_node(work: &mut [u8], top: usize, out: &mut [u8], at: usize) -> Printed
     requires { ⌜ PrintReady (now work) top at (length (now out)) ⌝ }
     ensures { λ r. ⌜ NodePrinted (now (work .entry)) (now (work .exit)) top at (now (out .entry)) (now (out .exit)) r ⌝ }
 {
-    let node = node_at(work, top);
-    let cell = node * 8;
+    let node = load16(work, top) as usize;
+    let cell = CELLS + node * 8;
     let goal = goal_at(work, cell);
     let mark = load16(work, cell + 6) as usize;
     if mark == 0 {
@@ -90,7 +88,7 @@ fn print_node(work: &mut [u8], top: usize, out: &mut [u8], at: usize) -> Printed
     write_use(out, at, name, goal);
     let count = mark - 1;
     let above = top + 2 - count * 2;
-    put_range(work, FLOOR + above, first, count);
+    put_range(work, above, first, count);
     Printed {
         top: above,
         at: at + 7,
@@ -103,7 +101,7 @@ pub fn print_forest(work: &mut [u8], roots: usize, nodes: usize, out: &mut [u8],
     ensures { λ _. ⌜ now (out .exit) ≡ sets (now (out .entry)) at (entriesBytes (forestEntries (now (work .entry)) roots nodes)) ⌝ }
 {
     let mut top = STACK_END - roots * 2;
-    put_range(work, FLOOR + top, 0, roots);
+    put_range(work, top, 0, roots);
     let mut here = at;
     let mut left = nodes;
     while 0 < left {

@@ -3,25 +3,29 @@
 use mathlib.Core.Path.{_≡_, sym, ap, _∙_}
 use Prim.Native.Nat.{ℕ, _≤_}
 use native.Mathlib.Omega.{arith}
+use lib.ListN.{length}
 use denote.Ref.{now}
 use borrow.Author.Needs.{needs}
-use Rattle.answers.specs.Answers as answer
-use Rattle.tables.proofs.ToldTable.{ToldRead, told-reads, ToldRefused, told-refuses}
+use Rattle.tables.proofs.ToldTable.{ToldRefused, told-refuses}
+use Rattle.index.proofs.ReadLaws.{Told, told-indexed}
 use Rattle.files.proofs.Answers as files
 use Rattle.files.proofs.RefusedFiles.{Proof-refused}
+use Rattle.answers.specs.Answers as answer
+use Rattle.walks.specs.Layout.{aritiesEnd, indexEnd}
+use Rattle.checker.proofs.StepLaws.{behind-kept}
 use Rattle.checker.proofs.CheckLaws.{table-refused, proof-refused, both-read}
 use Rattle.checker.proofs.check.check_files.Statement.{statement}
 use Rattle.checker.proofs.check.check_files.Tie as tie
 
 read-table-requires : tie.Need-read-table-requires
-read-table-requires c κs = search needs
+read-table-requires c κs = (omega arith, omega (arith, c .before .before .before .before .pre))
 
 enum-known-read : tie.Need-enum-known-read
 enum-known-read c = search needs
 
 -- the table's refusal
-table-told : (c : tie.After-known-told) → ToldRefused (now ((c .before .before .before .before .before .before .before) .args .table)) (c .before .read .given .0 .0) (c .before .read .given .0 .1 .0)
-table-told c = told-refuses _ _ _ (sym ((c .before .before .before) .read-table .ensures) ∙ c .before .read .given .1)
+table-told : (c : tie.After-known-told) → ToldRefused (now (c .before .before .before .before .before .before .before .before .before .before .args .table)) (c .before .read .given .0 .0) (c .before .read .given .0 .1 .0)
+table-told c = told-refuses _ _ _ (sym (c .before .before .before .before .before .read-table .ensures .answer) ∙ c .before .read .given .1)
 
 refusal-requires : tie.Need-refusal-requires
 refusal-requires c κs = (table-told c .refusal .below, omega arith)
@@ -29,49 +33,60 @@ refusal-requires c κs = (table-told c .refusal .below, omega arith)
 enum-known-read-2 : tie.Need-enum-known-read-2
 enum-known-read-2 c = search needs
 
--- the table that was read
-table : (c : tie.After-known-told2) → ToldRead (now ((c .before .before .before .before .before .before .before) .args .table)) (c .before .read2 .given .0 .0) (c .before .read2 .given .0 .1 .0) (c .before .read2 .given .0 .1 .1 .0)
-table c = told-reads _ _ _ _ (sym ((c .before .before .before) .read-table .ensures) ∙ c .before .read2 .given .1)
+-- the table that was read, and its index
+told : (c : tie.After-known-told2) → Told (now (c .before .before .before .before .before .before .before .before .before .before .args .table)) (c .before .before .before .before .before .read-table .last .1 .0) 0 aritiesEnd (c .before .read2 .given .0 .0) (c .before .read2 .given .0 .1 .0) (c .before .read2 .given .0 .1 .1 .0)
+told c = told-indexed _ _ _ _ _ _ _ _ _ (c .before .before .before .before .before .read-table .ensures) (c .before .read2 .given .1)
+
+long : (c : tie.After-known-told2) → indexEnd ≤ length (c .before .before .before .before .before .read-table .last .1 .0)
+long c = omega (arith, c .before .before .before .before .before .before .before .before .before .before .pre, c .before .before .before .before .before .read-table .kept .1 .0)
 
 read-proof-requires : tie.Need-read-proof-requires
-read-proof-requires c κs = search needs
+read-proof-requires c κs = omega (arith, long (c .before))
 
 enum-known-file : tie.Need-enum-known-file
 enum-known-file c = search needs
 
 refusal-requires-2 : tie.Need-refusal-requires-2
 refusal-requires-2 c κs =
-    let x = files.proof-refused _ _ _ (sym ((c .before .before .before) .read-proof .ensures) ∙ c .before .file .given .1) in
+    let x = files.proof-refused _ _ _ (sym (c .before .before .before .before .before .read-proof .ensures .0) ∙ c .before .file .given .1) in
     (Proof-refused _ (x .0) _ (x .1) .below, omega arith)
 
 enum-known-file-2 : tie.Need-enum-known-file-2
 enum-known-file-2 c = search needs
 
-check-parts-requires : tie.Need-check-parts-requires
-check-parts-requires c κs =
-    let t = table (c .before .before .before .before .before) in
-    let x = files.proof-read _ _ (sym ((c .before .before .before .before) .read-proof .ensures) ∙ (c .before) .before .file2 .given .1) in
-    ((t .table, t .stands), (x .0, x .1, x .2), (c .before .before .before .before .before .before .before .before .before .before .before .before) .pre)
+decide-requires : tie.Need-decide-requires
+decide-requires c κs =
+    let k = c .before .before .before .before .before .before .before .before in
+    let t = told k .read in
+    let r = c .before .before .before .before .before .before .read-proof in
+    let x = files.proof-read _ _ (sym (r .ensures .0) ∙ c .before .before .file2 .given .1) in
+    ((t .table, t .stands), (x .0, x .1, x .2), omega (arith, long k, r .kept .1 .0), behind-kept _ _ _ _ _ _ (r .kept .1 .0) (r .ensures .1) (omega arith) (record { index = told k .rules }))
+
+same-length : tie.Need-same-length
+same-length c = c .before .before .before .before .before .before .read-table .kept .1 .0
 
 returns : tie.Need-returns
 returns c =
     let x = table-told (c .before) in
-    c .refusal .ensures ∙ ap (λ (k : ℕ). answer.refusal k 1 ((c .before) .before .read .given .0 .1 .0) 0) (sym (x .number-is)) ∙ sym (table-refused _ _ (x .cause) _ (x .refuses))
+    c .refusal .ensures ∙ ap (λ (k : ℕ). answer.refusal k 1 (c .before .before .read .given .0 .1 .0) 0) (sym (x .number-is)) ∙ sym (table-refused _ _ (x .cause) _ (x .refuses))
+
+same-length-2 : tie.Need-same-length-2
+same-length-2 c = c .before .before .before .before .before .before .read-proof .kept .1 .0 ∙ c .before .before .before .before .before .before .before .before .before .before .before .before .before .read-table .kept .1 .0
 
 returns-2 : tie.Need-returns-2
 returns-2 c =
-    let t = table (c .before .before .before .before .before) in
-    let x = files.proof-refused _ _ _ (sym ((c .before .before .before .before) .read-proof .ensures) ∙ (c .before) .before .file .given .1) in
-    c .refusal2 .ensures ∙ ap (λ (k : ℕ). answer.refusal k 2 ((c .before) .before .file .given .0 .1 .0) 0) (sym (x .2)) ∙ sym (proof-refused _ _ (t .table) (x .0) _ (t .reads) (x .1))
+    let t = told (c .before .before .before .before .before .before .before .before) .read in
+    let x = files.proof-refused _ _ _ (sym (c .before .before .before .before .before .before .read-proof .ensures .0) ∙ c .before .before .file .given .1) in
+    c .refusal2 .ensures ∙ ap (λ (k : ℕ). answer.refusal k 2 (c .before .before .file .given .0 .1 .0) 0) (sym (x .2)) ∙ sym (proof-refused _ _ (t .table) (x .0) _ (t .reads) (x .1))
 
-same-length : tie.Need-same-length
-same-length c = (c .before .before) .check-parts .kept .1 .1 .1 .0
+same-length-3 : tie.Need-same-length-3
+same-length-3 c = c .before .before .decide .kept .1 .1 .1 .0 ∙ c .before .before .before .before .before .before .before .before .before .read-proof .kept .1 .0 ∙ c .before .before .before .before .before .before .before .before .before .before .before .before .before .before .before .before .read-table .kept .1 .0
 
 returns-3 : tie.Need-returns-3
 returns-3 c =
-    let t = table (c .before .before .before .before .before .before .before .before) in
-    let x = files.proof-read _ _ (sym ((c .before .before .before .before .before .before .before) .read-proof .ensures) ∙ (c .before .before .before .before) .before .file2 .given .1) in
-    (c .before .before) .check-parts .ensures (t .table) (x .0) (t .stands) (x .1) ∙ sym (both-read _ _ (t .table) (x .0) (t .reads) (x .1))
+    let t = told (c .before .before .before .before .before .before .before .before .before .before .before) .read in
+    let x = files.proof-read _ _ (sym (c .before .before .before .before .before .before .before .before .before .read-proof .ensures .0) ∙ c .before .before .before .before .before .file2 .given .1) in
+    c .before .before .decide .ensures (t .table) (x .0) (t .stands) (x .1) ∙ sym (both-read _ _ (t .table) (x .0) (t .reads) (x .1))
 
 pub check-files-spec : {M : Type 1} → statement M
 check-files-spec =
@@ -85,8 +100,10 @@ check-files-spec =
     enum-known-file
     refusal-requires-2
     enum-known-file-2
-    check-parts-requires
-    returns
-    returns-2
+    decide-requires
     same-length
+    returns
+    same-length-2
+    returns-2
+    same-length-3
     returns-3)

@@ -37,6 +37,9 @@ add-at c = search needs
 mul-at : tie.Need-mul-at Inv-loop μ-loop
 mul-at c = search needs
 
+add-at-2 : tie.Need-add-at-2 Inv-loop μ-loop
+add-at-2 c = search needs
+
 store16-requires : tie.Need-store16-requires Inv-loop μ-loop
 store16-requires c κs = search needs
 
@@ -81,6 +84,7 @@ put-opens-spec =
     load16-requires
     add-at
     mul-at
+    add-at-2
     store16-requires
     add-store16
     store16-requires-2

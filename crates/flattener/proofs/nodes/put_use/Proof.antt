@@ -4,13 +4,16 @@ use mathlib.Core.Path.{_≡_, ap, _∙_}
 use mathlib.Core.List.{List}
 use Prim.Native.Nat.{ℕ, _+_, _*_}
 use Rattle.words.specs.Word.{putWord}
-use Rattle.flattener.specs.Space.{putUse}
+use Rattle.flattener.specs.Space.{cellPlace, putUse}
 use borrow.Author.Needs.{needs}
 use Rattle.flattener.proofs.nodes.put_use.Statement.{statement}
 use Rattle.flattener.proofs.nodes.put_use.Tie as tie
 
 mul-at : tie.Need-mul-at
 mul-at c = search needs
+
+add-at : tie.Need-add-at
+add-at c = search needs
 
 add-store16 : tie.Need-add-store16
 add-store16 c = search needs
@@ -47,14 +50,15 @@ unfolding putUse
 returns c =
     let a = c .before .before .before .before .before .before .before .before .before .before .before .before .before .args in
     c .before .before .store163 .ensures
-    ∙ ap (λ (l : List ℕ). putWord l (a .node * 8 + 6) (a .count + 1)) (c .before .before .before .before .before .before .store162 .ensures)
-    ∙ ap (λ (l : List ℕ). putWord (putWord l (a .node * 8 + 4) (a .first)) (a .node * 8 + 6) (a .count + 1)) (c .before .before .before .before .before .before .before .before .before .before .store16 .ensures)
+    ∙ ap (λ (l : List ℕ). putWord l (cellPlace (a .node) + 6) (a .count + 1)) (c .before .before .before .before .before .before .store162 .ensures)
+    ∙ ap (λ (l : List ℕ). putWord (putWord l (cellPlace (a .node) + 4) (a .first)) (cellPlace (a .node) + 6) (a .count + 1)) (c .before .before .before .before .before .before .before .before .before .before .store16 .ensures)
 
 pub put-use-spec : {M : Type 1} → statement M
 put-use-spec =
     tie.close
     (tie.spec
     mul-at
+    add-at
     add-store16
     store16-requires
     add-store16-2

@@ -9,9 +9,8 @@ use lib.Seq.{sets, length-sets}
 use denote.Ref.{now}
 use borrow.Author.Needs.{needs}
 use Rattle.files.specs.Derivations.{entriesBytes}
-use Rattle.hitac.proofs.Nodes.{range, nodeEntries}
-use Rattle.checker.specs.Decides.{stackEnd}
-use Rattle.flattener.specs.Space.{cellsOf}
+use Rattle.hitac.proofs.Nodes.{Cell, range, nodeEntries}
+use Rattle.walks.specs.Layout.{stackEnd}
 use Rattle.flattener.specs.Prints.{Printable}
 use Rattle.flattener.proofs.PassLaws.{Running, pushed-cells, pushed-roots, printable-still, pass-begins, node-ready, pass-goes-on, pass-ends}
 use Rattle.flattener.proofs.print.print_forest.Statement.{statement}
@@ -28,9 +27,6 @@ mul-top c = let i = c .before .before in omega (arith, i .pre .roots-there, i .p
 
 sub-top : tie.Need-sub-top Inv-loop μ-loop
 sub-top c = let i = c .before .before in omega (arith, i .pre .roots-there, i .pre .few)
-
-add-put-range : tie.Need-add-put-range Inv-loop μ-loop
-add-put-range c = let i = c .before .before .before in omega (arith, i .pre .roots-there, i .pre .few)
 
 put-range-requires : tie.Need-put-range-requires Inv-loop μ-loop
 put-range-requires c κs = let i = c .before .before .before in (omega (arith, i .pre .roots-there, i .pre .few, i .pre .within), omega (arith, i .pre .roots-there, i .pre .few))
@@ -81,7 +77,7 @@ returns c =
     let d = c .before .before in
     let e = pushed-cells _ _ _ _ _ _ _ (i .pre) (back d) ((c .before .before .before .before) .put-range .ensures) in
     pass-ends _ _ _ _ _ (printable d) _ _ _ _ _ (omega (arith, c .loop-test)) (c .before .loop .inv)
-    ∙ ap (λ (l : List ℕ). sets (now (i .args .out)) (i .args .at) (entriesBytes (nodeEntries (i .args .nodes) (cellsOf l (i .args .nodes)) (range 0 (i .args .roots))))) e
+    ∙ ap (λ (A : List Cell). sets (now (i .args .out)) (i .args .at) (entriesBytes (nodeEntries (i .args .nodes) A (range 0 (i .args .roots))))) e
 
 pub print-forest-spec : {M : Type 1} → statement M
 print-forest-spec =
@@ -91,7 +87,6 @@ print-forest-spec =
     μ-loop
     mul-top
     sub-top
-    add-put-range
     put-range-requires
     loop-holds
     print-node-requires

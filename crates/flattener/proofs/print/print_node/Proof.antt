@@ -10,16 +10,23 @@ use Rattle.words.specs.Word.{word}
 use Rattle.format.specs.Values.{ruleName, goal}
 use Rattle.files.specs.Derivations.{entryBytes}
 use Rattle.hitac.proofs.Nodes.{Cell, openCell, useCell, premiseNodes}
+use Rattle.flattener.specs.Space.{cellPlace}
 use Rattle.flattener.specs.Prints.{topCell, firstPremise, cellEntry}
 use Rattle.flattener.proofs.PrintLaws.{range-length, open-there, use-there, printed-open, printed-use}
 use Rattle.flattener.proofs.print.print_node.Statement.{statement}
 use Rattle.flattener.proofs.print.print_node.Tie as tie
 
-node-at-requires : tie.Need-node-at-requires
-node-at-requires c κs = search needs
+load16-requires : tie.Need-load16-requires
+load16-requires c κs = search needs
+
+cast-node : tie.Need-cast-node
+cast-node c = search needs
 
 mul-cell : tie.Need-mul-cell
 mul-cell c = search needs
+
+add-cell : tie.Need-add-cell
+add-cell c = search needs
 
 goal-at-requires : tie.Need-goal-at-requires
 goal-at-requires c κs = search needs
@@ -27,15 +34,15 @@ goal-at-requires c κs = search needs
 add-load16 : tie.Need-add-load16
 add-load16 c = search needs
 
-load16-requires : tie.Need-load16-requires
-load16-requires c κs = search needs
+load16-requires-2 : tie.Need-load16-requires-2
+load16-requires-2 c κs = search needs
 
 cast-mark : tie.Need-cast-mark
 cast-mark c = search needs
 
 -- an open leaf
-leaf : (c : tie.Then1) → let i = c .before .before .before .before .before .before .before .before .before in topCell (now (i .args .work)) (i .args .top) ≡ openCell (goal (word (now (i .args .work)) ((c .before .before .before .before .before) .node-at .result * 8)))
-leaf c = open-there _ _ _ _ ((c .before .before .before .before .before) .node-at .ensures) ((c .before) .load16 .ensures) (c .if1 .taken)
+leaf : (c : tie.Then1) → let i = c .before .before .before .before .before .before .before .before .before in topCell (now (i .args .work)) (i .args .top) ≡ openCell (goal (word (now (i .args .work)) (cellPlace ((c .before .before .before .before .before) .load16 .result))))
+leaf c = open-there _ _ _ _ ((c .before .before .before .before .before) .load16 .ensures) ((c .before) .load162 .ensures) (c .if1 .taken)
 
 leaf-room : (c : tie.Then1) → let i = c .before .before .before .before .before .before .before .before .before in i .args .at + 5 ≤ length (now (i .args .out))
 unfolding entryBytes
@@ -61,13 +68,13 @@ returns c = printed-open _ _ _ _ _ _ _ ((c .before .before .before .before .befo
 
 -- a use
 abbrev mark : tie.Else1 → ℕ
-mark c = (c .before) .load16 .result
+mark c = (c .before) .load162 .result
 
 abbrev cell : tie.Else1 → ℕ
-cell c = (c .before .before .before .before .before) .node-at .result * 8
+cell c = cellPlace ((c .before .before .before .before .before) .load16 .result)
 
 use-here : (c : tie.Else1) → let i = c .before .before .before .before .before .before .before .before .before in topCell (now (i .args .work)) (i .args .top) ≡ useCell (ruleName (word (now (i .args .work)) (cell c + 2))) (goal (word (now (i .args .work)) (cell c))) (word (now (i .args .work)) (cell c + 4)) (mark c - 1)
-use-here c = use-there _ _ _ _ ((c .before .before .before .before .before) .node-at .ensures) ((c .before) .load16 .ensures) (c .if1 .left)
+use-here c = use-there _ _ _ _ ((c .before .before .before .before .before) .load16 .ensures) ((c .before) .load162 .ensures) (c .if1 .left)
 
 use-room : (c : tie.Else1) → let i = c .before .before .before .before .before .before .before .before .before in (i .args .at + 7 ≤ length (now (i .args .out))) × ((mark c - 1) * 2 ≤ i .args .top + 2) × (word (now (i .args .work)) (cell c + 4) + (mark c - 1) ≤ 65535)
 unfolding entryBytes
@@ -89,8 +96,8 @@ rule-name-at-requires c κs = search needs
 add-load16-2 : tie.Need-add-load16-2
 add-load16-2 c = search needs
 
-load16-requires-2 : tie.Need-load16-requires-2
-load16-requires-2 c κs = search needs
+load16-requires-3 : tie.Need-load16-requires-3
+load16-requires-3 c κs = search needs
 
 cast-first : tie.Need-cast-first
 cast-first c = search needs
@@ -110,17 +117,14 @@ mul-above c = search needs
 sub-above : tie.Need-sub-above
 sub-above c = omega (arith, use-room (c .before .before .before .before .before .before .before .before) .1)
 
-add-put-range : tie.Need-add-put-range
-add-put-range c = search needs
-
 put-range-requires : tie.Need-put-range-requires
 put-range-requires c κs =
     let e = c .before .before .before .before .before .before .before .before .before in
     let i = c .before .before .before .before .before .before .before .before .before .before .before .before .before .before .before .before .before .before in
-    (omega (arith, use-room e .1, i .pre .within), omega (arith, use-room e .2, (c .before .before .before .before .before) .load162 .ensures))
+    (omega (arith, use-room e .1, i .pre .on-stack, i .pre .within), omega (arith, use-room e .2, (c .before .before .before .before .before) .load163 .ensures))
 
-add-t20 : tie.Need-add-t20
-add-t20 c = search needs
+add-t34 : tie.Need-add-t34
+add-t34 c = search needs
 
 same-length-3 : tie.Need-same-length-3
 same-length-3 c = search needs
@@ -132,19 +136,21 @@ returns-2 : tie.Need-returns-2
 returns-2 c =
     let e = c .before .before .before .before .before .before .before .before .before .before .before .before in
     let i = c .before .before .before .before .before .before .before .before .before .before .before .before .before .before .before .before .before .before .before .before .before in
-    let f = (c .before .before .before .before .before .before .before .before) .load162 .ensures in
+    let f = (c .before .before .before .before .before .before .before .before) .load163 .ensures in
     printed-use _ _ _ _ _ _ _ _ _ _ _ _ ((c .before .before .before .before .before .before .before .before .before .before) .rule-name-at .ensures) ((c .before .before .before .before .before .before .before .before .before .before .before .before .before .before .before) .goal-at .ensures)
-    (use-here e ∙ ap (λ (x : ℕ). useCell (ruleName (word (now (i .args .work)) (cell e + 2))) (goal (word (now (i .args .work)) (cell e))) x (mark e - 1)) (sym f)) ((c .before .before .before .before .before .before) .write-use .ensures) _ ((c .before .before) .put-range .ensures) (omega (arith, use-room e .1)) (i .pre .within)
+    (use-here e ∙ ap (λ (x : ℕ). useCell (ruleName (word (now (i .args .work)) (cell e + 2))) (goal (word (now (i .args .work)) (cell e))) x (mark e - 1)) (sym f)) ((c .before .before .before .before .before .before) .write-use .ensures) _ ((c .before .before) .put-range .ensures) (omega (arith, use-room e .1)) (i .pre .on-stack) (i .pre .within)
 
 pub print-node-spec : {M : Type 1} → statement M
 print-node-spec =
     tie.close
     (tie.spec
-    node-at-requires
+    load16-requires
+    cast-node
     mul-cell
+    add-cell
     goal-at-requires
     add-load16
-    load16-requires
+    load16-requires-2
     cast-mark
     write-open-requires
     add-t25
@@ -155,16 +161,15 @@ print-node-spec =
     add-rule-name-at
     rule-name-at-requires
     add-load16-2
-    load16-requires-2
+    load16-requires-3
     cast-first
     write-use-requires
     sub-count
     add-above
     mul-above
     sub-above
-    add-put-range
     put-range-requires
-    add-t20
+    add-t34
     same-length-3
     same-length-4
     returns-2)

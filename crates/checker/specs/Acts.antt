@@ -1,0 +1,60 @@
+-- What a term without inner terms does with its goals: the walk of hitac, over values in bytes.
+use Prim.Native.Nat.{ℕ, _+_, _*_, _≤_}
+use mathlib.Core.Path.{_≡_}
+use mathlib.Core.List.{List, map}
+use lib.ListN.{length}
+use Rattle.words.specs.Kept.{Kept}
+use Rattle.format.specs.declared.values.Goal.{Goal}
+use Rattle.format.specs.Refusals.{Cause, number}
+use Rattle.format.specs.Results.{Result, gives, refused}
+use Rattle.format.specs.Values.{goal}
+use Rattle.format.specs.Terms.{Term}
+use Rattle.format.specs.Standing.{Stands}
+use Rattle.format.specs.Goals.{goalsAt}
+use Rattle.tables.specs.Tables.{Table}
+use Rattle.index.specs.Build.{RulesIndexed}
+use Rattle.hitac.specs.Hiproofs.{atomics}
+use Rattle.hitac.specs.Walk.{walk}
+use Rattle.hitac.proofs.Nodes.{Cell}
+use Rattle.walks.specs.declared.state.Next.{Next}
+use Rattle.walks.specs.Layout.{stackEnd, aritiesEnd}
+use Rattle.walks.specs.Values.{valueOf}
+use Rattle.walks.specs.Walks.{Out, out, Act}
+use Rattle.checker.specs.declared.leaf.Acted.{Acted}
+use Rattle.checker.specs.declared.leaf.Acted.the-variants as A
+
+-- a walk over goals, as one over values: no cells are made
+unfoldable pub ofGoals : List Cell → Result (List Goal) → Result Out
+ofGoals A (gives h) = gives (out A (map valueOf h))
+ofGoals A (refused c p) = refused c p
+
+-- the checker's terms act as the walk of hitac says
+unfoldable pub goalAct : Table → Act
+goalAct T t at A ns = ofGoals A (walk T t at (map goal ns))
+
+-- the walk of a term on the goals that it takes
+abbrev pub walkIn : Table → Term → (at : ℕ) → List ℕ → Next → Result (List Goal)
+walkIn T t at w n = walk T t at (goalsAt w (n .top) (n .count))
+
+-- a term stands at a place, and there is room for what it gives
+pub record LeafReady (s : List ℕ) (at : ℕ) (t : Term) (w : List ℕ) (n : Next) : Type 0 where
+  pub stands : Stands s at t
+  pub apart : n .low + 14 * atomics t ≤ n .top
+  pub below : n .top + n .count * 2 ≤ stackEnd
+  pub space : aritiesEnd ≤ length w
+
+-- The index over the rules of the table stands behind the arities.
+pub record Behind (table : List ℕ) (first : ℕ) (w : List ℕ) : Type 0 where
+  pub index : RulesIndexed table first w aritiesEnd
+
+-- the term gave so many goals, at most seven more than it took for an atomic, with so many uses, and wrote between what it gives and the end of what it takes
+pub record Given (T : Table) (t : Term) (at : ℕ) (w w′ : List ℕ) (n : Next) (given used : ℕ) : Type 0 where
+  pub outcome : walkIn T t at w n ≡ gives (goalsAt w′ (n .low) given)
+  pub used-is : used ≡ atomics t
+  pub few : given ≤ n .count + 7 * used
+  pub kept : Kept w w′ (n .low) (n .top + n .count * 2)
+
+-- the code's answer: 20 at the term's place, with nothing written; or what it gave
+unfoldable pub Acts : Table → Term → (at : ℕ) → (w w′ : List ℕ) → Next → Acted → Type 0
+Acts T t at w w′ n A.Refused = (c : Cause) × (number c ≡ 20) × (walkIn T t at w n ≡ refused c at) × (w′ ≡ w)
+Acts T t at w w′ n (A.Gives given used) = Given T t at w w′ n given used
