@@ -78,7 +78,7 @@ module _ (T : Table) (few : FewPremises T) where
   found-agrees a p A n (some r) e = rw e refl
 
   -- an atomic adds at most eight cells
-  walked-cells : (t : Term) (p : ℕ) {g h : List Goal} (A : List Cell) {ns : List ℕ} → Carry A ns g → walk T t p g ≡ gives h → length (nodeWalk T t A ns .cells) ≤ length A + 8 * atomics t
+  pub walked-cells : (t : Term) (p : ℕ) {g h : List Goal} (A : List Cell) {ns : List ℕ} → Carry A ns g → walk T t p g ≡ gives h → length (nodeWalk T t A ns .cells) ≤ length A + 8 * atomics t
   walked-cells t p {g} A c e = omega (arith, walked t p A c e .count, walk-grows T few t p g e, carry-length c)
 
   atomic-agrees : (a : RuleName) (p : ℕ) (A : List Cell) {ns : List ℕ} {g : List Goal} → length A + 8 ≤ mostNodes → Carry A ns g → Agrees (nodeWalk T (atomic a) A ns) (walk T (atomic a) p g) (walkOf (nodeAct T) (atomic a) p A ns)

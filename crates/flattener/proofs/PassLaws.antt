@@ -18,16 +18,11 @@ use Rattle.walks.specs.Layout.{stackEnd, indexEnd}
 use Rattle.walks.specs.Values.{valuesAt}
 use Rattle.walks.proofs.ValueLaws.{length-values}
 use Rattle.flattener.specs.declared.print.Printed.{Printed}
-use Rattle.flattener.specs.Space.{mostNodes, cellsOf, putRange}
+use Rattle.flattener.specs.Space.{cellsOf, putRange, Below}
 use Rattle.flattener.specs.Prints.{topCell, firstPremise, cellEntry, Closed, forestEntries, PrintReady, NodePrinted, Printable}
 use Rattle.flattener.proofs.RowLaws.{length-range, kept-range, nodes-range}
 use Rattle.flattener.proofs.CellLaws.{length-cells, cell-of, cells-above}
 use Rattle.flattener.proofs.PrintLaws.{range-length, sets-append}
-
--- all of the nodes are among the first b
-unfoldable pub Below : (b : ℕ) → List ℕ → Type 0
-Below b [] = Unit {0}
-Below b (n ∷ ns) = (n < b) × Below b ns
 
 below-append : (b : ℕ) (ns ms : List ℕ) → Below b ns → Below b ms → Below b (ns ++ ms)
 unfolding Below

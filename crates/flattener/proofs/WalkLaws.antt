@@ -32,11 +32,11 @@ use Rattle.flattener.specs.Leaves.{LeafRoom, Fitting, Takes}
 use Rattle.flattener.specs.Walks.{Walkable, Goes}
 use Rattle.flattener.proofs.CellLaws.{cells-above}
 
-abbrev SameIndex : (w w′ : List ℕ) → Type 0
+abbrev pub SameIndex : (w w′ : List ℕ) → Type 0
 SameIndex w w′ = (i : ℕ) → aritiesEnd ≤ i → i < indexEnd → getD w′ i 0 ≡ getD w i 0
 
 -- the rules stay indexed
-indexed-still : (table : List ℕ) (first : ℕ) (w w′ : List ℕ) → length w′ ≡ length w → SameIndex w w′ → RulesIndexed table first w aritiesEnd → RulesIndexed table first w′ aritiesEnd
+pub indexed-still : (table : List ℕ) (first : ℕ) (w w′ : List ℕ) → length w′ ≡ length w → SameIndex w w′ → RulesIndexed table first w aritiesEnd → RulesIndexed table first w′ aritiesEnd
 indexed-still table first w w′ e k ix = (
   ix .0,
   ix .1,

@@ -3,3 +3,4 @@ pub mod NodeActs
 pub mod Leaves
 pub mod Walks
 pub mod Prints
+pub mod Forests

@@ -1,6 +1,6 @@
 -- The cells of the nodes, behind all that the walk shares with the checker's: eight bytes for each node.
-use Prim.Native.Nat.{ℕ, zero, suc, _+_, _*_}
-use mathlib.Core.List.{List, [], _∷_}
+use Prim.Native.Nat.{ℕ, zero, suc, _+_, _*_, _<_}
+use mathlib.Core.List.{List, [], _∷_, map}
 use lib.ListN.{length}
 use Rattle.words.specs.Word.{word, putWord}
 use Rattle.format.specs.declared.values.Goal.{Goal}
@@ -57,3 +57,12 @@ planted w n a f g = putOpens (putUse w n a f (length g)) f g
 -- and are put on a stack
 abbrev pub grown : List ℕ → (node name f : ℕ) → (g : List Goal) → (low : ℕ) → List ℕ
 grown w n a f g low = putRange (planted w n a f g) low f (length g)
+
+-- all of the nodes are among the first b
+unfoldable pub Below : (b : ℕ) → List ℕ → Type 0
+Below b [] = Unit {0}
+Below b (n ∷ ns) = (n < b) × Below b ns
+
+-- the goals of nodes
+abbrev pub goalsIn : List ℕ → List ℕ → List Goal
+goalsIn w ns = map (λ n. goal (word w (cellPlace n))) ns

@@ -15,32 +15,32 @@ use tables::repeats::step;
 use words::load16;
 
 // What was seen of a value.
-fn seen_at(w: &[u8], base: usize, value: u16) -> u8
+fn seen_at(w: &[u8], base: usize, value: usize) -> u8
     requires { ⌜ base + seenRoom ≤ length (now w) ⌝ }
     ensures { λ r. ⌜ r ≡ seenAt (now (w .entry)) base value ⌝ }
 {
-    let both = w[base + value as usize / 2];
-    if value % 2 == 0 {
+    let both = w[base + value % SEEN_ROOM];
+    if value < SEEN_ROOM {
         return both % 16;
     }
     both / 16
 }
 
-// Enters a mark for a value.
-fn mark_seen(w: &mut [u8], base: usize, value: u16, mark: u8)
-    requires { ⌜ (base + seenRoom ≤ length (now w)) × (mark < 16) ⌝ }
+// Enters a mark for a value of which nothing was seen.
+fn mark_seen(w: &mut [u8], base: usize, value: usize, mark: u8)
+    requires { ⌜ (base + seenRoom ≤ length (now w)) × (mark < 16) × (seenAt (now w) base value ≡ 0) ⌝ }
     ensures { λ _. ⌜ now (w .exit) ≡ putSeen (now (w .entry)) base value mark ⌝ }
 {
-    let at = base + value as usize / 2;
+    let at = base + value % SEEN_ROOM;
     let both = w[at];
-    if value % 2 == 0 {
-        w[at] = both / 16 * 16 + mark;
+    if value < SEEN_ROOM {
+        w[at] = both + mark;
         return;
     }
-    w[at] = both % 16 + mark * 16;
+    w[at] = both + mark * 16;
 }
 
-// The mark of a field: for 9 it is 1; for 7 it is the count of the rule's premises and one, by its length.
+// The mark of a field: for 9 it is 1; for 7 it is half the length of the rule, the count of its premises and 2.
 fn mark_of(s: &[u8], at: usize, number: u8) -> u8
     requires { ⌜ Room (now s) at × Marked number (now s) at ⌝ }
     ensures { λ r. ⌜ r ≡ markOf number (now (s .entry)) at ⌝ }
@@ -48,7 +48,7 @@ fn mark_of(s: &[u8], at: usize, number: u8) -> u8
     if number == 9 {
         return 1;
     }
-    (load16(s, at + 1) / 2 - 1) as u8
+    (load16(s, at + 1) / 2) as u8
 }
 
 // Whether one field more clashes with one seen. The first of its value is entered.
@@ -59,7 +59,7 @@ fn meets(s: &[u8], w: &mut [u8], base: usize, at: usize, number: u8) -> bool
     if s[at] != searched(number) {
         return false;
     }
-    let value = load16(s, at + 3);
+    let value = load16(s, at + 3) as usize;
     let mark = mark_of(s, at, number);
     let earlier = seen_at(w, base, value);
     if earlier == 0 {

@@ -39,6 +39,9 @@ add-load16 c = search needs
 load16-requires : tie.Need-load16-requires
 load16-requires c κs = let i = c .before .before .before .before .before in omega (arith, value-inside (i .args .number) (now (i .args .s)) (i .args .at) (tag c) (i .pre .0))
 
+cast-value : tie.Need-cast-value
+cast-value c = search needs
+
 mark-of-requires : tie.Need-mark-of-requires
 mark-of-requires c κs = (c .before .before .before .before .before .before .pre .0, own (c .before))
 
@@ -46,7 +49,7 @@ seen-at-requires : tie.Need-seen-at-requires
 seen-at-requires c κs = search needs
 
 mark-seen-requires : tie.Need-mark-seen-requires
-mark-seen-requires c κs = let i = c .before .before .before .before .before .before .before .before .before .before .before in (i .pre .2, omega (arith, c .before .before .before .before .mark-of .ensures, own (c .before .before .before .before .before .before) .fits))
+mark-seen-requires c κs = let i = c .before .before .before .before .before .before .before .before .before .before .before in (i .pre .2, omega (arith, c .before .before .before .before .mark-of .ensures, own (c .before .before .before .before .before .before) .fits), sym (c .before .before .seen-at .ensures) ∙ c .before .if2 .taken)
 
 same-length : tie.Need-same-length
 same-length c = search needs
@@ -75,6 +78,7 @@ meets-spec =
     returns
     add-load16
     load16-requires
+    cast-value
     mark-of-requires
     seen-at-requires
     mark-seen-requires
