@@ -14,6 +14,7 @@ use Rattle.format.specs.Refusals.{Cause, number, remainingDiffer}
 use Rattle.format.specs.Results.{Result, gives, refused, andThen}
 use Rattle.format.specs.Goals.{goalsAt}
 use Rattle.format.proofs.GoalsLaws.{length-goalsAt}
+use Rattle.format.proofs.ResultLaws.{same-value}
 use Rattle.tables.specs.Tables.{Table}
 use Rattle.files.specs.declared.proofs.ProofParts.{ProofParts}
 use Rattle.files.specs.Proofs.{Proof, readProof, termPlace, remainingPlace}
@@ -49,6 +50,10 @@ use Rattle.flattener.proofs.GrowthLaws.{Carry, carry-new, grows}
 use Rattle.flattener.proofs.AgreeLaws.{Agrees, agrees, agreed-refused, agreed-gives, walked-cells}
 use Rattle.flattener.proofs.RemainingLaws.{carried, below-later}
 use Rattle.flattener.proofs.FlattenLaws.{outcomeOf}
+
+-- a file reads as one proof, which has these parts
+pub same-parts : (s : List ℕ) (p p′ : Proof) (q : ProofParts) → readProof s ≡ gives p → partsOf p ≡ q → readProof s ≡ gives p′ → partsOf p′ ≡ q
+same-parts s p p′ q e h e′ = subst (λ (x : Proof). partsOf x ≡ q) (same-value (sym e ∙ e′)) h
 
 abbrev top : ProofParts → ℕ
 top q = stackEnd - q .goals * 2
