@@ -61,7 +61,7 @@ struct hitac_answer hitac_write_proof(const uint8_t *table, size_t table_length,
 /* Work space that each call needs, in bytes. */
 #define HITAC_CHECK_WORK 65536       /* for hitac_check */
 #define HITAC_RUN_WORK 1290752       /* for hitac_run */
-#define HITAC_FLATTEN_WORK 196608    /* for hitac_flatten */
+#define HITAC_FLATTEN_WORK 200704    /* for hitac_flatten */
 #define HITAC_CHECK_FLAT_WORK 65536  /* for hitac_check_flat */
 #define HITAC_WRITE_PROOF_WORK 65536 /* for hitac_write_proof */
 

@@ -28,5 +28,5 @@ pub const MOST_ENTRIES_WRITTEN_BACK: usize = 2_048;
 pub const CHECK_WORK: usize = 65_536;
 pub const CHECK_FLAT_WORK: usize = 65_536;
 pub const WRITE_PROOF_WORK: usize = 65_536;
-pub const FLATTEN_WORK: usize = 196_608;
+pub const FLATTEN_WORK: usize = 200_704;
 pub const RUN_WORK: usize = 1_290_752;

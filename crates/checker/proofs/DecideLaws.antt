@@ -1,8 +1,8 @@
 -- One law for each ending of decide: what the walk came to, and whether its goals are those stated, say which answer it is.
 -- Assumes nothing.
-use mathlib.Core.Path.{_≡_, refl, sym, subst, ap, _∙_}
+use mathlib.Core.Path.{_≡_, sym, subst, ap, _∙_}
 use mathlib.Core.Bool.{Bool, true, false}
-use mathlib.Core.Logic.{_⊎_, inl, inr}
+use mathlib.Core.Logic.{inl}
 use mathlib.Core.List.{List}
 use Prim.Native.Nat.{ℕ, _+_, _*_, _-_, _≤_}
 use native.Mathlib.Omega.{arith}
@@ -12,8 +12,8 @@ use Rattle.words.specs.Kept.{Kept}
 use Rattle.words.proofs.KeptLaws.{kept-copy}
 use Rattle.format.specs.declared.values.Goal.{Goal}
 use Rattle.format.specs.Limits.{mostBytes}
-use Rattle.format.specs.Refusals.{Cause, number, remainingDiffer}
-use Rattle.format.specs.Results.{Result, gives, refused, andThen}
+use Rattle.format.specs.Refusals.{Cause, number}
+use Rattle.format.specs.Results.{gives, refused, andThen}
 use Rattle.format.specs.Terms.{fields}
 use Rattle.format.specs.Goals.{goalsAt}
 use Rattle.format.proofs.GoalsAt.{goals-paste}
@@ -26,7 +26,6 @@ use Rattle.hitac.specs.Walk.{walk}
 use Rattle.hitac.proofs.TermBounds.{atomics-fields}
 use Rattle.answers.specs.Answers as answer
 use Rattle.entries.specs.Check.{sameGoals, remainingAre, checked, proofCounts}
-use Rattle.entries.proofs.SameGoals.{same-equal, equal-same}
 use Rattle.walks.specs.Layout.{stackEnd, framesEnd, aritiesEnd}
 use Rattle.walks.specs.Arities.{Noted}
 use Rattle.walks.proofs.ArityLaws.{ahead-kept}

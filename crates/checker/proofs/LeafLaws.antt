@@ -25,9 +25,8 @@ use Rattle.tables.specs.Lookup.{foundRule, findRule}
 use Rattle.hitac.specs.Hiproofs.{atomics}
 use Rattle.hitac.specs.Walk.{onOneGoal, onNoGoal, premisesOr, walk}
 use Rattle.walks.specs.declared.state.Next.{Next}
-use Rattle.walks.specs.Layout.{stackEnd, aritiesEnd}
 use Rattle.checker.specs.declared.leaf.Acted.the-variants as A
-use Rattle.checker.specs.Acts.{walkIn, LeafReady, Given, Acts}
+use Rattle.checker.specs.Acts.{walkIn, LeafReady, Acts}
 
 not-one : (f : Goal → Result (List Goal)) (p : ℕ) (w : List ℕ) (top count : ℕ) → (count ≡ 1 → ⊥) → onOneGoal p f (goalsAt w top count) ≡ refused goalCountWrong p
 unfolding goalsAt onOneGoal

@@ -9,7 +9,7 @@ use Rattle.words.specs.Kept.{Kept}
 use Rattle.words.proofs.KeptLaws.{kept-same, kept-both}
 use Rattle.format.specs.declared.values.Goal.{Goal}
 use Rattle.format.specs.Limits.{mostBytes}
-use Rattle.format.specs.Refusals.{Cause, number}
+use Rattle.format.specs.Refusals.{Cause}
 use Rattle.format.specs.Results.{Result, gives, refused}
 use Rattle.format.specs.Values.{goal}
 use Rattle.format.specs.Terms.{Term, size}
@@ -26,7 +26,7 @@ use Rattle.walks.specs.declared.state.Turn.the-variants as U
 use Rattle.walks.specs.Layout.{stackEnd, framesEnd, aritiesEnd}
 use Rattle.walks.specs.Values.{valueOf, valuesAt}
 use Rattle.walks.specs.Walks.{Out, out, walkOf}
-use Rattle.walks.specs.Loops.{Aim, Roomy, Begins, Gave, placed, startOf, Leaf, Turned, Steps}
+use Rattle.walks.specs.Loops.{Aim, Begins, Gave, placed, startOf, Leaf, Turned, Steps}
 use Rattle.walks.proofs.LeafLaws as loops
 use Rattle.walks.proofs.LeafLaws.{aimOf}
 use Rattle.checker.specs.declared.leaf.Acted.{Acted}

@@ -32,8 +32,8 @@ use Rattle.entries.specs.LentSpace.{countedAnswer, checkIn, cleared}
 use Rattle.entries.specs.CheckFlat.{nonePending, right, flatCounts, checkFlatOutcome, checkFlatWork, checkFlat}
 use Rattle.derivation.specs.declared.walk.Stop.{Stop}
 use Rattle.derivation.specs.Layout.{indexPlace, cursorsEnd}
-use Rattle.derivation.specs.Pending.{pendingIn}
-use Rattle.derivation.specs.Walks.{firstEntry, walked, Given, Ready, Walks}
+use Rattle.derivation.specs.Pending.{firstEntry, pendingIn}
+use Rattle.derivation.specs.Walks.{walked, Given, Ready, Walks}
 use Rattle.derivation.specs.CheckedEntries.{DerivationAt, checkedEntries}
 use Rattle.derivation.proofs.PendingLaws.{none-pending, some-first}
 
@@ -84,7 +84,7 @@ module _ (flat : List ℕ) (parts : FlatParts) (d : Derivation) (at : Derivation
 module _ (flat : List ℕ) (parts : FlatParts) (d : Derivation) (at : DerivationAt flat parts d) (table : List ℕ) (rules : ℕ) (T : Table) (ts : TableStands table rules T)
     (w w′ : List ℕ) (stop : Stop) (walks : Walks table rules flat (parts .roots) w w′ stop) where
   abbrev left : List Goal
-  left = pendingIn table flat (firstEntry (parts .roots)) w′ (stop .pending)
+  left = pendingIn table flat (parts .roots) w′ (stop .pending)
 
   result : flatWalk T (entriesPlace d) (d .roots) (d .entries) ≡ walked (length flat) (stop .place) left
   result =
@@ -110,7 +110,7 @@ module _ (flat : List ℕ) (parts : FlatParts) (d : Derivation) (at : Derivation
   unfolding checkedEntries right andThen nonePending walked flatCounts
   all-right l z =
       let p = parts-hold flat parts d at in
-      rw (result, le-ltb (stop .place) (length flat) l, none-pending table flat (firstEntry (parts .roots)) w′ (stop .pending) z, p .uses-are, p .opens-are)
+      rw (result, le-ltb (stop .place) (length flat) l, none-pending table flat (parts .roots) w′ (stop .pending) z, p .uses-are, p .opens-are)
 
 module _ (table flat : List ℕ) where
   abbrev within : Answer

@@ -6,7 +6,6 @@ use mathlib.Core.Option.{none, some}
 use mathlib.Core.List.{List, [], _∷_, _++_}
 use Prim.Native.Nat.{ℕ, _+_, _<_}
 use native.Mathlib.Omega.{arith}
-use lib.Dec.{eqb}
 use lib.ListN.{getD, drop}
 use borrow.Author.Tests.{eq-eqb, ne-eqb}
 use Rattle.words.specs.Word.{word}
@@ -21,7 +20,8 @@ use Rattle.files.specs.Derivations.{Entry, useEntry, openEntry}
 use Rattle.files.specs.Standing.{EntriesStand}
 use Rattle.hitac.specs.Walk.{premisesOr}
 use Rattle.hitac.specs.FlatWalk.{flatWalk}
-use Rattle.derivation.specs.Walks.{EntryInside, carriedGoal, carriesFirst}
+use Rattle.derivation.specs.Pending.{carriesFirst}
+use Rattle.derivation.specs.Walks.{EntryInside, carriedGoal}
 
 -- the goal of an entry
 abbrev pub entryGoal : Entry → Goal
@@ -91,11 +91,5 @@ pub open-goal : (s : List ℕ) (at : ℕ) → (getD s at 0 ≡ 32 → ⊥) → c
 unfolding carriedGoal
 open-goal s at t = rw (ne-eqb (getD s at 0) 32 t)
 
--- as it was read, compared with the first pending goal
-pub compared : (flat : List ℕ) (at g v : ℕ) (first : Goal) (pending others : List Goal) → pending ≡ first ∷ others → carriedGoal flat at ≡ goal v → g ≡ v → eqb g (first .0) ≡ carriesFirst (carriedGoal flat at) pending
-unfolding carriesFirst
-compared flat at g v first pending others p c e = rw (p, c, e)
-
-pub none-carried : (γ : Goal) (pending : List Goal) → pending ≡ [] → false ≡ carriesFirst γ pending
-unfolding carriesFirst
-none-carried γ pending p = rw p
+pub as-told : (γ : Goal) (v : ℕ) → γ .0 ≡ v → γ ≡ goal v
+as-told γ v e = λ i. record { 0 = e i }

@@ -9,7 +9,7 @@ use native.Mathlib.Numerals.{add-one}
 use native.Mathlib.Omega.{arith}
 use lib.Dec.{ltb}
 use lib.ListN.{length, drop}
-use borrow.Author.Tests.{ltb-true, ltb-false}
+use borrow.Author.Tests.{ltb-true, ltb-false, eq-eqb, ne-eqb}
 use Rattle.words.specs.Word.{word, putWord}
 use Rattle.words.specs.Kept.{Kept}
 use Rattle.words.proofs.WordLaws.{length-putWord, word-same, word-other}
@@ -18,17 +18,9 @@ use Rattle.format.specs.declared.values.Goal.{Goal}
 use Rattle.format.specs.Values.{goal}
 use Rattle.format.specs.Goals.{goalsAt}
 use Rattle.derivation.specs.declared.pending.Pending.{Pending}
+use Rattle.derivation.specs.declared.pending.Taken.the-variants as T
 use Rattle.derivation.specs.Layout.{cursorsPlace}
-use Rattle.derivation.specs.Pending.{goalsBefore, endIn, leftIn, waiting, pendingIn, Cursor, Pends, Passes, RuleInside, Pushes}
-
--- the first of so many goals that end at a place, and the others
-before-first : (s : List ℕ) (end n : ℕ) → 0 < n → n * 2 ≤ end → goalsBefore s end n ≡ goal (word s (end - n * 2)) ∷ goalsBefore s end (n - 1)
-unfolding goalsAt
-before-first s end zero h f = absurd (omega arith)
-before-first s end (suc n) h f =
-    let a : end - suc n * 2 + 2 ≡ end - (suc n - 1) * 2 = omega arith in
-    let b : n ≡ suc n - 1 = omega arith in
-    ap {B = List Goal} (λ l. goal (word s (end - suc n * 2)) ∷ l) (ap₂ (goalsAt s) a b)
+use Rattle.derivation.specs.Pending.{placeIn, leftIn, waiting, firstEntry, lastRoots, pendingIn, Cursor, Pends, carriesFirst, Takes, RuleInside, Pushes}
 
 split : (i k : ℕ) → (i < k) ⊎ (k ≤ i)
 split i k = go (ltb i k) refl
@@ -37,11 +29,17 @@ split i k = go (ltb i k) refl
     go true e = inl (ltb-true i k e)
     go false e = inr (ltb-false i k e)
 
+-- the first of some goals, and the others
+goals-first : (s : List ℕ) (at n : ℕ) → 0 < n → goalsAt s at n ≡ goal (word s at) ∷ goalsAt s (at + 2) (n - 1)
+unfolding goalsAt
+goals-first s at zero h = absurd (omega arith)
+goals-first s at (suc n) h = ap {B = List Goal} (λ l. goal (word s at) ∷ l) (ap (goalsAt s (at + 2)) (let e : n ≡ suc n - 1 = omega arith in e))
+
 -- cursors below a write
 module _ (table w w′ : List ℕ) (low high : ℕ) (k : Kept w w′ low high) where
-  end-kept : (d : ℕ) → cursorsPlace + d * 4 + 2 ≤ low → endIn w′ d ≡ endIn w d
-  unfolding endIn
-  end-kept d h = word-below w w′ low high k (cursorsPlace + d * 4) (omega arith)
+  place-kept : (d : ℕ) → cursorsPlace + d * 4 + 4 ≤ low → placeIn w′ d ≡ placeIn w d
+  unfolding placeIn
+  place-kept d h = word-below w w′ low high k (cursorsPlace + d * 4) (omega arith)
 
   left-kept : (d : ℕ) → cursorsPlace + d * 4 + 4 ≤ low → leftIn w′ d ≡ leftIn w d
   unfolding leftIn
@@ -51,237 +49,245 @@ module _ (table w w′ : List ℕ) (low high : ℕ) (k : Kept w w′ low high) w
   unfolding waiting
   waiting-kept zero h = refl
   waiting-kept (suc d) h =
-      ap₂ (λ (a b : List Goal). a ++ b) (ap₂ (λ (a b : ℕ). goalsBefore table a b) (end-kept d (omega arith)) (left-kept d (omega arith))) (waiting-kept d (omega arith))
+      ap₂ (λ (a b : List Goal). a ++ b) (ap₂ (λ (a b : ℕ). goalsAt table a b) (place-kept d (omega arith)) (left-kept d (omega arith))) (waiting-kept d (omega arith))
 
-  cursor-kept : (d : ℕ) → cursorsPlace + d * 4 + 4 ≤ low → Cursor table (endIn w d) (leftIn w d) → Cursor table (endIn w′ d) (leftIn w′ d)
-  cursor-kept d h c = subst (λ (e : ℕ). Cursor table e (leftIn w′ d)) (sym (end-kept d (omega arith))) (subst (Cursor table (endIn w d)) (sym (left-kept d h)) c)
+  cursor-kept : (d : ℕ) → cursorsPlace + d * 4 + 4 ≤ low → Cursor table (placeIn w d) (leftIn w d) → Cursor table (placeIn w′ d) (leftIn w′ d)
+  cursor-kept d h c = record { some-left = omega (arith, left-kept d h, c .some-left); inside = omega (arith, place-kept d h, left-kept d h, c .inside) }
 
-  -- those below, and one more that was stored
-  cursors-next : (d : ℕ) → cursorsPlace + d * 4 ≤ low → ((i : ℕ) → i < d → Cursor table (endIn w i) (leftIn w i)) → Cursor table (endIn w′ d) (leftIn w′ d)
-      → (i : ℕ) → i < suc d → Cursor table (endIn w′ i) (leftIn w′ i)
-  cursors-next d h cs c i l = go (split i d)
+-- a cursor stored behind those of so many lists
+module _ (table w w₁ w₂ : List ℕ) (d place left : ℕ) (first : w₁ ≡ putWord w (cursorsPlace + d * 4) place) (second : w₂ ≡ putWord w₁ (cursorsPlace + d * 4 + 2) left)
+    (room : cursorsPlace + d * 4 + 4 ≤ length w) where
+  abbrev low : ℕ
+  low = cursorsPlace + d * 4
+
+  size-first : length w₁ ≡ length w
+  size-first = ap length first ∙ length-putWord w low place
+
+  stored-size : length w₂ ≡ length w
+  stored-size = ap length second ∙ length-putWord w₁ (low + 2) left ∙ size-first
+
+  stored-place : placeIn w₂ d ≡ place
+  unfolding placeIn
+  stored-place = rw (second, word-other w₁ (low + 2) left low (inl (omega arith)), first) (word-same w low place (omega arith))
+
+  stored-left : leftIn w₂ d ≡ left
+  unfolding leftIn
+  stored-left = rw second (word-same w₁ (low + 2) left (omega (arith, size-first)))
+
+  stored-kept : Kept w w₂ low (low + 4)
+  stored-kept =
+      kept-both w w₁ w₂ low (low + 4) low (low + 4) low (low + 4)
+      (subst (λ (v : List ℕ). Kept w v low (low + 4)) (sym first) (kept-put w low place low (low + 4) (omega arith) (omega arith)))
+      (subst (λ (v : List ℕ). Kept w₁ v low (low + 4)) (sym second) (kept-put w₁ (low + 2) left low (low + 4) (omega arith) (omega arith)))
+      (omega arith) (omega arith) (omega arith) (omega arith)
+
+  stored-waiting : waiting table w₂ (suc d) ≡ goalsAt table place left ++ waiting table w d
+  unfolding waiting
+  stored-waiting = ap₂ (λ (a b : List Goal). a ++ b) (ap₂ (λ (a b : ℕ). goalsAt table a b) stored-place stored-left) (waiting-kept table w w₂ low (low + 4) stored-kept d (omega arith))
+
+  stored-cursors : ((i : ℕ) → i < d → Cursor table (placeIn w i) (leftIn w i)) → Cursor table place left → (i : ℕ) → i < suc d → Cursor table (placeIn w₂ i) (leftIn w₂ i)
+  stored-cursors cs c i l = go (split i d)
     where
-      go : (i < d) ⊎ (d ≤ i) → Cursor table (endIn w′ i) (leftIn w′ i)
-      go (inl m) = cursor-kept i (omega arith) (cs i m)
-      go (inr m) = subst (λ (j : ℕ). Cursor table (endIn w′ j) (leftIn w′ j)) (let e : d ≡ i = omega arith in e) c
+      go : (i < d) ⊎ (d ≤ i) → Cursor table (placeIn w₂ i) (leftIn w₂ i)
+      go (inl m) = cursor-kept table w w₂ low (low + 4) stored-kept i (omega arith) (cs i m)
+      go (inr m) =
+          let e : d ≡ i = omega arith in
+          subst (λ (j : ℕ). Cursor table (placeIn w₂ j) (leftIn w₂ j)) e (record { some-left = omega (arith, stored-left, c .some-left); inside = omega (arith, stored-place, stored-left, c .inside) })
+
+-- the first pending goal is compared with another
+other-first : (γ : Goal) (v : ℕ) (g others : List Goal) → g ≡ goal v ∷ others → (r : ℕ) → r ≡ v → (γ .0 ≡ r → ⊥) → carriesFirst γ g ≡ false
+unfolding carriesFirst
+other-first γ v g others e r is n = rw e (ne-eqb (γ .0) v (λ q. n (q ∙ sym is)))
+
+this-first : (γ : Goal) (v : ℕ) (g others : List Goal) → g ≡ goal v ∷ others → (r : ℕ) → r ≡ v → γ .0 ≡ r → carriesFirst γ g ≡ true
+unfolding carriesFirst
+this-first γ v g others e r is q = rw e (eq-eqb (γ .0) v (q ∙ is))
+
+without-first : {γ : Goal} {g others rest : List Goal} → g ≡ γ ∷ others → rest ≡ others → rest ≡ drop 1 g
+without-first e f = f ∙ ap (λ (x : List Goal). drop 1 x) (sym e)
 
 -- nothing is pending
-pub none-pending : (table flat : List ℕ) (entries : ℕ) (w : List ℕ) (p : Pending) → p .lists + p .roots ≡ 0 → pendingIn table flat entries w p ≡ []
+pub none-pending : (table flat : List ℕ) (roots : ℕ) (w : List ℕ) (p : Pending) → p .lists + p .roots ≡ 0 → pendingIn table flat roots w p ≡ []
 unfolding waiting goalsAt
-none-pending table flat entries w p z =
+none-pending table flat roots w p z =
     let no-lists : p .lists ≡ 0 = omega arith in
     let no-roots : p .roots ≡ 0 = omega arith in
-    ap₂ (λ (a b : ℕ). waiting table w a ++ goalsBefore flat entries b) no-lists no-roots
+    ap₂ (λ (a b : ℕ). waiting table w a ++ lastRoots flat roots b) no-lists no-roots
 
-headed : {l : List Goal} {γ : Goal} {m : List Goal} → l ≡ γ ∷ m → l ≡ γ ∷ drop 1 l
-headed {l} {γ} {m} e = e ∙ ap (λ (x : List Goal). γ ∷ drop 1 x) (sym e)
-
-as-goal : (γ : Goal) (v : ℕ) → γ .0 ≡ v → goal v ≡ γ
-as-goal γ v e = λ i. record { 0 = sym e i }
-
-headed-others : {l : List Goal} {γ : Goal} {m n : List Goal} → l ≡ γ ∷ m → n ≡ m → n ≡ drop 1 l
-headed-others e f = f ∙ ap (λ (x : List Goal). drop 1 x) (sym e)
-
-module _ (table flat : List ℕ) (entries : ℕ) (w : List ℕ) (p : Pending) (h : Pends table flat entries w p) where
+module _ (table flat : List ℕ) (roots : ℕ) (w : List ℕ) (p : Pending) (h : Pends table flat roots w p) where
   abbrev goals : List Goal
-  goals = pendingIn table flat entries w p
+  goals = pendingIn table flat roots w p
 
   -- no list has goals left: the first is a root
-  module _ (z : p .lists ≡ 0) (some : 0 < p .lists + p .roots) where
-    from-root : goals ≡ goal (word flat (entries - p .roots * 2)) ∷ goalsBefore flat entries (p .roots - 1)
-    unfolding waiting
-    from-root =
-        ap (λ (d : ℕ). waiting table w d ++ goalsBefore flat entries (p .roots)) z
-        ∙ before-first flat entries (p .roots) (omega arith) (h .roots-begin)
+  module _ (z : p .lists ≡ 0) where
+    abbrev rootPlace : ℕ
+    rootPlace = firstEntry (roots - p .roots)
 
-    pub first-root : (r : Goal) → r .0 ≡ word flat (entries - p .roots * 2) → goals ≡ r ∷ drop 1 goals
-    first-root r e = headed (from-root ∙ ap (λ (γ : Goal). γ ∷ goalsBefore flat entries (p .roots - 1)) (as-goal r _ e))
-
-    pub pass-root : Passes table flat entries w w p (record { lists = p .lists; roots = p .roots - 1 })
+    from-root : 0 < p .roots → goals ≡ goal (word flat rootPlace) ∷ lastRoots flat roots (p .roots - 1)
     unfolding waiting
-    pass-root = record {
-      others = headed-others from-root (ap (λ (d : ℕ). waiting table w d ++ goalsBefore flat entries (p .roots - 1)) z);
-      pends = record { cursors = h .cursors; room = h .room; roots-begin = omega (arith, h .roots-begin); roots-end = h .roots-end };
-      few = omega arith;
-      kept = kept-same w _ _;
-    }
+    from-root some =
+        let next : rootPlace + 2 ≡ firstEntry (roots - (p .roots - 1)) = omega (arith, h .few-roots) in
+        ap (λ (d : ℕ). waiting table w d ++ lastRoots flat roots (p .roots)) z
+        ∙ goals-first flat rootPlace (p .roots) some
+        ∙ ap {B = List Goal} (λ l. goal (word flat rootPlace) ∷ l) (ap (λ (k : ℕ). goalsAt flat k (p .roots - 1)) next)
+
+    module _ (γ : Goal) where
+      pub none-taken : p .roots ≡ 0 → Takes table flat roots w w p γ T.Other
+      unfolding Takes carriesFirst
+      none-taken e = (ap (carriesFirst γ) (none-pending table flat roots w p (omega arith)), refl)
+
+      module _ (some : p .roots ≡ 0 → ⊥) (r : ℕ) (r-is : r ≡ word flat rootPlace) where
+        some-root : 0 < p .roots
+        some-root = omega arith
+
+        pub other-root : (γ .0 ≡ r → ⊥) → Takes table flat roots w w p γ T.Other
+        unfolding Takes
+        other-root n = (other-first γ _ goals _ (from-root some-root) r r-is n, refl)
+
+        pub root-taken : γ .0 ≡ r → Takes table flat roots w w p γ (T.Left (record { lists = p .lists; roots = p .roots - 1 }))
+        unfolding Takes waiting
+        root-taken e = (
+          this-first γ _ goals _ (from-root some-root) r r-is e,
+          record {
+            others = without-first (from-root some-root) (ap (λ (d : ℕ). waiting table w d ++ lastRoots flat roots (p .roots - 1)) z);
+            pends = record { cursors = h .cursors; room = h .room; few-roots = omega (arith, h .few-roots); roots-inside = h .roots-inside };
+            few = omega arith;
+            kept = kept-same w _ _;
+          },
+        )
 
   -- the first is that of the last list
-  module _ (d : ℕ) (z : p .lists ≡ suc d) where
-    abbrev behind : List Goal
-    behind = goalsBefore flat entries (p .roots)
+  module _ (n : p .lists ≡ 0 → ⊥) where
+    abbrev d : ℕ
+    d = p .lists - 1
 
-    top : Cursor table (endIn w d) (leftIn w d)
+    all : p .lists ≡ suc d
+    all = omega arith
+
+    at-place : cursorsPlace + p .lists * 4 - 4 ≡ cursorsPlace + d * 4
+    at-place = omega arith
+
+    at-left : cursorsPlace + p .lists * 4 - 4 + 2 ≡ cursorsPlace + d * 4 + 2
+    at-left = omega arith
+
+    abbrev behind : List Goal
+    behind = lastRoots flat roots (p .roots)
+
+    abbrev others : (left : ℕ) → List Goal
+    others k = (goalsAt table (placeIn w d + 2) k ++ waiting table w d) ++ behind
+
+    top : Cursor table (placeIn w d) (leftIn w d)
     top = h .cursors d (omega arith)
 
-    from-list : goals ≡ goal (word table (endIn w d - leftIn w d * 2)) ∷ ((goalsBefore table (endIn w d) (leftIn w d - 1) ++ waiting table w d) ++ behind)
+    from-list : goals ≡ goal (word table (placeIn w d)) ∷ others (leftIn w d - 1)
     unfolding waiting
     from-list =
-        ap (λ (n : ℕ). waiting table w n ++ behind) z
-        ∙ ap (λ (g : List Goal). (g ++ waiting table w d) ++ behind) (before-first table (endIn w d) (leftIn w d) (top .some-left) (top .begins))
+        ap (λ (k : ℕ). waiting table w k ++ behind) all
+        ∙ ap (λ (g : List Goal). (g ++ waiting table w d) ++ behind) (goals-first table (placeIn w d) (leftIn w d) (top .some-left))
 
-    last-passed : leftIn w d ≡ 1 → Passes table flat entries w w p (record { lists = d; roots = p .roots })
-    unfolding goalsAt
-    last-passed e = record {
-      others = headed-others from-list (sym (ap (λ (k : ℕ). (goalsBefore table (endIn w d) (k - 1) ++ waiting table w d) ++ behind) e));
-      pends = record { cursors = λ i l. h .cursors i (omega arith); room = omega (arith, h .room); roots-begin = h .roots-begin; roots-end = h .roots-end };
-      few = omega arith;
-      kept = kept-same w _ _;
-    }
+    module _ (place : ℕ) (place-is : place ≡ word w (cursorsPlace + p .lists * 4 - 4)) where
+      told-place : place ≡ placeIn w d
+      unfolding placeIn
+      told-place = place-is ∙ ap (word w) at-place
 
-    module _ (w′ : List ℕ) (stored : w′ ≡ putWord w (cursorsPlace + d * 4 + 2) (leftIn w d - 1)) (more : leftIn w d ≡ 1 → ⊥) where
-      abbrev low : ℕ
-      low = cursorsPlace + d * 4 + 2
+      pub goal-inside : place + 2 ≤ length table
+      goal-inside = omega (arith, told-place, top)
 
-      room : low + 2 ≤ length w
-      room = omega (arith, h .room)
+      module _ (γ : Goal) (r : ℕ) (r-is : r ≡ word table place) where
+        first-is : r ≡ word table (placeIn w d)
+        first-is = r-is ∙ ap (word table) told-place
 
-      kept-more : Kept w w′ low (low + 2)
-      kept-more = subst (λ (v : List ℕ). Kept w v low (low + 2)) (sym stored) (kept-put w low (leftIn w d - 1) low (low + 2) (omega arith) (omega arith))
+        pub other-listed : (γ .0 ≡ r → ⊥) → Takes table flat roots w w p γ T.Other
+        unfolding Takes
+        other-listed m = (other-first γ _ goals _ from-list r first-is m, refl)
 
-      end-same : endIn w′ d ≡ endIn w d
-      end-same = end-kept table w w′ low (low + 2) kept-more d (omega arith)
+        module _ (e : γ .0 ≡ r) (left : ℕ) (left-is : left ≡ word w (cursorsPlace + p .lists * 4 - 4 + 2)) where
+          told-left : left ≡ leftIn w d
+          unfolding leftIn
+          told-left = left-is ∙ ap (word w) at-left
 
-      left-less : leftIn w′ d ≡ leftIn w d - 1
-      unfolding leftIn
-      left-less = ap (λ (v : List ℕ). word v low) stored ∙ word-same w low (leftIn w d - 1) (omega (arith, room))
+          pub last-taken : left ≡ 1 → Takes table flat roots w w p γ (T.Left (record { lists = p .lists - 1; roots = p .roots }))
+          unfolding Takes goalsAt
+          last-taken one = (
+            this-first γ _ goals _ from-list r first-is e,
+            record {
+              others = without-first from-list (sym (ap (λ (k : ℕ). others (k - 1)) (sym told-left ∙ one)));
+              pends = record { cursors = λ i l. h .cursors i (omega arith); room = omega (arith, h .room); few-roots = h .few-roots; roots-inside = h .roots-inside };
+              few = omega arith;
+              kept = kept-same w _ _;
+            },
+          )
 
-      size-same : length w′ ≡ length w
-      size-same = ap length stored ∙ length-putWord w low (leftIn w d - 1)
+          module _ (more : left ≡ 1 → ⊥) where
+            pub two-left : (2 ≤ left) × (place + left * 2 ≤ length table)
+            two-left = (omega (arith, told-left, top .some-left), omega (arith, told-left, told-place, top .inside))
 
-      one-passed : Passes table flat entries w w′ p p
-      unfolding waiting
-      one-passed =
-          let some : (leftIn w d ≡ 1 → ⊥) = more in
-          record {
-            others =
-                headed-others from-list
-                (ap (λ (n : ℕ). waiting table w′ n ++ behind) z
-                ∙ ap₂ (λ (a b : List Goal). (a ++ b) ++ behind) (ap₂ (λ (a b : ℕ). goalsBefore table a b) end-same left-less) (waiting-kept table w w′ low (low + 2) kept-more d (omega arith)));
-            pends = record {
-              cursors = λ i l. cursors-next table w w′ low (low + 2) kept-more d (omega arith) (λ j m. h .cursors j (omega arith))
-                  (record { some-left = omega (arith, left-less, top .some-left); begins = omega (arith, left-less, end-same, top .begins); ends = omega (arith, end-same, top .ends) }) i (omega arith);
-              room = omega (arith, size-same, h .room);
-              roots-begin = h .roots-begin;
-              roots-end = h .roots-end;
-            };
-            few = omega arith;
-            kept = record { below = λ i l. kept-more .below i (omega arith); above = λ i l. kept-more .above i (omega arith) };
-          }
+            pub one-taken : (w₁ w₂ : List ℕ) → w₁ ≡ putWord w (cursorsPlace + p .lists * 4 - 4) (place + 2) → w₂ ≡ putWord w₁ (cursorsPlace + p .lists * 4 - 4 + 2) (left - 1) → Takes table flat roots w w₂ p γ (T.Left p)
+            unfolding Takes
+            one-taken w₁ w₂ a b =
+                let first : w₁ ≡ putWord w (cursorsPlace + d * 4) (placeIn w d + 2) = a ∙ ap₂ (λ (x y : ℕ). putWord w x (y + 2)) at-place told-place in
+                let second : w₂ ≡ putWord w₁ (cursorsPlace + d * 4 + 2) (leftIn w d - 1) = b ∙ ap₂ (λ (x y : ℕ). putWord w₁ x (y - 1)) at-left told-left in
+                let fits : cursorsPlace + d * 4 + 4 ≤ length w = omega (arith, h .room) in
+                let kept = stored-kept table w w₁ w₂ d (placeIn w d + 2) (leftIn w d - 1) first second fits in
+                let two = two-left in (
+                  this-first γ _ goals _ from-list r first-is e,
+                  record {
+                    others = without-first from-list (ap (λ (k : ℕ). waiting table w₂ k ++ behind) all ∙ ap (λ (g : List Goal). g ++ behind) (stored-waiting table w w₁ w₂ d (placeIn w d + 2) (leftIn w d - 1) first second fits));
+                    pends = record {
+                      cursors = λ i l. stored-cursors table w w₁ w₂ d (placeIn w d + 2) (leftIn w d - 1) first second fits (λ j m. h .cursors j (omega arith))
+                          (record { some-left = omega (arith, told-left, two); inside = omega (arith, told-left, told-place, two) }) i (omega arith);
+                      room = omega (arith, stored-size table w w₁ w₂ d (placeIn w d + 2) (leftIn w d - 1) first second fits, h .room);
+                      few-roots = h .few-roots;
+                      roots-inside = h .roots-inside;
+                    };
+                    few = omega arith;
+                    kept = record { below = λ i l. kept .below i (omega arith); above = λ i l. kept .above i (omega arith) };
+                  },
+                )
 
   -- where something is pending, there is a first goal
   pub some-first : 0 < p .lists + p .roots → (γ : Goal) × (others : List Goal) × (goals ≡ γ ∷ others)
   some-first some = go (split 0 (p .lists))
     where
       go : (0 < p .lists) ⊎ (p .lists ≤ 0) → (γ : Goal) × (others : List Goal) × (goals ≡ γ ∷ others)
-      go (inl l) = let z : p .lists ≡ suc (p .lists - 1) = omega arith in (_, _, from-list (p .lists - 1) z)
-      go (inr l) = let z : p .lists ≡ 0 = omega arith in (_, _, from-root z some)
-
-  -- the same by what the code reads at the last cursor
-  module _ (n : p .lists ≡ 0 → ⊥) where
-    abbrev last : ℕ
-    last = p .lists - 1
-
-    is-last : p .lists ≡ suc last
-    is-last = omega arith
-
-    at-end : cursorsPlace + p .lists * 4 - 4 ≡ cursorsPlace + last * 4
-    at-end = omega arith
-
-    at-left : cursorsPlace + p .lists * 4 - 4 + 2 ≡ cursorsPlace + last * 4 + 2
-    at-left = omega arith
-
-    module _ (left : ℕ) (left-is : left ≡ word w (cursorsPlace + p .lists * 4 - 4 + 2)) where
-      told-left : left ≡ leftIn w last
-      unfolding leftIn
-      told-left = left-is ∙ ap (word w) at-left
-
-      pub some-left : 0 < left
-      some-left = omega (arith, told-left, top last is-last .some-left)
-
-      pub pass-last : left ≡ 1 → Passes table flat entries w w p (record { lists = p .lists - 1; roots = p .roots })
-      pass-last e = last-passed last is-last (sym told-left ∙ e)
-
-      pub pass-one : (left ≡ 1 → ⊥) → (w′ : List ℕ) → w′ ≡ putWord w (cursorsPlace + p .lists * 4 - 4 + 2) (left - 1) → Passes table flat entries w w′ p p
-      pass-one more w′ e = one-passed last is-last w′ (e ∙ ap₂ (λ (a b : ℕ). putWord w a (b - 1)) at-left told-left) (λ q. more (told-left ∙ q))
-
-      module _ (end : ℕ) (end-is : end ≡ word w (cursorsPlace + p .lists * 4 - 4)) where
-        told-end : end ≡ endIn w last
-        unfolding endIn
-        told-end = end-is ∙ ap (word w) at-end
-
-        pub list-inside : Cursor table end left
-        list-inside = subst (λ (e : ℕ). Cursor table e left) (sym told-end) (subst (Cursor table (endIn w last)) (sym told-left) (top last is-last))
-
-        pub first-listed : (r : Goal) → r .0 ≡ word table (end - left * 2) → goals ≡ r ∷ drop 1 goals
-        first-listed r e =
-            headed
-            (from-list last is-last
-            ∙ ap (λ (γ : Goal). γ ∷ ((goalsBefore table (endIn w last) (leftIn w last - 1) ++ waiting table w last) ++ goalsBefore flat entries (p .roots)))
-            (as-goal r _ (e ∙ ap₂ (λ (a b : ℕ). word table (a - b * 2)) told-end told-left)))
+      go (inl l) = (_, _, from-list (λ e. omega arith))
+      go (inr l) = let z : p .lists ≡ 0 = omega arith in (_, _, from-root z (omega arith))
 
 -- the premises of a rule in front
-module _ (table flat : List ℕ) (entries : ℕ) (w : List ℕ) (rule : ℕ) (p : Pending) (h : Pends table flat entries w p) (len : ℕ) (len-is : len ≡ word table (rule + 1)) where
+module _ (table flat : List ℕ) (roots : ℕ) (w : List ℕ) (rule : ℕ) (p : Pending) (h : Pends table flat roots w p) (len : ℕ) (len-is : len ≡ word table (rule + 1)) where
+  abbrev count : ℕ
+  count = len / 2 - 2
+
   -- a rule without premises
-  pub push-none : len / 2 - 2 ≡ 0 → Pushes table flat entries w w rule p p
+  pub push-none : count ≡ 0 → Pushes table flat roots w w rule p p
   unfolding goalsAt
   push-none z = record {
-    in-front = sym (ap (λ (k : ℕ). goalsAt table (rule + 7) k ++ pendingIn table flat entries w p) (ap (λ (l : ℕ). l / 2 - 2) (sym len-is) ∙ z));
+    in-front = sym (ap (λ (k : ℕ). goalsAt table (rule + 7) k ++ pendingIn table flat roots w p) (ap (λ (l : ℕ). l / 2 - 2) (sym len-is) ∙ z));
     pends = h;
     few = omega arith;
     kept = kept-same w _ _;
   }
 
   -- a cursor more
-  module _ (ri : RuleInside table rule) (some : len / 2 - 2 ≡ 0 → ⊥) (w₁ w₂ : List ℕ) (first : w₁ ≡ putWord w (cursorsPlace + p .lists * 4) (rule + 7 + (len / 2 - 2) * 2))
-      (second : w₂ ≡ putWord w₁ (cursorsPlace + p .lists * 4 + 2) (len / 2 - 2)) (fits : cursorsPlace + p .lists * 4 + 4 ≤ length w) where
-    abbrev count : ℕ
-    count = len / 2 - 2
-
-    abbrev new : ℕ
-    new = cursorsPlace + p .lists * 4
-
-    size-first : length w₁ ≡ length w
-    size-first = ap length first ∙ length-putWord w new (rule + 7 + count * 2)
-
-    size-second : length w₂ ≡ length w
-    size-second = ap length second ∙ length-putWord w₁ (new + 2) count ∙ size-first
-
-    end-stored : endIn w₂ (p .lists) ≡ rule + 7 + count * 2
-    unfolding endIn
-    end-stored = rw (second, word-other w₁ (new + 2) count new (inl (omega arith)), first) (word-same w new (rule + 7 + count * 2) (omega arith))
-
-    left-stored : leftIn w₂ (p .lists) ≡ count
-    unfolding leftIn
-    left-stored = rw second (word-same w₁ (new + 2) count (omega (arith, size-first)))
-
-    kept-stored : Kept w w₂ new (new + 4)
-    kept-stored =
-        kept-both w w₁ w₂ new (new + 4) new (new + 4) new (new + 4)
-        (subst (λ (v : List ℕ). Kept w v new (new + 4)) (sym first) (kept-put w new (rule + 7 + count * 2) new (new + 4) (omega arith) (omega arith)))
-        (subst (λ (v : List ℕ). Kept w₁ v new (new + 4)) (sym second) (kept-put w₁ (new + 2) count new (new + 4) (omega arith) (omega arith)))
-        (omega arith) (omega arith) (omega arith) (omega arith)
-
-    pub push-list : Pushes table flat entries w w₂ rule p (record { lists = p .lists + 1; roots = p .roots })
-    unfolding waiting
-    push-list =
-        let premises = goalsAt table (rule + 7) count in
-        let behind = goalsBefore flat entries (p .roots) in
-        let place : rule + 7 + count * 2 - count * 2 ≡ rule + 7 = omega arith in
-        let n : (len / 2 - 2 ≡ 0 → ⊥) = some in
-        record {
-          in-front =
-              ap (λ (k : ℕ). waiting table w₂ k ++ behind) (add-one (p .lists))
-              ∙ ap₂ (λ (a b : List Goal). (a ++ b) ++ behind) (ap₂ (λ (a b : ℕ). goalsBefore table a b) end-stored left-stored ∙ ap (λ (k : ℕ). goalsAt table k count) place) (waiting-kept table w w₂ new (new + 4) kept-stored (p .lists) (omega arith))
-              ∙ append-assoc premises (waiting table w (p .lists)) behind
-              ∙ ap (λ (l : ℕ). goalsAt table (rule + 7) (l / 2 - 2) ++ pendingIn table flat entries w p) len-is;
-          pends = record {
-            cursors = λ i l. cursors-next table w w₂ new (new + 4) kept-stored (p .lists) (omega arith) (h .cursors)
-                (record { some-left = omega (arith, left-stored); begins = omega (arith, left-stored, end-stored); ends = omega (arith, left-stored, end-stored, len-is, ri) }) i (omega arith);
-            room = omega (arith, size-second);
-            roots-begin = h .roots-begin;
-            roots-end = h .roots-end;
-          };
-          few = omega arith;
-          kept = record { below = λ i l. kept-stored .below i (omega arith); above = kept-stored .above };
-        }
+  pub push-list : RuleInside table rule → (count ≡ 0 → ⊥) → (w₁ w₂ : List ℕ) → w₁ ≡ putWord w (cursorsPlace + p .lists * 4) (rule + 7) → w₂ ≡ putWord w₁ (cursorsPlace + p .lists * 4 + 2) count
+      → cursorsPlace + p .lists * 4 + 4 ≤ length w → Pushes table flat roots w w₂ rule p (record { lists = p .lists + 1; roots = p .roots })
+  push-list ri some w₁ w₂ first second fits =
+      let premises = goalsAt table (rule + 7) count in
+      let behind = lastRoots flat roots (p .roots) in
+      let kept = stored-kept table w w₁ w₂ (p .lists) (rule + 7) count first second fits in
+      let n : (count ≡ 0 → ⊥) = some in
+      record {
+        in-front =
+            ap (λ (k : ℕ). waiting table w₂ k ++ behind) (add-one (p .lists))
+            ∙ ap (λ (g : List Goal). g ++ behind) (stored-waiting table w w₁ w₂ (p .lists) (rule + 7) count first second fits)
+            ∙ append-assoc premises (waiting table w (p .lists)) behind
+            ∙ ap (λ (l : ℕ). goalsAt table (rule + 7) (l / 2 - 2) ++ pendingIn table flat roots w p) len-is;
+        pends = record {
+          cursors = λ i l. stored-cursors table w w₁ w₂ (p .lists) (rule + 7) count first second fits (h .cursors) (record { some-left = omega arith; inside = omega (arith, len-is, ri) }) i (omega arith);
+          room = omega (arith, stored-size table w w₁ w₂ (p .lists) (rule + 7) count first second fits);
+          few-roots = h .few-roots;
+          roots-inside = h .roots-inside;
+        };
+        few = omega arith;
+        kept = record { below = λ i l. kept .below i (omega arith); above = kept .above };
+      }

@@ -1,14 +1,13 @@
 -- The turns of the walk over a flat file's entries: one law for each way that an entry applies or does not. What is to be walked from the first entry on is what is to be walked from here on.
 -- Assumes nothing.
-use mathlib.Core.Path.{_≡_, refl, sym, ap, _∙_}
-use mathlib.Core.Bool.{Bool, true, false, false≢true}
+use mathlib.Core.Path.{_≡_, refl, sym, subst, ap, _∙_}
+use mathlib.Core.Bool.{true, false}
 use mathlib.Core.Option.{none, some}
 use mathlib.Core.List.{List, _∷_, _++_}
 use Prim.Native.Nat.{ℕ, _+_, _*_, _-_, _≤_, _<_}
 use native.Mathlib.Omega.{arith}
-use lib.Dec.{ltb}
 use lib.ListN.{length, getD, drop}
-use borrow.Author.Tests.{ltb-true, ltb-false, lt-ltb, le-ltb}
+use borrow.Author.Tests.{lt-ltb, le-ltb}
 use Rattle.words.specs.Word.{word}
 use Rattle.words.specs.Kept.{Kept}
 use Rattle.words.proofs.KeptLaws.{kept-same, kept-both}
@@ -28,44 +27,46 @@ use Rattle.files.proofs.EntryBytes.{entries-end}
 use Rattle.files.proofs.EntriesStanding.{First, none-left, first-use, first-open}
 use Rattle.hitac.specs.FlatWalk.{flatWalk}
 use Rattle.derivation.specs.declared.pending.Pending.{Pending}
+use Rattle.derivation.specs.declared.pending.Taken.{Taken}
+use Rattle.derivation.specs.declared.pending.Taken.the-variants as T
 use Rattle.derivation.specs.Layout.{cursorsPlace, cursorsEnd}
-use Rattle.derivation.specs.Pending.{waiting, pendingIn, Pends, Passes, Pushes}
-use Rattle.derivation.specs.Walks.{firstEntry, EntryInside, carriedGoal, carriesFirst, walked, Given}
-use Rattle.derivation.proofs.PendingLaws.{none-pending}
+use Rattle.derivation.specs.Pending.{waiting, firstEntry, pendingIn, Pends, carriesFirst, Passes, Takes, Pushes}
+use Rattle.derivation.specs.Walks.{EntryInside, carriedGoal, walked, Given}
 use Rattle.derivation.proofs.EntryLaws.{use-goal, open-goal, stops-other, steps-open, stops-missing, steps-use, FirstEntry, first-entry}
 
--- where an entry carries the first pending goal, there is one
-pub some-pending : (γ : Goal) (table flat : List ℕ) (entries : ℕ) (w : List ℕ) (p : Pending) → carriesFirst γ (pendingIn table flat entries w p) ≡ true → 0 < p .lists + p .roots
-unfolding carriesFirst
-some-pending γ table flat entries w p e = go (ltb 0 (p .lists + p .roots)) refl
-  where
-    go : (b : Bool) → ltb 0 (p .lists + p .roots) ≡ b → 0 < p .lists + p .roots
-    go true t = ltb-true 0 (p .lists + p .roots) t
-    go false t = absurd (false≢true (sym (ap (carriesFirst γ) (none-pending table flat entries w p (omega (arith, ltb-false 0 (p .lists + p .roots) t)))) ∙ e))
+-- what `take` tells, by its two cases
+module _ (table flat : List ℕ) (roots : ℕ) (w w′ : List ℕ) (p : Pending) (γ : Goal) (r : Taken) (t : Takes table flat roots w w′ p γ r) where
+  pub other-told : r ≡ T.Other → (carriesFirst γ (pendingIn table flat roots w p) ≡ false) × (w′ ≡ w)
+  unfolding Takes
+  other-told e = subst (Takes table flat roots w w′ p γ) e t
+
+  pub left-told : (q : Pending) → r ≡ T.Left q → (carriesFirst γ (pendingIn table flat roots w p) ≡ true) × Passes table flat roots w w′ p q
+  unfolding Takes
+  left-told q e = subst (Takes table flat roots w w′ p γ) e t
 
 -- what the walk keeps of the work space: its bytes outside the cursors are as they were, and the cursors are those of the pending goals
-pub record Keeps (table flat : List ℕ) (entries : ℕ) (w₀ w : List ℕ) (p : Pending) : Type 0 where
+pub record Keeps (table flat : List ℕ) (roots : ℕ) (w₀ w : List ℕ) (p : Pending) : Type 0 where
   pub size : length w ≡ length w₀
   pub kept : Kept w₀ w cursorsPlace cursorsEnd
-  pub pends : Pends table flat entries w p
+  pub pends : Pends table flat roots w p
 
-module _ (table flat : List ℕ) (entries : ℕ) (w₀ : List ℕ) where
-  pub keeps-first : (roots : ℕ) → roots * 2 ≤ entries → entries ≤ length flat → cursorsEnd ≤ length w₀ → Keeps table flat entries w₀ w₀ (record { lists = 0; roots = roots })
-  keeps-first roots b e room = record {
+module _ (table flat : List ℕ) (roots : ℕ) (w₀ : List ℕ) where
+  pub keeps-first : firstEntry roots ≤ length flat → cursorsEnd ≤ length w₀ → Keeps table flat roots w₀ w₀ (record { lists = 0; roots = roots })
+  keeps-first inside room = record {
     size = refl;
     kept = kept-same w₀ cursorsPlace cursorsEnd;
-    pends = record { cursors = λ d l. absurd (omega arith); room = omega arith; roots-begin = b; roots-end = e };
+    pends = record { cursors = λ d l. absurd (omega arith); room = omega arith; few-roots = omega arith; roots-inside = inside };
   }
 
-  module _ (w w′ : List ℕ) (p r : Pending) (k : Keeps table flat entries w₀ w p) (size : length w′ ≡ length w) where
-    pub keeps-passed : p .lists ≤ mostUses → Passes table flat entries w w′ p r → Keeps table flat entries w₀ w′ r
+  module _ (w w′ : List ℕ) (p r : Pending) (k : Keeps table flat roots w₀ w p) (size : length w′ ≡ length w) where
+    pub keeps-passed : p .lists ≤ mostUses → Passes table flat roots w w′ p r → Keeps table flat roots w₀ w′ r
     keeps-passed few x = record {
       size = size ∙ k .size;
       kept = kept-both w₀ w w′ cursorsPlace cursorsEnd cursorsPlace (cursorsPlace + p .lists * 4) cursorsPlace cursorsEnd (k .kept) (x .kept) (omega arith) (omega arith) (omega arith) (omega arith);
       pends = x .pends;
     }
 
-    pub keeps-pushed : (rule : ℕ) → p .lists < mostUses → Pushes table flat entries w w′ rule p r → Keeps table flat entries w₀ w′ r
+    pub keeps-pushed : (rule : ℕ) → p .lists < mostUses → Pushes table flat roots w w′ rule p r → Keeps table flat roots w₀ w′ r
     keeps-pushed rule few x = record {
       size = size ∙ k .size;
       kept = kept-both w₀ w w′ cursorsPlace cursorsEnd cursorsPlace (cursorsPlace + p .lists * 4 + 4) cursorsPlace cursorsEnd (k .kept) (x .kept) (omega arith) (omega arith) (omega arith) (omega arith);
@@ -86,13 +87,13 @@ module _ (table : List ℕ) (rules : ℕ) (flat : List ℕ) (roots : ℕ) (w : L
   abbrev allRoots : Pending
   allRoots = record { lists = 0; roots = roots }
 
-  roots-pending : goalsAt flat 3 roots ≡ pendingIn table flat (firstEntry roots) w allRoots
+  roots-pending : goalsAt flat 3 roots ≡ pendingIn table flat roots w allRoots
   unfolding waiting
   roots-pending =
-      let begin : 3 ≡ firstEntry roots - roots * 2 = omega arith in
+      let begin : 3 ≡ firstEntry (roots - roots) = omega arith in
       ap (λ (k : ℕ). goalsAt flat k roots) begin
 
-  pub reached-first : Given table rules flat roots T es → Reached T flat (flatWalk T (firstEntry roots) (goalsAt flat 3 roots) es) (firstEntry roots) 0 (pendingIn table flat (firstEntry roots) w allRoots)
+  pub reached-first : Given table rules flat roots T es → Reached T flat (flatWalk T (firstEntry roots) (goalsAt flat 3 roots) es) (firstEntry roots) 0 (pendingIn table flat roots w allRoots)
   reached-first g = record {
     rest = es;
     stand = g .entries-stand;
@@ -141,13 +142,12 @@ module _ (T : Table) (flat : List ℕ) (whole : Result (List Goal)) (at lists : 
     pub entry-inside : EntryInside flat at
     entry-inside = here .inside
 
-    pub not-first : carriesFirst (carriedGoal flat at) pending ≡ false → StopsAt flat whole at pending
+    pub not-first : carriesFirst (carriedGoal flat at) pending ≡ false → (g : List Goal) → StopsAt flat whole at g
     not-first t =
         stops-here l
         (r .same
         ∙ ap (flatWalk T at pending) (here .all-are)
         ∙ stops-other T at pending (here .entry) (here .others) (ap (λ (γ : Goal). carriesFirst γ pending) (sym (here .goal-is)) ∙ t))
-        pending
 
     -- it carries the first pending goal
     module _ (carried : carriesFirst (carriedGoal flat at) pending ≡ true) where

@@ -1,14 +1,18 @@
--- The regions of the work space of check_flat and write_proof: what reading the table takes, the index over its rules, the cursors of the pending goals.
+-- The regions of the work space of check_flat and write_proof. The index over the rules stands behind what reading the table takes; once the table is read, the cursors of the pending goals stand there.
 use Prim.Native.Nat.{ℕ, _+_, _*_}
 use Rattle.format.specs.Limits.{mostUses}
-use Rattle.index.specs.Layout.{rulesRoom, readingScratch}
-
-abbrev pub indexPlace : ℕ
-indexPlace = readingScratch
+use Rattle.index.specs.Layout.{headsRoom, readingScratch}
 
 abbrev pub cursorsPlace : ℕ
-cursorsPlace = indexPlace + rulesRoom
+cursorsPlace = 0
 
 -- four bytes for a cursor, of which each use adds at most one
 abbrev pub cursorsEnd : ℕ
 cursorsEnd = cursorsPlace + 4 * mostUses
+
+abbrev pub indexPlace : ℕ
+indexPlace = readingScratch
+
+-- the index's nodes stand behind its heads
+abbrev pub nodesPlace : ℕ
+nodesPlace = indexPlace + headsRoom

@@ -1,8 +1,8 @@
 -- What the walk over a flat file's entries comes to.
-use Prim.Native.Nat.{ℕ, _+_, _*_, _≤_}
+use Prim.Native.Nat.{ℕ, _+_, _≤_}
 use mathlib.Core.Path.{_≡_}
-use mathlib.Core.Bool.{Bool, false, cond}
-use mathlib.Core.List.{List, [], _∷_}
+use mathlib.Core.Bool.{cond}
+use mathlib.Core.List.{List}
 use lib.Dec.{eqb, ltb}
 use lib.ListN.{length, getD}
 use Rattle.words.specs.Word.{word}
@@ -14,7 +14,6 @@ use Rattle.format.specs.Results.{Result, gives, refused}
 use Rattle.format.specs.Values.{goal}
 use Rattle.format.specs.Goals.{goalsAt}
 use Rattle.tables.specs.Tables.{Table}
-use Rattle.tables.specs.Lookup.{sameGoal}
 use Rattle.tables.specs.Standing.{TableStands}
 use Rattle.index.specs.Build.{RulesIndexed}
 use Rattle.files.specs.Derivations.{Entry}
@@ -23,11 +22,7 @@ use Rattle.files.specs.Standing.{EntriesStand}
 use Rattle.hitac.specs.FlatWalk.{flatWalk}
 use Rattle.derivation.specs.declared.walk.Stop.{Stop}
 use Rattle.derivation.specs.Layout.{indexPlace, cursorsPlace, cursorsEnd}
-use Rattle.derivation.specs.Pending.{pendingIn, Pends}
-
--- the place of the first entry behind so many roots
-abbrev pub firstEntry : (roots : ℕ) → ℕ
-firstEntry n = 3 + n * 2
+use Rattle.derivation.specs.Pending.{firstEntry, pendingIn, Pends}
 
 -- the goal of the entry at a place: behind the rule name of a use, behind the header of an open
 unfoldable pub carriedGoal : List ℕ → (at : ℕ) → Goal
@@ -37,11 +32,6 @@ carriedGoal s at = goal (cond (eqb (getD s at 0) 32) (word s (at + 5)) (word s (
 pub record EntryInside (s : List ℕ) (at : ℕ) : Type 0 where
   pub some-entry : at + 5 ≤ length s
   pub some-use : getD s at 0 ≡ 32 → at + 7 ≤ length s
-
--- "Each entry must carry the first pending goal."
-unfoldable pub carriesFirst : Goal → (pending : List Goal) → Bool
-carriesFirst γ [] = false
-carriesFirst γ (δ ∷ g) = sameGoal γ δ
 
 -- what the walk comes to, by where it stopped: an entry that is wrong, or at the file's end the goals that are still pending
 unfoldable pub walked : (end place : ℕ) → (pending : List Goal) → Result (List Goal)
@@ -65,7 +55,7 @@ pub record Ready (table : List ℕ) (rules : ℕ) (flat : List ℕ) (roots : ℕ
 -- the walk from the roots on, where it stopped, and what it leaves alone in the work space
 pub record Walks (table : List ℕ) (rules : ℕ) (flat : List ℕ) (roots : ℕ) (w w′ : List ℕ) (stop : Stop) : Type 0 where
   pub result : (T : Table) (es : List Entry) → Given table rules flat roots T es
-      → flatWalk T (firstEntry roots) (goalsAt flat 3 roots) es ≡ walked (length flat) (stop .place) (pendingIn table flat (firstEntry roots) w′ (stop .pending))
+      → flatWalk T (firstEntry roots) (goalsAt flat 3 roots) es ≡ walked (length flat) (stop .place) (pendingIn table flat roots w′ (stop .pending))
   pub inside : stop .place ≤ length flat
-  pub pends : Pends table flat (firstEntry roots) w′ (stop .pending)
+  pub pends : Pends table flat roots w′ (stop .pending)
   pub kept : Kept w w′ cursorsPlace cursorsEnd

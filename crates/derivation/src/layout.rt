@@ -1,11 +1,13 @@
-// The regions of the work space, behind the room that reading the table takes. specs/Layout says how each follows from the limits of document 01.
+// The regions of the work space. specs/Layout says how each follows from the limits of document 01.
+use index::layout::HEADS_ROOM;
 use index::layout::READING_SCRATCH;
-use index::layout::RULES_ROOM;
 
-// The index over the table's rules.
-pub const INDEX: usize = READING_SCRATCH;
-
-// The cursors of the pending goals, and the place behind them.
-pub const CURSORS: usize = INDEX + RULES_ROOM;
+// The cursors of the pending goals, where the table was read, and the place behind them.
+pub const CURSORS: usize = 0;
 
 pub const CURSORS_END: usize = CURSORS + 16384;
+
+// The index over the table's rules, and its nodes.
+pub const INDEX: usize = READING_SCRATCH;
+
+pub const NODES: usize = INDEX + HEADS_ROOM;

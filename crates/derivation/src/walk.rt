@@ -4,17 +4,19 @@ ghost use Prim.Native.Nat.{_+_, _≤_};
 ghost use lib.ListN.{length};
 ghost use Rattle.words.specs.Word.{word};
 ghost use Rattle.index.specs.Keys.{isKey, digits};
-ghost use Rattle.derivation.specs.Pending.{pendingIn, Pends};
-ghost use Rattle.derivation.specs.Walks.{EntryInside, carriedGoal, carriesFirst, Ready, Walks};
+ghost use Rattle.derivation.specs.Walks.{EntryInside, carriedGoal, Ready, Walks};
 use crate::layout::INDEX;
+use crate::layout::NODES;
 use crate::pending::Pending;
-use crate::pending::first;
-use crate::pending::pass;
+use crate::pending::Taken;
 use crate::pending::push;
-use crate::pending::some_pending;
+use crate::pending::take;
 use files::flats::USE;
+use format::values::Goal;
 use format::values::goal_at;
 use format::values::rule_name_at;
+use index::layout::HEADS;
+use index::node::head_of;
 use index::node::link;
 use index::seek::digits_of;
 use tables::lookup::carries;
@@ -26,28 +28,15 @@ pub struct Stop {
     pub pending: Pending,
 }
 
-// Whether the entry at a place carries the first pending goal: an open behind its header, a use behind its rule name.
-fn carries_first(
-    table: &[u8],
-    flat: &[u8],
-    at: usize,
-    entries: usize,
-    work: &[u8],
-    pending: Pending,
-) -> bool
-    requires { ⌜ EntryInside (now flat) at × Pends (now table) (now flat) entries (now work) pending ⌝ }
-    ensures { λ r. ⌜ r ≡ carriesFirst (carriedGoal (now (flat .entry)) at) (pendingIn (now (table .entry)) (now (flat .entry)) entries (now (work .entry)) pending) ⌝ }
+// The goal of the entry at a place: an open carries it behind its header, a use behind its rule name.
+fn carried_goal(flat: &[u8], at: usize) -> Goal
+    requires { ⌜ EntryInside (now flat) at ⌝ }
+    ensures { λ r. ⌜ r ≡ carriedGoal (now (flat .entry)) at ⌝ }
 {
-    if !some_pending(pending) {
-        return false;
-    }
-    let first = first(table, flat, entries, work, pending);
     if flat[at] == USE {
-        let goal = goal_at(flat, at + 5);
-        return goal.0 == first.0;
+        return goal_at(flat, at + 5);
     }
-    let leaf = goal_at(flat, at + 3);
-    leaf.0 == first.0
+    goal_at(flat, at + 3)
 }
 
 // The digits that lead down the index to the rule of the use at a place.
@@ -64,8 +53,8 @@ fn is_rule_of(table: &[u8], rule: usize, flat: &[u8], at: usize) -> bool
     ensures { λ r. ⌜ r ≡ isKey 6 (now (table .entry)) (word (now (flat .entry)) (at + 3)) (word (now (flat .entry)) (at + 5)) rule ⌝ }
 {
     let name = rule_name_at(flat, at + 3);
-    let goal = goal_at(flat, at + 5);
-    carries(table, rule, name, goal)
+    let on = goal_at(flat, at + 5);
+    carries(table, rule, name, on)
 }
 
 // Walks over the entries of a flat file, behind its roots. The place is that of the first entry that does not apply, or the file's length. The rule of a use is looked up by the index.
@@ -73,36 +62,37 @@ pub fn walk(table: &[u8], rules: usize, flat: &[u8], roots: usize, work: &mut [u
     requires { ⌜ Ready (now table) rules (now flat) roots (now work) ⌝ }
     ensures { λ r. ⌜ Walks (now (table .entry)) rules (now (flat .entry)) roots (now (work .entry)) (now (work .exit)) r ⌝ }
 {
-    let entries = 3 + roots * 2;
-    let mut at = entries;
+    let mut at = 3 + roots * 2;
     let mut pending = Pending { lists: 0, roots };
     let place = 'walk: loop {
         if flat.len() <= at {
             break 'walk at;
         }
-        if !carries_first(table, flat, at, entries, work, pending) {
+        let goal = carried_goal(flat, at);
+        let Taken::Left(others) = take(table, flat, roots, work, pending, goal) else {
             break 'walk at;
-        }
-        pending = pass(work, pending);
+        };
+        pending = others;
         if flat[at] != USE {
             at += 5;
             continue;
         }
-        if rules == 0 {
+        let digits = digits_at(flat, at);
+        let head = head_of(work, INDEX, digits);
+        if head == 0 {
             break 'walk at;
         }
-        let mut node: usize = 0;
-        let mut rest = digits_at(flat, at);
+        let mut node = head - 1;
+        let mut rest = digits / HEADS;
         let rule = loop {
-            let place = load16(work, INDEX + node * 5) as usize;
+            let place = load16(work, NODES + node * 5) as usize;
             if is_rule_of(table, place, flat, at) {
                 break place;
             }
-            let next = link(work, INDEX + node * 5, rest % 2);
-            if next == 0 {
+            node = link(work, NODES + node * 5, rest % 2);
+            if node == 0 {
                 break 'walk at;
             }
-            node = next;
             rest = rest / 2;
         };
         pending = push(table, rule, work, pending);

@@ -53,7 +53,7 @@ abbrev pub checkWork : ℕ
 checkWork = 65536
 
 abbrev pub flattenWork : ℕ
-flattenWork = 196608
+flattenWork = 200704
 
 unfoldable pub check : (table proof work : List ℕ) → Checked
 check table proof work = checkIn checkWork work (onProof proofCounts table proof)

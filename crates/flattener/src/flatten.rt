@@ -33,7 +33,7 @@ use walks::layout::STACK_END;
 use words::clear;
 
 // The size of the work space that is named for this entry.
-const WORK: usize = 196608;
+const WORK: usize = 200704;
 
 // The flat file of an accepted proof, of so many uses and nodes. Its size is known from the counts, so 26 is decided before a byte is written.
 fn write_flat(

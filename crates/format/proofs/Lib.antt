@@ -3,6 +3,7 @@ pub mod Rows
 pub mod ResultLaws
 pub mod HeaderLaws
 pub mod ReaderLaws
+pub mod Again
 pub mod TermLaws
 pub mod Depth
 pub mod ShapeLaws

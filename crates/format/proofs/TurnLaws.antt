@@ -26,7 +26,7 @@ use Rattle.format.specs.ReadTerms.{readTerm}
 use Rattle.format.specs.Shapes.{headerShape, termShape, ending, Within}
 use Rattle.format.proofs.HeaderLaws.{IsField, is-field}
 use Rattle.format.specs.declared.waiting.State.{State}
-use Rattle.format.specs.Waiting.{readingRoom, goOn, reads, closing, endOf, putWaiting, resumed, beginning, refusing, told, outcome, Waits, Going, weight, Moved, Enters, Turned}
+use Rattle.format.specs.Waiting.{readingRoom, goOn, reads, closing, endOf, putWaiting, resumed, beginning, refusing, told, outcome, Waits, Going, weight, Moved, Enters, Reached, Turned}
 use Rattle.format.proofs.Lengths.{short-field}
 use Rattle.format.proofs.TermLaws.{within}
 use Rattle.format.proofs.ShapeLaws.{reads-refused, reads-leaf, reads-inner, reads-any}
@@ -294,39 +294,32 @@ module _ (s w : List ℕ) (high base : ℕ) (x : State) (w′ : List ℕ) (r : S
     over = λ n. when-refused s w′ high base r (zero-left (r .mode) (v .going .modes) m n) ∙ rw (eq-eqb (r .mode) 0 (zero-left (r .mode) (v .going .modes) m n));
   }
 
--- what the loop holds: the state, that it comes to the whole, and what is kept
-pub record Turns (s : List ℕ) (at end high n : ℕ) (w₀ : List ℕ) (base : ℕ) (w : List ℕ) (x : State) : Type 0 where
-  pub going : Going s w base x
-  pub same : outcome s w high base x ≡ reads s high at end n
-  pub kept : Kept w₀ w base (base + readingRoom)
-  pub length-is : length w ≡ length w₀
-  pub over : (x .mode ≡ 1 → ⊥) → outcome s w high base x ≡ told x
+-- what the loop holds
+module _ (s w₀ : List ℕ) (high base : ℕ) (x : State) where
+  pub reached-start : Going s w₀ base x → x .mode ≡ 1 → Reached s w₀ high base x w₀ x
+  reached-start g m = record { going = g; same = refl; kept = kept-same w₀ base (base + readingRoom); over = λ n. absurd (n m) }
 
-module _ (s : List ℕ) (at end high n : ℕ) (w₀ : List ℕ) (base : ℕ) where
-  pub turns-start : at ≤ end → end ≤ length s → base + readingRoom ≤ length w₀ → Turns s at end high n w₀ base w₀ (beginning at end n)
-  unfolding Waits resumed
-  turns-start a b r = record {
-    going = record { ordered = a; waits = b; few = omega arith; most = omega arith; behind = omega arith; near = λ z. inl refl; room = r; modes = omega arith };
-    same = when-reads s w₀ high base (beginning at end n) refl;
-    kept = kept-same w₀ base (base + readingRoom);
-    length-is = refl;
-    over = λ z. absurd (z refl);
+  pub reached-next : (w : List ℕ) (y : State) → Reached s w₀ high base x w y → (w′ : List ℕ) (z : State) → Turned s w high base y w′ z → Reached s w₀ high base x w′ z
+  reached-next w y r w′ z v = record {
+    going = v .moved .going;
+    same = v .moved .same ∙ r .same;
+    kept = kept-both w₀ w w′ base (base + readingRoom) base (base + readingRoom) base (base + readingRoom) (r .kept) (v .moved .kept) (omega arith) (omega arith) (omega arith) (omega arith);
+    over = v .over;
   }
 
-  module _ (w : List ℕ) (x : State) (t : Turns s at end high n w₀ base w x) where
-    pub turns-next : (w′ : List ℕ) (r : State) → Turned s w high base x w′ r → length w′ ≡ length w → Turns s at end high n w₀ base w′ r
-    turns-next w′ r v l = record {
-      going = v .moved .going;
-      same = v .moved .same ∙ t .same;
-      kept = kept-both w₀ w w′ base (base + readingRoom) base (base + readingRoom) base (base + readingRoom) (t .kept) (v .moved .kept) (omega arith) (omega arith) (omega arith) (omega arith);
-      length-is = l ∙ t .length-is;
-      over = v .over;
-    }
+-- the first state of `read_term`, and what it ensures
+module _ (s : List ℕ) (at end n : ℕ) (w : List ℕ) (base : ℕ) (a : at ≤ end) (b : end ≤ length s) where
+  pub begins : (x : State) → x ≡ beginning at end n → base + readingRoom ≤ length w → Going s w base x × (x .mode ≡ 1)
+  unfolding Waits
+  begins x e r = rw e (record { ordered = a; waits = b; few = omega arith; most = omega arith; behind = omega arith; near = λ z. inl refl; room = r; modes = omega arith }, refl)
 
-    pub turns-ended : (x .mode ≡ 1 → ⊥) → (r : TermRead) → r ≡ told x → r ≡ reads s high at end n
-    turns-ended m r e = e ∙ sym (t .over m) ∙ t .same
+  whole : (high : ℕ) (x : State) → x ≡ beginning at end n → outcome s w high base x ≡ reads s high at end n
+  unfolding resumed
+  whole high x e = rw e (when-reads s w high base (beginning at end n) refl)
 
--- what the function ensures
-pub ensured : (s : List ℕ) (at end high n : ℕ) → end ≤ length s → (r : TermRead) → r ≡ reads s high at end n → ((f : ℕ) → end - at < f → r ≡ termShape (readTerm f s high at end n)) × Within at end r
-unfolding reads
-ensured s at end high n fit r e = (λ f l. e ∙ reads-any s high f at end n fit l, rw e (within s high (suc (length s)) at end n))
+  pub ensured : (high : ℕ) (x : State) → x ≡ beginning at end n → (w′ : List ℕ) (y : State) → Reached s w high base x w′ y → (y .mode ≡ 1 → ⊥) → (r : TermRead) → r ≡ told y
+      → ((f : ℕ) → end - at < f → r ≡ termShape (readTerm f s high at end n)) × (Within at end r × Kept w w′ base (base + readingRoom))
+  unfolding reads
+  ensured high x ex w′ y v m r er =
+      let e : r ≡ reads s high at end n = er ∙ sym (v .over m) ∙ v .same ∙ whole high x ex in
+      (λ f l. e ∙ reads-any s high f at end n b l, (rw e (within s high (suc (length s)) at end n), v .kept))

@@ -102,6 +102,13 @@ pub record Enters (s w : List ℕ) (high base : ℕ) (x : State) (h : HeaderRead
   pub reading : x .mode ≡ 1
   pub header-is : h ≡ headerShape (headerAt s (x .at) (x .end) hiproofKind high (leb mostTermFields (x .fields)))
 
+-- any number of turns, from the bytes w₀ and the state x to w and y
+pub record Reached (s w₀ : List ℕ) (high base : ℕ) (x : State) (w : List ℕ) (y : State) : Type 0 where
+  pub going : Going s w base y
+  pub same : outcome s w high base y ≡ outcome s w₀ high base x
+  pub kept : Kept w₀ w base (base + readingRoom)
+  pub over : (y .mode ≡ 1 → ⊥) → outcome s w high base y ≡ told y
+
 -- one turn: to the next term that is to be read, or to the end
 pub record Turned (s w : List ℕ) (high base : ℕ) (x : State) (w′ : List ℕ) (r : State) : Type 0 where
   pub moved : Moved s w high base x w′ r

@@ -59,6 +59,17 @@ pub fn past<'a>(r: Reader<'a>, header: HeaderRead) -> Reader<'a>
     }
 }
 
+// The reader at another place of its file, within what ends at `end`.
+pub fn to<'a>(r: Reader<'a>, at: usize, end: usize) -> Reader<'a>
+    ensures { λ q. ⌜ (q .file ≡ r .entry .file) × (q .at ≡ at) × (q .end ≡ end) ⌝ }
+{
+    Reader {
+        file: r.file,
+        at,
+        end,
+    }
+}
+
 // The field at a place, by a reader that takes one field. Kinds from low to high may stand there, and full says that no more fields of its kind may come.
 pub fn next_field(file: &[u8], at: usize, end: usize, low: u8, high: u8, full: bool) -> FieldFound
     requires { ⌜ (at ≤ end) × (end ≤ length (now file)) ⌝ }

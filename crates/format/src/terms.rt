@@ -7,8 +7,10 @@ ghost use Rattle.words.specs.Kept.{Kept};
 ghost use Rattle.format.specs.Limits.{mostTermFields};
 ghost use Rattle.format.specs.ReadTerms.{readTerm};
 ghost use Rattle.format.specs.Shapes.{termShape, Within};
-ghost use Rattle.format.specs.Waiting.{readingRoom, beginning, told};
-use crate::reader::next_field;
+ghost use Rattle.format.specs.Waiting.{readingRoom, beginning, told, Going, Reached};
+use crate::reader::header_of;
+use crate::reader::new;
+use crate::reader::to;
 use crate::tags::HIPROOF;
 use crate::waiting::MOST_TERM_FIELDS;
 use crate::waiting::READS;
@@ -45,6 +47,22 @@ fn is_full(x: State) -> bool
     MOST_TERM_FIELDS <= x.fields
 }
 
+// Reads on from a state to the end: one reader moves from each term that is to be read to the next, into contents and behind them.
+fn read_on(file: &[u8], start: State, high: u8, work: &mut [u8], base: usize) -> State
+    requires { ⌜ Going (now file) (now work) base start × (start .mode ≡ 1) ⌝ }
+    ensures { λ r. ⌜ Reached (now (file .entry)) (now (work .entry)) high base start (now (work .exit)) r × (r .mode ≡ 1 → ⊥) ⌝ }
+{
+    let mut reader = new(file, start.at, start.end);
+    let mut x = start;
+    while x.mode == READS {
+        let full = is_full(x);
+        let header = header_of(reader, HIPROOF, high, full);
+        x = turn(x, header, file, work, base);
+        reader = to(reader, x.at, x.end);
+    }
+    x
+}
+
 // What was found, once there is no term left to read.
 fn ended(x: State) -> TermRead
     ensures { λ r. ⌜ r ≡ told x ⌝ }
@@ -72,11 +90,7 @@ pub fn read_term(
     ensures { λ r. ⌜ Within at end r ⌝ }
     ensures { λ _. ⌜ Kept (now (work .entry)) (now (work .exit)) base (base + readingRoom) ⌝ }
 {
-    let mut x = begin(at, end, fields);
-    while x.mode == READS {
-        let field = next_field(s, x.at, x.end, HIPROOF, high, is_full(x));
-        let header = field.header;
-        x = turn(x, header, s, work, base);
-    }
-    ended(x)
+    let start = begin(at, end, fields);
+    let last = read_on(s, start, high, work, base);
+    ended(last)
 }

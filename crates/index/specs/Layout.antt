@@ -1,19 +1,30 @@
--- The room that an index takes in the work space: five bytes for each node, and as many nodes as document 01's limits let in.
+-- The room that an index takes in the work space: two bytes for each head, then five for each node, as many as document 01's limits let in.
 use Prim.Native.Nat.{ℕ, _+_, _*_}
 use Rattle.format.specs.Limits.{mostRules, mostDefinitions}
 
--- as many as there are rules at most; there are no more labels, since there are no more term fields. A link of twelve bits says which.
+-- as many as there are rules at most. A link of twelve bits says which.
 abbrev pub mostNodes : ℕ
 mostNodes = mostRules
 
--- an index over the rules, their names, or the labels
+-- the lowest ten digits of a key say its head
+abbrev pub heads : ℕ
+heads = 1024
+
+abbrev pub headsRoom : ℕ
+headsRoom = 2 * heads
+
+-- an index over the rules
 abbrev pub rulesRoom : ℕ
-rulesRoom = 5 * mostNodes
+rulesRoom = headsRoom + 5 * mostNodes
 
 -- an index over the definitions
 abbrev pub definitionsRoom : ℕ
-definitionsRoom = 5 * mostDefinitions
+definitionsRoom = headsRoom + 5 * mostDefinitions
+
+-- a table of what was seen: four bits for each value of two bytes
+abbrev pub seenRoom : ℕ
+seenRoom = 32768
 
 -- what reading a table takes besides the index over the rules
 abbrev pub readingScratch : ℕ
-readingScratch = rulesRoom + definitionsRoom
+readingScratch = seenRoom + definitionsRoom

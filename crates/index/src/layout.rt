@@ -1,7 +1,16 @@
 // The room that an index takes in the work space. specs/Layout says how each follows from the limits of document 01.
 
-// An index over the rules, their names, or the labels.
-pub const RULES_ROOM: usize = 20480;
+// The lowest ten digits of a key say its head.
+pub const HEADS: u32 = 1024;
+
+// The heads stand in front of the nodes.
+pub const HEADS_ROOM: usize = 2048;
+
+// An index over the rules.
+pub const RULES_ROOM: usize = 22528;
+
+// A table of what was seen.
+pub const SEEN_ROOM: usize = 32768;
 
 // What reading a table takes besides the index over the rules.
-pub const READING_SCRATCH: usize = 21760;
+pub const READING_SCRATCH: usize = 36096;

@@ -11,8 +11,12 @@ use files::jobs::JobRead;
 use files::jobs::read_job;
 use files::proofs::ProofRead;
 use files::proofs::read_proof;
+use index::layout::READING_SCRATCH;
+use index::table::read_table;
 use tables::fields::TableRead;
-use tables::table::read_table;
+
+// More than the reading of any file takes.
+const SPACE: usize = 65536;
 
 // How a file reads: the refusal's number and place, or 0 and 0.
 struct Finding {
@@ -20,8 +24,8 @@ struct Finding {
     place: usize,
 }
 
-fn table_finding(s: &[u8]) -> Finding {
-    let read = read_table(s);
+fn table_finding(s: &[u8], space: &mut [u8; SPACE]) -> Finding {
+    let read = read_table(s, space, 0, READING_SCRATCH);
     match read {
         TableRead::Refused(number, place) => Finding { number, place },
         TableRead::Read(_, _, _) => Finding {
@@ -31,8 +35,8 @@ fn table_finding(s: &[u8]) -> Finding {
     }
 }
 
-fn proof_finding(s: &[u8]) -> Finding {
-    let read = read_proof(s);
+fn proof_finding(s: &[u8], space: &mut [u8; SPACE]) -> Finding {
+    let read = read_proof(s, space, 0);
     match read {
         ProofRead::Refused(number, place) => Finding { number, place },
         ProofRead::Read(_) => Finding {
@@ -42,8 +46,8 @@ fn proof_finding(s: &[u8]) -> Finding {
     }
 }
 
-fn job_finding(s: &[u8]) -> Finding {
-    let read = read_job(s);
+fn job_finding(s: &[u8], space: &mut [u8; SPACE]) -> Finding {
+    let read = read_job(s, space, 0);
     match read {
         JobRead::Refused(number, place) => Finding { number, place },
         JobRead::Read(_) => Finding {
@@ -65,9 +69,9 @@ fn flat_finding(s: &[u8]) -> Finding {
 }
 
 // The other file, read as the entry reads it.
-fn other_finding(entry: u8, s: &[u8]) -> Finding {
+fn other_finding(entry: u8, s: &[u8], space: &mut [u8; SPACE]) -> Finding {
     if entry == RUN {
-        return job_finding(s);
+        return job_finding(s, space);
     }
     if entry == CHECK_FLAT {
         return flat_finding(s);
@@ -75,7 +79,7 @@ fn other_finding(entry: u8, s: &[u8]) -> Finding {
     if entry == WRITE_PROOF {
         return flat_finding(s);
     }
-    proof_finding(s)
+    proof_finding(s, space)
 }
 
 // Whether the answer is a reader's refusal of this file; last is the reader's last number.
@@ -109,7 +113,8 @@ pub fn replay_reading(entry: u8, table: &[u8], other: &[u8], told: Answer) -> Ve
         return Verdict::Untold;
     }
     let table_refused = refuses(told, 1, 9);
-    let table_found = table_finding(table);
+    let mut space = [0u8; SPACE];
+    let table_found = table_finding(table, &mut space);
     let table_same = reads_as_told(table_found, table_refused, told);
     if !table_same {
         return Verdict::Different;
@@ -118,6 +123,6 @@ pub fn replay_reading(entry: u8, table: &[u8], other: &[u8], told: Answer) -> Ve
         return Verdict::Same;
     }
     let other_refused = refuses(told, 2, 5);
-    let other_found = other_finding(entry, other);
+    let other_found = other_finding(entry, other, &mut space);
     compared(reads_as_told(other_found, other_refused, told))
 }

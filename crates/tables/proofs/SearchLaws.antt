@@ -55,22 +55,15 @@ module _ (number : ℕ) (s : List ℕ) (at : ℕ) where
   pub goal-inside : getD s at 0 ≡ searchedTag number → number ≡ 6 → Room s at → at + 7 ≤ length s
   goal-inside t e h = omega (arith, goal-room, ap leastOf (t ∙ ap searchedTag e))
 
--- the test of two fields, one law for each return of the code
+-- the test of two fields, by the number
 module _ (number : ℕ) (s : List ℕ) (at earlier : ℕ) where
   module _ (here : getD s at 0 ≡ searchedTag number) (there : getD s earlier 0 ≡ searchedTag number) where
     pub by-value : clashAt number s at earlier ≡ (eqb (word s (at + 3)) (word s (earlier + 3)) && besides number s at earlier)
     unfolding clashAt
     by-value = simp (eq-eqb _ _ here, eq-eqb _ _ there)
 
-    pub other-value : (word s (at + 3) ≡ word s (earlier + 3) → ⊥) → clashAt number s at earlier ≡ false
-    other-value h = by-value ∙ rw (ne-eqb _ _ h)
-
     pub same-value : word s (at + 3) ≡ word s (earlier + 3) → clashAt number s at earlier ≡ besides number s at earlier
     same-value e = by-value ∙ rw (eq-eqb _ _ e)
-
-  pub for-goal : number ≡ 6 → besides number s at earlier ≡ eqb (word s (at + 5)) (word s (earlier + 5))
-  unfolding besides
-  for-goal e = simp (eq-eqb _ _ e)
 
   pub for-length : (number ≡ 6 → ⊥) → number ≡ 7 → besides number s at earlier ≡ not (eqb (word s (at + 1)) (word s (earlier + 1)))
   unfolding besides

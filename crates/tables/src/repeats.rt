@@ -1,6 +1,6 @@
-// Refusals 6, 7, 8 and 9: a field that clashes with an earlier one. The refusal's number says which fields are meant, how far it is from one header to the next, and what clashes. Crate index searches by these.
+// Refusals 6, 7, 8 and 9: a field that clashes with an earlier one. The refusal's number says which fields are meant, and how far it is from one header to the next. The searches are in crate index.
 ghost use mathlib.Core.Path.{_≡_};
-ghost use Rattle.tables.specs.Search.{searchedTag, stepAt, Room, clashAt};
+ghost use Rattle.tables.specs.Search.{searchedTag, stepAt, Room};
 use format::tags::least_of;
 use words::load16;
 
@@ -32,28 +32,4 @@ pub fn step(s: &[u8], at: usize, number: u8) -> usize
         return 3 + least_of(s[at]) as usize;
     }
     3 + load16(s, at + 1) as usize
-}
-
-// Whether the field at a place clashes with an earlier one. Both have one tag, so their first values are of one kind: names, tactic numbers or labels. For 6 the goals behind the names are compared too, for 7 the lengths.
-pub fn clashes(s: &[u8], at: usize, earlier: usize, number: u8) -> bool
-    requires { ⌜ Room (now s) at × Room (now s) earlier ⌝ }
-    ensures { λ r. ⌜ r ≡ clashAt number (now (s .entry)) at earlier ⌝ }
-{
-    let tag = searched(number);
-    if s[at] != tag {
-        return false;
-    }
-    if s[earlier] != tag {
-        return false;
-    }
-    if load16(s, at + 3) != load16(s, earlier + 3) {
-        return false;
-    }
-    if number == 6 {
-        return load16(s, at + 5) == load16(s, earlier + 5);
-    }
-    if number == 7 {
-        return load16(s, at + 1) != load16(s, earlier + 1);
-    }
-    true
 }

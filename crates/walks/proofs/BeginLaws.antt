@@ -1,8 +1,8 @@
 -- A sequence or a tensor begins: it waits for its left term, which is next.
 -- Assumes nothing.
 use mathlib.Core.Path.{_≡_, refl, sym, subst, ap, ap₂, _∙_}
-use mathlib.Core.Logic.{_⊎_, inl, inr}
-use mathlib.Core.List.{List, [], _∷_}
+use mathlib.Core.Logic.{inl, inr}
+use mathlib.Core.List.{List, _∷_}
 use Prim.Native.Nat.{ℕ, _+_, _*_, _-_, _≤_, _<_}
 use native.Mathlib.Omega.{arith}
 use lib.ListN.{length, getD}
@@ -27,7 +27,7 @@ use Rattle.walks.specs.Values.{valuesAt}
 use Rattle.walks.specs.Walks.{Act, joinedValues, walkOf}
 use Rattle.walks.specs.Arities.{arities, Ahead}
 use Rattle.walks.specs.Waiting.{Waiting, sequenceLeft, tensorLeft, resumed, pending, later, weight}
-use Rattle.walks.specs.Shows.{putFrame, Framed, Beside, Shown}
+use Rattle.walks.specs.Shows.{putFrame, Framed, Shown}
 use Rattle.walks.specs.Loops.{Aim, Roomy, BeginsWith, Begins, Turned, Steps}
 use Rattle.walks.proofs.ValueLaws.{length-values, take-values, drop-values, values-below}
 use Rattle.walks.proofs.ArityLaws.{ahead-kept, ahead-first}

@@ -1,17 +1,17 @@
 -- What the loops over `begin` and `resume` need besides: a term that begins without its labels, a term that acts and ends, a write behind the arities, and the walk's start.
 -- Assumes nothing.
 use mathlib.Core.Path.{_≡_, refl, sym, subst, ap, _∙_}
-use mathlib.Core.Logic.{_⊎_, inl, inr}
+use mathlib.Core.Logic.{inl, inr}
 use mathlib.Core.Bool.{true, false}
 use mathlib.Core.List.{List, []}
-use Prim.Native.Nat.{ℕ, _+_, _*_, _-_, _≤_, _<_}
+use Prim.Native.Nat.{ℕ, _+_, _*_, _-_, _≤_}
 use native.Mathlib.Omega.{arith}
 use lib.ListN.{length, getD}
 use Rattle.words.specs.Kept.{Kept}
 use Rattle.words.proofs.KeptLaws.{kept-same, kept-both}
 use Rattle.format.specs.Limits.{mostBytes, mostTermFields, mostGoals}
 use Rattle.format.specs.Refusals.{Cause, number, goalCountWrong}
-use Rattle.format.specs.Results.{gives, refused}
+use Rattle.format.specs.Results.{refused}
 use Rattle.format.specs.Terms.{Term, atomic, id, label, sequence, tensor, empty, alternation, assert, defined, size, fields}
 use Rattle.format.specs.Standing.{Stands}
 use Rattle.format.proofs.StandsLaws.{tagOf, known}
@@ -23,7 +23,7 @@ use Rattle.walks.specs.declared.state.Turn.{Turn}
 use Rattle.walks.specs.declared.state.Turn.the-variants as U
 use Rattle.walks.specs.Layout.{stackEnd, framesEnd, aritiesEnd}
 use Rattle.walks.specs.Values.{valuesAt}
-use Rattle.walks.specs.Walks.{Act, out, walkOf}
+use Rattle.walks.specs.Walks.{Act, walkOf}
 use Rattle.walks.specs.Labels.{bare, bareAt, labelCountWrong}
 use Rattle.walks.specs.Arities.{arities, Ahead}
 use Rattle.walks.specs.Waiting.{Waiting, resumed, pending, later, weight}

@@ -1,7 +1,6 @@
 -- The arities of the tensors' left terms, listed from the first field to the last: once those of the fields from a place on are listed, so are all.
 -- Assumes nothing.
 use mathlib.Core.Path.{_≡_, refl, sym, subst, ap, _∙_}
-use mathlib.Core.Logic.{_⊎_, inl, inr}
 use mathlib.Core.List.{List, [], _∷_}
 use Prim.Native.Nat.{ℕ, _+_, _*_, _≤_, _<_}
 use native.Mathlib.Omega.{arith}
@@ -15,12 +14,11 @@ use Rattle.format.specs.Terms.{Term, atomic, id, label, sequence, tensor, empty
 use Rattle.format.specs.Standing.{Stands}
 use Rattle.format.proofs.StandsLaws.{tagOf, known}
 use Rattle.format.proofs.ByTag.{by-tag}
-use Rattle.hitac.specs.Hiproofs.{inputArity}
 use Rattle.walks.specs.Layout.{stackEnd, framesEnd, aritiesEnd}
 use Rattle.walks.specs.Arities.{arities, Listed, Noted}
-use Rattle.walks.specs.Threads.{slot, width, after, Forest, total, allArities, Own, Owns, Room, Threads, ListedHere, Listable, Lists}
-use Rattle.walks.proofs.ArityLaws.{arities-length, listed-kept}
-use Rattle.walks.proofs.ThreadLaws.{slot-rises, slot-apart, arity-le, width-three, total-after, forest-after, own-after, own-here, owns-same, some-next, inner-tensor}
+use Rattle.walks.specs.Threads.{slot, width, after, Forest, total, allArities, Own, Owns, Room, ListedHere, Listable, Lists}
+use Rattle.walks.proofs.ArityLaws.{arities-length}
+use Rattle.walks.proofs.ThreadLaws.{slot-rises, slot-apart, arity-le, total-after, forest-after, own-after, own-here, owns-same, some-next}
 
 -- ---- one field
 

@@ -1,7 +1,7 @@
 -- A term ended and gave: what the innermost term that waits makes of it. One law for each return of `resume` and for its loop's turn.
 -- Assumes nothing.
 use mathlib.Core.Path.{_≡_, refl, sym, subst, ap, ap₂, _∙_}
-use mathlib.Core.Logic.{_⊎_, inl, inr}
+use mathlib.Core.Logic.{inl, inr}
 use mathlib.Core.List.{List, [], _∷_, _++_}
 use Prim.Native.Nat.{ℕ, _+_, _*_, _-_, _/_, _≤_, _<_}
 use native.Mathlib.Omega.{arith}
@@ -23,8 +23,8 @@ use Rattle.walks.specs.Layout.{stackEnd, framesEnd, began}
 use Rattle.walks.specs.Values.{valuesAt}
 use Rattle.walks.specs.Walks.{Act, out, joinedValues, walkOf}
 use Rattle.walks.specs.Waiting.{Waiting, sequenceLeft, tensorLeft, tensorRight, resumed, pending, later, weight}
-use Rattle.walks.specs.Shows.{Framed, Beside, Joins, Shown}
-use Rattle.walks.specs.Loops.{Aim, Roomy, BeginsWith, Begins, GaveWith, Gave, Turned, Steps}
+use Rattle.walks.specs.Shows.{Framed, Joins, Shown}
+use Rattle.walks.specs.Loops.{Aim, BeginsWith, GaveWith, Gave, Turned, Steps}
 use Rattle.walks.proofs.ValueLaws.{length-values, values-append, values-paste, values-below}
 use Rattle.walks.proofs.ArityLaws.{ahead-kept}
 use Rattle.walks.proofs.ResumedLaws.{resumed-refused, weight-length}

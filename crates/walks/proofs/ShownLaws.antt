@@ -3,7 +3,7 @@
 use mathlib.Core.Path.{_≡_, sym, _∙_}
 use mathlib.Core.Logic.{_⊎_, inl, inr}
 use mathlib.Core.List.{List, [], _∷_}
-use Prim.Native.Nat.{ℕ, _+_, _*_, _≤_, _<_}
+use Prim.Native.Nat.{ℕ, _+_, _*_, _≤_}
 use native.Mathlib.Omega.{arith}
 use lib.ListN.{length}
 use Rattle.words.specs.Word.{word}
@@ -13,7 +13,7 @@ use Rattle.format.specs.Terms.{size}
 use Rattle.walks.specs.Layout.{stackEnd}
 use Rattle.walks.specs.Values.{valuesAt}
 use Rattle.walks.specs.Waiting.{Waiting, sequenceLeft, tensorLeft, tensorRight}
-use Rattle.walks.specs.Shows.{Framed, Beside, Joins, Shown}
+use Rattle.walks.specs.Shows.{Framed, Shown}
 use Rattle.walks.proofs.ValueLaws.{values-below, values-above}
 
 module _ (s : List ℕ) where

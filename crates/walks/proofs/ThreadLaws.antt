@@ -11,7 +11,7 @@ use Rattle.words.proofs.WordLaws.{word-same}
 use Rattle.words.proofs.KeptLaws.{kept-put, kept-same, kept-both, word-below, word-above}
 use Rattle.format.specs.Terms.{Term, atomic, id, label, sequence, tensor, empty, alternation, assert, defined, size}
 use Rattle.format.specs.Standing.{Stands}
-use Rattle.format.proofs.StandsLaws.{tagOf, Known, known}
+use Rattle.format.proofs.StandsLaws.{tagOf, known}
 use Rattle.format.proofs.ByTag.{Two, by-tag}
 use Rattle.hitac.specs.Hiproofs.{inputArity}
 use Rattle.walks.specs.Layout.{stackEnd}

@@ -1,7 +1,8 @@
 -- The regions of the work space of check and flatten, one behind the other: the two stacks of values, from 0 on; the frames of the terms that wait; the
 -- arities of the left terms of tensors; the index over the table's rules.
 use Prim.Native.Nat.{ℕ, _+_, _*_, _-_, _/_}
-use Rattle.format.specs.Limits.{mostTermFields, mostGoals, mostRules}
+use Rattle.format.specs.Limits.{mostTermFields, mostGoals}
+use Rattle.index.specs.Layout.{rulesRoom}
 
 -- a term of k fields has at most (k + 1) / 2 atomics and (k - 1) / 2 fields with two inner terms
 abbrev pub mostAtomics : ℕ
@@ -22,9 +23,9 @@ framesEnd = stackEnd + 4 * mostPairs
 abbrev pub aritiesEnd : ℕ
 aritiesEnd = framesEnd + 2 * mostPairs
 
--- five bytes for each rule
+-- the index over the rules
 abbrev pub indexEnd : ℕ
-indexEnd = aritiesEnd + 5 * mostRules
+indexEnd = aritiesEnd + rulesRoom
 
 -- Added to a place on the stacks in the frame of a tensor that waits for its right term: no place is as large.
 abbrev pub began : ℕ

@@ -63,6 +63,10 @@ Gave act x A s w at low given end frames arity uses = (f : List Waiting) × Gave
 abbrev pub placed : Next → (at : ℕ) → Next
 placed n at = record { at = at; count = n .count; low = n .low; top = n .top; frames = n .frames; arity = n .arity; uses = n .uses }
 
+-- the term that is next, with the next arity where it was
+abbrev pub nextOf : Next → (at count low top frames uses : ℕ) → Next
+nextOf n at count low top frames uses = record { at = at; count = count; low = low; top = top; frames = frames; arity = n .arity; uses = uses }
+
 -- the walk's first term, on so many values, with nothing begun
 abbrev pub startOf : (at count : ℕ) → Next
 startOf at count = record { at = at; count = count; low = 0; top = stackEnd - count * 2; frames = stackEnd; arity = framesEnd; uses = 0 }

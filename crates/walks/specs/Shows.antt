@@ -4,7 +4,7 @@ use mathlib.Core.Path.{_≡_}
 use mathlib.Core.List.{List, [], _∷_}
 use lib.ListN.{length, getD}
 use Rattle.words.specs.Word.{word, putWord}
-use Rattle.format.specs.Terms.{Term, size}
+use Rattle.format.specs.Terms.{size}
 use Rattle.format.specs.Standing.{Stands}
 use Rattle.walks.specs.Layout.{stackEnd, began}
 use Rattle.walks.specs.Values.{valuesAt}

@@ -6,7 +6,8 @@ ghost use lib.ListN.{length};
 ghost use Rattle.hitac.proofs.Nodes.{Cell};
 ghost use Rattle.walks.specs.Walks.{Act};
 ghost use Rattle.walks.specs.Shows.{putFrame};
-ghost use Rattle.walks.specs.Loops.{Aim, Roomy, Gave, Steps};
+ghost use Rattle.walks.specs.Loops.{Aim, Roomy, Gave, nextOf, Steps};
+ghost use Rattle.walks.specs.declared.state.Turn.the-variants as U;
 use crate::layout::BEGAN;
 use crate::layout::STACK_END;
 use crate::state::Next;
@@ -24,6 +25,29 @@ pub fn push(work: &mut [u8], at: usize, place: usize, value: usize)
     store16(work, at + 2, value as u16);
 }
 
+// The term at a place is next: it takes so many values from `top` on and gives from `low` on.
+fn next_term(
+    n: Next,
+    at: usize,
+    count: usize,
+    low: usize,
+    top: usize,
+    frames: usize,
+    uses: usize,
+) -> Turn
+    ensures { λ r. ⌜ r ≡ U.Begin (nextOf n at count low top frames uses) ⌝ }
+{
+    Turn::Begin(Next {
+        at,
+        count,
+        low,
+        top,
+        frames,
+        arity: n.arity,
+        uses,
+    })
+}
+
 // From the end of the term n, which gave so many values, to the next term to begin, or to the end of the walk. A sequence moves what its left term gave to the end of its values, and its right term takes it there; a tensor's right term takes the rest of its values; a tensor whose right term ended joins what both gave.
 pub fn resume(proof: &[u8], work: &mut [u8], n: Next, at: usize, given: usize, uses: usize) -> Turn
     requires { ⌜ ((act : Act) × (x : Aim) × (A : List Cell) × Gave act x A (now proof) (now work) at (n .low) given (n .top + n .count * 2) (n .frames) (n .arity) uses) × Roomy (now proof) (now work) ⌝ }
@@ -39,28 +63,14 @@ pub fn resume(proof: &[u8], work: &mut [u8], n: Next, at: usize, given: usize, u
         if proof[place] == 19 {
             let top = end - count * 2;
             move_up(work, start, top, count * 2);
-            return Turn::Begin(Next {
-                at,
-                count,
-                low: start,
-                top,
-                frames: frame,
-                arity: n.arity,
-                uses,
-            });
+            return next_term(n, at, count, start, top, frame, uses);
         }
         let value = load16(work, frame + 2) as usize;
         if value < BEGAN {
             store16(work, frame + 2, (BEGAN + start) as u16);
-            return Turn::Begin(Next {
-                at,
-                count: (value - end) / 2,
-                low: start + count * 2,
-                top: end,
-                frames: last,
-                arity: n.arity,
-                uses,
-            });
+            let rest = (value - end) / 2;
+            let low = start + count * 2;
+            return next_term(n, at, rest, low, end, last, uses);
         }
         let first = value - BEGAN;
         count = (start + count * 2 - first) / 2;

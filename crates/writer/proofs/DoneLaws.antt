@@ -16,7 +16,7 @@ use Rattle.writer.specs.Fields.{header}
 use Rattle.writer.specs.Plan.{openMark, behind}
 use Rattle.writer.specs.Trees.{Trees, Ready, Done, termOf, endOf, lead}
 use Rattle.writer.proofs.Lent.{tail-part, after, pair-bytes, lent-size}
-use Rattle.writer.proofs.TreeLaws.{none-term, tree-open, UseTree, Several, several, moved, name-path}
+use Rattle.writer.proofs.TreeLaws.{none-term, tree-open, UseTree, several, moved, name-path}
 
 -- a term that was written, by what it is
 done-by : (t t′ : Term) (end next : ℕ) (o o′ : List ℕ) → t ≡ t′ → next ≡ end → o′ ≡ termBytes t′ ++ drop (size t′) o → Done t end next o o′

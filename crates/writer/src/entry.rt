@@ -14,6 +14,7 @@ ghost use Rattle.derivation.specs.CheckedEntries.{DerivationAt};
 ghost use Rattle.writer.specs.Right.{Right, proofOf};
 ghost use Rattle.writer.specs.Left.{leftIn, writtenEntries};
 use crate::file::write_file;
+use crate::plan::MOST_ENTRIES;
 use crate::plan::PLAN;
 use crate::plan::plan_entries;
 use crate::sizes::proof_size;
@@ -31,8 +32,6 @@ use words::clear;
 
 // The length of the work space.
 const WORK: usize = 65536;
-
-const MOST_ENTRIES: usize = 2048;
 
 // The proof file of a flat file that is right, if there is room for it.
 fn write_right(

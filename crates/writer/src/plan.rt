@@ -21,8 +21,11 @@ use index::lookup::find_rule;
 use tables::lookup::RuleFound;
 use words::store16;
 
-// The bytes of the plan: three for each of the most entries.
-pub const PLAN: usize = 6144;
+// The most entries of a flat file that is written.
+pub const MOST_ENTRIES: usize = 2048;
+
+// The bytes of the plan: three for each entry.
+pub const PLAN: usize = 3 * MOST_ENTRIES;
 
 // The number that marks an open.
 pub const OPEN: usize = 255;

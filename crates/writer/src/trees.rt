@@ -15,7 +15,7 @@ use crate::plan::PLAN;
 use crate::plan::count_at;
 use format::values::rule_name_at;
 
-// The bytes before the first of n trees.
+// The bytes before the first of n trees: the header of their tensor, and none before one tree.
 fn lead_of(n: usize) -> usize
     ensures { λ r. ⌜ r ≡ lead n ⌝ }
 {

@@ -16,7 +16,7 @@ pub struct Answer {
 
 pub const CHECK_WORK: usize = 65536;
 pub const RUN_WORK: usize = 1290752;
-pub const FLATTEN_WORK: usize = 196608;
+pub const FLATTEN_WORK: usize = 200704;
 pub const CHECK_FLAT_WORK: usize = 65536;
 pub const WRITE_PROOF_WORK: usize = 65536;
 

@@ -1,6 +1,5 @@
 -- `leaf::keep_goal` meets its contract: the goal is stored behind those given.
 -- Assumes nothing.
-use native.Mathlib.Omega.{arith}
 use borrow.Author.Needs.{needs}
 use Rattle.checker.proofs.LeafLaws.{id-not-one, id-one}
 use Rattle.checker.proofs.leaf.keep_goal.Statement.{statement}

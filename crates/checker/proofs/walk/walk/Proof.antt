@@ -1,8 +1,8 @@
 -- `walk::walk` meets its contract: the walk of whatever term it began with is under way at each turn, and each term that begins stands behind the one before.
 -- Assumes nothing.
 use borrow.Author.Needs.{needs}
-use mathlib.Core.Path.{_≡_, _∙_}
-use Prim.Native.Nat.{ℕ, _-_}
+use mathlib.Core.Path.{_∙_}
+use Prim.Native.Nat.{_-_}
 use native.Mathlib.Omega.{arith}
 use lib.ListN.{length}
 use Rattle.checker.proofs.StepLaws.{Way, way-start, way-refused, way-ended, way-next, way-less}

@@ -1,7 +1,7 @@
 -- `pending::push` meets its contract: nothing for a rule without premises, else a cursor more.
 -- Assumes nothing.
-use Rattle.derivation.proofs.PendingLaws.{push-none, push-list}
 use borrow.Author.Needs.{needs}
+use Rattle.derivation.proofs.PendingLaws.{push-none, push-list}
 use Rattle.derivation.proofs.pending.push.Statement.{statement}
 use Rattle.derivation.proofs.pending.push.Tie as tie
 
@@ -18,7 +18,7 @@ sub-count : tie.Need-sub-count
 sub-count c = search needs
 
 returns : tie.Need-returns
-returns c = λ flat entries h. push-none _ _ _ _ _ _ h _ (c .before .load16 .ensures) (c .if1 .taken)
+returns c = λ flat roots h. push-none _ _ _ _ _ _ h _ (c .before .load16 .ensures) (c .if1 .taken)
 
 mul-top : tie.Need-mul-top
 mul-top c = search needs
@@ -26,14 +26,8 @@ mul-top c = search needs
 add-top : tie.Need-add-top
 add-top c = search needs
 
-add-end : tie.Need-add-end
-add-end c = search needs
-
-mul-end : tie.Need-mul-end
-mul-end c = search needs
-
-add-end-2 : tie.Need-add-end-2
-add-end-2 c = search needs
+add-place : tie.Need-add-place
+add-place c = search needs
 
 cast-store16 : tie.Need-cast-store16
 cast-store16 c = search needs
@@ -57,7 +51,7 @@ same-length : tie.Need-same-length
 same-length c = search needs
 
 returns-2 : tie.Need-returns-2
-returns-2 c = λ flat entries h. let i = c .before .before .before .before .before .before .before .before .before .before .before .before .before .before in push-list _ _ _ _ _ _ h _ (c .before .before .before .before .before .before .before .before .before .before .before .load16 .ensures) (i .pre .0) (c .before .before .before .before .before .before .before .before .before .before .if1 .left) _ _ (c .before .before .before .before .before .before .before .store16 .ensures) (c .before .before .before .store162 .ensures) (i .pre .2)
+returns-2 c = λ flat roots h. let i = c .before .before .before .before .before .before .before .before .before .before .before .before .before .before in push-list _ _ _ _ _ _ h _ (c .before .before .before .before .before .before .before .before .before .before .before .load16 .ensures) (i .pre .0) (c .before .before .before .before .before .before .before .before .before .before .if1 .left) _ _ (c .before .before .before .before .before .before .before .store16 .ensures) (c .before .before .before .store162 .ensures) (i .pre .2)
 
 pub push-spec : {M : Type 1} → statement M
 push-spec =
@@ -70,9 +64,7 @@ push-spec =
     returns
     mul-top
     add-top
-    add-end
-    mul-end
-    add-end-2
+    add-place
     cast-store16
     store16-requires
     add-store16

@@ -1,8 +1,8 @@
 -- `walk::digits_at` meets its contract.
 -- Assumes nothing.
 use mathlib.Core.Path.{ap₂, _∙_}
-use Rattle.index.specs.Keys.{digits}
 use borrow.Author.Needs.{needs}
+use Rattle.index.specs.Keys.{digits}
 use Rattle.derivation.proofs.walk.digits_at.Statement.{statement}
 use Rattle.derivation.proofs.walk.digits_at.Tie as tie
 

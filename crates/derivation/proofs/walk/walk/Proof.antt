@@ -1,19 +1,17 @@
 -- `walk::walk` meets its contract. The invariant: the walk from the first entry on is the walk from here on over the pending goals, of which there are at most as many lists as uses so far; outside the cursors the work space is as it was.
 -- The inner loop's: the search for the use's name and goal comes to this node.
 -- Assumes nothing.
-use mathlib.Core.Path.{_≡_, sym, _∙_}
+use mathlib.Core.Path.{_≡_, sym, subst, _∙_}
 use mathlib.Core.Bool.{true, false}
 use mathlib.Core.List.{List}
 use Prim.Native.Nat.{ℕ, _+_, _*_, _-_, _≤_, _<_}
 use native.Mathlib.Omega.{arith}
 use denote.Ref.{now}
 use lib.ListN.{length, getD}
-use borrow.Author.Tests.{not-true, not-false}
 use borrow.Author.Needs.{needs}
 use Rattle.words.specs.Word.{word}
 use Rattle.format.specs.declared.values.Goal.{Goal}
 use Rattle.format.specs.Limits.{mostRules, mostUses}
-use Rattle.format.specs.Results.{Result}
 use Rattle.format.specs.Goals.{goalsAt}
 use Rattle.tables.specs.Tables.{Table}
 use Rattle.index.specs.Keys.{isKey}
@@ -22,37 +20,43 @@ use Rattle.files.specs.Derivations.{Entry}
 use Rattle.files.proofs.EntryBytes.{entries-end}
 use Rattle.hitac.specs.FlatWalk.{flatWalk}
 use Rattle.derivation.specs.declared.pending.Pending.{Pending}
-use Rattle.derivation.specs.Layout.{indexPlace}
-use Rattle.derivation.specs.Pending.{pendingIn, Passes, RuleInside}
-use Rattle.derivation.specs.Walks.{firstEntry, EntryInside, carriedGoal, carriesFirst, Given, Ready}
-use Rattle.derivation.proofs.RuleLaws.{indexed-still, Descends, at-first, none-at-all, AtNode, node-few, node-inside, rule-here, rule-inside, rule-found, none-found, goes-down, higher}
-use Rattle.derivation.proofs.WalkLaws.{some-pending, Keeps, keeps-first, keeps-passed, keeps-pushed, Reached, reached-first, here-inside, lists-few, at-end, entry-inside, not-first, goes-open, no-rule, room-for, goes-use}
+use Rattle.derivation.specs.Layout.{indexPlace, nodesPlace}
+use Rattle.derivation.specs.Pending.{firstEntry, pendingIn, carriesFirst, Passes, Takes, RuleInside}
+use Rattle.derivation.specs.Walks.{EntryInside, carriedGoal, Given, Ready}
+use Rattle.derivation.proofs.RuleLaws.{indexed-still, Descends, at-first, none-headed, AtNode, node-few, node-inside, rule-here, rule-inside, rule-found, none-found, goes-down, higher}
+use Rattle.derivation.proofs.WalkLaws.{other-told, left-told, Keeps, keeps-first, keeps-passed, keeps-pushed, Reached, reached-first, here-inside, lists-few, at-end, entry-inside, not-first, goes-open, no-rule, room-for, goes-use}
 use Rattle.derivation.proofs.walk.walk.Statement.{statement}
 use Rattle.derivation.proofs.walk.walk.Tie as tie
 
 abbrev Inv-loop : tie.InvT-loop
-Inv-loop table rules flat roots work entries at pending node₀ rest₀ node rest = Descends table work (word flat (at + 3)) (word flat (at + 5)) rest node
+Inv-loop table rules flat roots work at pending digits head node₀ rest₀ node rest = Descends table work (word flat (at + 3)) (word flat (at + 5)) rest node
 
 abbrev μ-loop : tie.MeasureT-loop
-μ-loop table rules flat roots work entries at pending node₀ rest₀ node rest = mostRules - node
+μ-loop table rules flat roots work at pending digits head node₀ rest₀ node rest = mostRules - node
 
 abbrev Inv-walk : tie.InvT-walk
-Inv-walk table rules flat roots work₀ entries at₀ pending₀ work at pending =
-    Keeps table flat (firstEntry roots) work₀ work pending
-    × ((T : Table) (es : List Entry) → Given table rules flat roots T es → Reached T flat (flatWalk T (firstEntry roots) (goalsAt flat 3 roots) es) at (pending .lists) (pendingIn table flat (firstEntry roots) work pending))
+Inv-walk table rules flat roots work₀ at₀ pending₀ work at pending =
+    Keeps table flat roots work₀ work pending
+    × ((T : Table) (es : List Entry) → Given table rules flat roots T es → Reached T flat (flatWalk T (firstEntry roots) (goalsAt flat 3 roots) es) at (pending .lists) (pendingIn table flat roots work pending))
 
 abbrev μ-walk : tie.MeasureT-walk
-μ-walk table rules flat roots work₀ entries at₀ pending₀ work at pending = length flat - at
+μ-walk table rules flat roots work₀ at₀ pending₀ work at pending = length flat - at
 
--- the places that the answers go back to: the call, the head of the walk's loop, an entry there that carries the first pending goal, the same with that goal taken off, a node on the way to its rule, the rule at that node
+-- the places that the answers go back to: the call, the head of the walk's loop, an entry there, what `take` made of its goal, an entry whose goal is not the first pending one, one whose goal was taken, a node on the way to the rule of a use, the rule at that node, and whether it is the one
 abbrev Begun : Type 0
 Begun = tie.Start Inv-loop μ-loop Inv-walk μ-walk
 
 abbrev Head : Type 0
 Head = tie.At-walk Inv-loop μ-loop Inv-walk μ-walk
 
-abbrev Carried : Type 0
-Carried = tie.Else2 Inv-loop μ-loop Inv-walk μ-walk
+abbrev Here : Type 0
+Here = tie.Else1 Inv-loop μ-loop Inv-walk μ-walk
+
+abbrev Tried : Type 0
+Tried = tie.After-take Inv-loop μ-loop Inv-walk μ-walk
+
+abbrev Refused : Type 0
+Refused = tie.After-enum-told Inv-loop μ-loop Inv-walk μ-walk
 
 abbrev Passed : Type 0
 Passed = tie.After-shared-slice-known3 Inv-loop μ-loop Inv-walk μ-walk
@@ -62,6 +66,12 @@ Node = tie.At-loop Inv-loop μ-loop Inv-walk μ-walk
 
 abbrev Compared : Type 0
 Compared = tie.After-is-rule-of Inv-loop μ-loop Inv-walk μ-walk
+
+abbrev Hit : Type 0
+Hit = tie.Then4 Inv-loop μ-loop Inv-walk μ-walk
+
+abbrev Missed : Type 0
+Missed = tie.Else4 Inv-loop μ-loop Inv-walk μ-walk
 
 module _ (w : Head) where
   abbrev table : List ℕ
@@ -86,13 +96,10 @@ module _ (w : Head) where
   at = w .walk .at
 
   abbrev pending : List Goal
-  pending = pendingIn table flat (firstEntry roots) (w .walk .work) (w .walk .pending)
-
-  abbrev whole : Table → List Entry → Result (List Goal)
-  whole T es = flatWalk T (firstEntry roots) (goalsAt flat 3 roots) es
+  pending = pendingIn table flat roots (w .walk .work) (w .walk .pending)
 
   abbrev Holds : Table → List Entry → Type 0
-  Holds T es = Reached T flat (whole T es) at (w .walk .pending .lists) pending
+  Holds T es = Reached T flat (flatWalk T (firstEntry roots) (goalsAt flat 3 roots) es) at (w .walk .pending .lists) pending
 
   abbrev reached : Holds (pre .the-table) (pre .the-entries)
   reached = w .walk .inv .1 (pre .the-table) (pre .the-entries) (pre .given)
@@ -100,111 +107,121 @@ module _ (w : Head) where
   within : at ≤ length flat
   within = here-inside _ _ _ _ _ _ reached
 
-abbrev head : Carried → Head
-head c = c .before .before .before .before
+-- an entry
+module _ (c : Here) where
+  abbrev head : Head
+  head = c .before
 
--- an entry that carries the first pending goal
-module _ (c : Carried) where
-  more : at (head c) < length (flat (head c))
-  more = c .before .before .before .if1 .left
+  more : at head < length (flat head)
+  more = c .if1 .left
 
-  carried : carriesFirst (carriedGoal (flat (head c)) (at (head c))) (pending (head c)) ≡ true
-  carried = sym (c .before .carries-first .ensures) ∙ not-false _ (c .if2 .left)
+  inside : EntryInside (flat head) (at head)
+  inside = entry-inside _ _ _ _ _ _ (reached head) more
 
-  some-goal : 0 < head c .walk .pending .lists + head c .walk .pending .roots
-  some-goal = some-pending _ _ _ _ _ _ carried
-
-  inside : EntryInside (flat (head c)) (at (head c))
-  inside = entry-inside _ _ _ _ _ _ (reached (head c)) more
-
--- that goal was taken off
-module _ (c : Passed) where
-  abbrev entry : Carried
-  entry = c .before .before .before .before .before
+module _ (c : Tried) where
+  abbrev entry : Here
+  entry = c .before .before .before
 
   abbrev space : List ℕ
-  space = c .before .before .before .pass .last .0
+  space = c .take .last .1 .1 .1 .0
+
+  takes : Takes (table (head entry)) (flat (head entry)) (roots (head entry)) (head entry .walk .work) space (head entry .walk .pending) (carriedGoal (flat (head entry)) (at (head entry))) (c .take .result)
+  takes = subst (λ (γ : Goal). Takes (table (head entry)) (flat (head entry)) (roots (head entry)) (head entry .walk .work) space (head entry .walk .pending) γ (c .take .result)) (c .before .before .carried-goal .ensures) (c .take .ensures)
+
+-- the entry carries the first pending goal, which was taken off
+module _ (c : Passed) where
+  abbrev tried : Tried
+  tried = c .before .before .before .before .before .before
+
+  abbrev first : Here
+  first = entry tried
+
+  abbrev start : Head
+  start = head first
 
   abbrev left : Pending
-  left = c .before .before .before .pass .result
+  left = c .before .before .others .given .0 .0
 
-  abbrev others : List Goal
-  others = pendingIn (table (head entry)) (flat (head entry)) (firstEntry (roots (head entry))) space left
+  told : (carriesFirst (carriedGoal (flat start) (at start)) (pending start) ≡ true) × Passes (table start) (flat start) (roots start) (start .walk .work) (space tried) (start .walk .pending) left
+  told = left-told _ _ _ _ _ _ _ _ (takes tried) _ (c .before .before .others .given .1)
 
-  passes : Passes (table (head entry)) (flat (head entry)) (firstEntry (roots (head entry))) (head entry .walk .work) space (head entry .walk .pending) left
-  passes = c .before .before .before .pass .ensures _ _ _ (head entry .walk .inv .0 .pends)
+  keeps : Keeps (table start) (flat start) (roots start) (begun start) (space tried) left
+  keeps = keeps-passed _ _ _ _ _ _ _ _ (start .walk .inv .0) (tried .take .kept .1 .1 .1 .0) (lists-few _ _ _ _ _ _ (reached start)) (told .1)
 
-  keeps : Keeps (table (head entry)) (flat (head entry)) (firstEntry (roots (head entry))) (begun (head entry)) space left
-  keeps = keeps-passed _ _ _ _ _ _ _ _ (head entry .walk .inv .0) (c .before .before .before .pass .kept .0) (lists-few _ _ _ _ _ _ (reached (head entry))) passes
-
-  indexed : RulesIndexed (table (head entry)) (rulesEnd (head entry)) space indexPlace
-  indexed = indexed-still _ _ _ _ (keeps .size) (keeps .kept) (pre (head entry) .indexed)
+  indexed : RulesIndexed (table start) (rulesEnd start) (space tried) indexPlace
+  indexed = indexed-still _ _ _ _ (keeps .size) (keeps .kept) (pre start .indexed)
 
 -- the roots lie within the flat file
 roots-inside : (i : Begun) → firstEntry (i .args .roots) ≤ length (now (i .args .flat))
 roots-inside i = omega (arith, entries-end _ _ _ _ (i .pre .given .entries-stand))
 
-mul-entries : tie.Need-mul-entries Inv-loop μ-loop Inv-walk μ-walk
-mul-entries c = omega (arith, roots-inside (c .before .before .before), c .before .before .before .good)
-
-add-entries : tie.Need-add-entries Inv-loop μ-loop Inv-walk μ-walk
-add-entries c = omega (arith, roots-inside (c .before .before .before), c .before .before .before .good)
-
-walk-holds : tie.Need-walk-holds Inv-loop μ-loop Inv-walk μ-walk
-walk-holds c =
-    let i = c .before .before .before in (
-      keeps-first _ _ _ _ _ (omega arith) (roots-inside i) (i .pre .room),
-      λ T es g. reached-first _ _ _ _ _ T es g,
-    )
-
-carries-first-requires : tie.Need-carries-first-requires Inv-loop μ-loop Inv-walk μ-walk
-carries-first-requires c κs =
-    let w = c .before .before in
-    (entry-inside _ _ _ _ _ _ (reached w) (c .before .if1 .left), w .walk .inv .0 .pends)
-
-pass-requires : tie.Need-pass-requires Inv-loop μ-loop Inv-walk μ-walk
-pass-requires c κs = let e = c .before in ((table (head e), flat (head e), firstEntry (roots (head e)), head e .walk .inv .0 .pends), some-goal e)
-
-shared-slice-read-if3 : tie.Need-shared-slice-read-if3 Inv-loop μ-loop Inv-walk μ-walk
-shared-slice-read-if3 c = more (entry c)
+mul-at : tie.Need-mul-at Inv-loop μ-loop Inv-walk μ-walk
+mul-at c = omega (arith, roots-inside (c .before .before .before), c .before .before .before .good)
 
 add-at : tie.Need-add-at Inv-loop μ-loop Inv-walk μ-walk
-add-at c = let e = entry (c .before) in omega (arith, inside e, c .before .before .before .before .before .before .before .before .before .before .before .before .before .before .good)
+add-at c = omega (arith, roots-inside (c .before .before .before), c .before .before .before .good)
+
+walk-holds : tie.Need-walk-holds Inv-loop μ-loop Inv-walk μ-walk
+walk-holds c = let i = c .before .before .before in (keeps-first _ _ _ _ (roots-inside i) (i .pre .room), λ T es g. reached-first _ _ _ _ _ T es g)
+
+carried-goal-requires : tie.Need-carried-goal-requires Inv-loop μ-loop Inv-walk μ-walk
+carried-goal-requires c κs = inside c
+
+take-requires : tie.Need-take-requires Inv-loop μ-loop Inv-walk μ-walk
+take-requires c κs = let w = c .before .before .before in (w .walk .inv .0 .pends, pre w .short)
+
+enum-known-others : tie.Need-enum-known-others Inv-loop μ-loop Inv-walk μ-walk
+enum-known-others c = search needs
+
+enum-told : tie.Need-enum-told Inv-loop μ-loop Inv-walk μ-walk
+enum-told c = search needs
+
+shared-slice-read-if2 : tie.Need-shared-slice-read-if2 Inv-loop μ-loop Inv-walk μ-walk
+shared-slice-read-if2 c = more (first c)
+
+add-at-2 : tie.Need-add-at-2 Inv-loop μ-loop Inv-walk μ-walk
+add-at-2 c = omega (arith, inside (first (c .before)), c .before .before .before .before .before .before .before .before .before .before .before .before .before .before .before .good)
 
 walk-less : tie.Need-walk-less Inv-loop μ-loop Inv-walk μ-walk
-walk-less c = let e = entry (c .before) in omega (arith, more e)
+walk-less c = omega (arith, more (first (c .before)))
 
 walk-again : tie.Need-walk-again Inv-loop μ-loop Inv-walk μ-walk
 walk-again c =
     let p = c .before in
-    let e = entry p in
-    (keeps p, λ T es g. goes-open _ _ _ _ _ _ (head e .walk .inv .1 T es g) (more e) (carried e) (c .if3 .taken) _ _ (passes p .few) (passes p .others))
+    let t = told p in
+    (keeps p, λ T es g. goes-open _ _ _ _ _ _ (start p .walk .inv .1 T es g) (more (first p)) (t .0) (c .if2 .taken) _ _ (t .1 .few) (t .1 .others))
 
 digits-at-requires : tie.Need-digits-at-requires Inv-loop μ-loop Inv-walk μ-walk
-digits-at-requires c κs = inside (entry (c .before .before)) .some-use (c .before .if3 .left)
+digits-at-requires c κs = inside (first (c .before)) .some-use (c .if2 .left)
+
+head-of-requires : tie.Need-head-of-requires Inv-loop μ-loop Inv-walk μ-walk
+head-of-requires c κs = omega (arith, indexed (c .before .before .before) .2 .1 .sound .room)
+
+sub-node : tie.Need-sub-node Inv-loop μ-loop Inv-walk μ-walk
+sub-node c = search needs
 
 loop-holds : tie.Need-loop-holds Inv-loop μ-loop Inv-walk μ-walk
-loop-holds c = at-first _ _ _ _ _ (c .digits-at .ensures)
+loop-holds c = at-first _ _ _ _ _ _ (c .before .before .before .digits-at .ensures) (c .before .head-of .ensures) (c .if3 .left)
 
 -- a node on the way down to the rule of the use
 module _ (c : Node) where
   abbrev the-use : Passed
-  the-use = c .before .before .before .before
+  the-use = c .before .before .before .before .before .before
 
-  abbrev start : Head
-  start = head (entry the-use)
+  abbrev begin : Head
+  begin = start the-use
 
   abbrev name : ℕ
-  name = word (flat start) (at start + 3)
+  name = word (flat begin) (at begin + 3)
 
   abbrev on : ℕ
-  on = word (flat start) (at start + 5)
+  on = word (flat begin) (at begin + 5)
 
-  is-use : getD (flat start) (at start) 0 ≡ 32
-  is-use = c .before .before .before .if3 .left
+  is-use : getD (flat begin) (at begin) 0 ≡ 32
+  is-use = c .before .before .before .before .before .if2 .left
 
-  at-node : AtNode (table start) (rulesEnd start) (space the-use) name on (c .loop .rest) (c .loop .node)
-  at-node = record { indexed = indexed the-use; the-table = pre start .the-table; stands = pre start .given .rules-stand; some-rule = c .before .before .if4 .left; way = c .loop .inv }
+  at-node : AtNode (table begin) (rulesEnd begin) (space (tried the-use)) name on (c .loop .rest) (c .loop .node)
+  at-node = record { indexed = indexed the-use; the-table = pre begin .the-table; stands = pre begin .given .rules-stand; way = c .loop .inv }
 
 mul-load16 : tie.Need-mul-load16 Inv-loop μ-loop Inv-walk μ-walk
 mul-load16 c = omega (arith, node-few (at-node (c .before)))
@@ -221,7 +238,7 @@ cast-place c = search needs
 is-rule-of-requires : tie.Need-is-rule-of-requires Inv-loop μ-loop Inv-walk μ-walk
 is-rule-of-requires c κs =
     let n = c .before .before in
-    (rule-here (at-node n) _ (c .load16 .ensures), inside (entry (the-use n)) .some-use (is-use n))
+    (rule-here (at-node n) _ (c .load16 .ensures), inside (first (the-use n)) .some-use (is-use n))
 
 mul-link : tie.Need-mul-link Inv-loop μ-loop Inv-walk μ-walk
 mul-link c = omega (arith, node-few (at-node (c .before .before .before .before .before)))
@@ -240,76 +257,71 @@ module _ (c : Compared) where
   abbrev place : ℕ
   place = c .before .load16 .result
 
-  told : place ≡ word (space (the-use node)) (indexPlace + node .loop .node * 5)
-  told = c .before .load16 .ensures
+  read : place ≡ word (space (tried (the-use node))) (nodesPlace + node .loop .node * 5)
+  read = c .before .load16 .ensures
 
--- it is that of another use
-abbrev Missed : Type 0
-Missed = tie.Else5 Inv-loop μ-loop Inv-walk μ-walk
+-- it has another name or goal
+module _ (c : Missed) where
+  abbrev missed : Compared
+  missed = c .before
 
-abbrev missed : Missed → Compared
-missed c = c .before
-
-other-key : (c : Missed) → isKey 6 (table (start (node (missed c)))) (name (node (missed c))) (on (node (missed c))) (place (missed c)) ≡ false
-other-key c = sym (c .before .is-rule-of .ensures) ∙ c .if5 .left
+  other-key : isKey 6 (table (begin (node missed))) (name (node missed)) (on (node missed)) (place missed) ≡ false
+  other-key = sym (missed .is-rule-of .ensures) ∙ c .if4 .left
 
 loop-less : tie.Need-loop-less Inv-loop μ-loop Inv-walk μ-walk
 loop-less c =
-    let m = c .before .before .before .before in
-    omega (arith, higher (at-node (node m)) (place m) (told m) (other-key (c .before .before .before)) _ (c .before .link .ensures) (c .if6 .left))
+    let m = c .before .before .before in
+    omega (arith, higher (at-node (node (missed m))) (place (missed m)) (read (missed m)) (other-key m) _ (c .before .link .ensures) (c .if5 .left))
 
 loop-again : tie.Need-loop-again Inv-loop μ-loop Inv-walk μ-walk
 loop-again c =
-    let m = c .before .before .before .before in
-    goes-down (at-node (node m)) (place m) (told m) (other-key (c .before .before .before)) _ (c .before .link .ensures) (c .if6 .left)
+    let m = c .before .before .before in
+    goes-down (at-node (node (missed m))) (place (missed m)) (read (missed m)) (other-key m) _ (c .before .link .ensures) (c .if5 .left)
 
 -- it is the rule of the use
-abbrev Hit : Type 0
-Hit = tie.Then5 Inv-loop μ-loop Inv-walk μ-walk
-
 module _ (c : Hit) where
   abbrev hit : Compared
   hit = c .before
 
-  abbrev its-use : Passed
-  its-use = the-use (node hit)
+  abbrev applied : Passed
+  applied = the-use (node hit)
 
-  abbrev its-head : Head
-  its-head = head (entry its-use)
+  abbrev origin : Head
+  origin = start applied
 
-  is-key : isKey 6 (table its-head) (name (node hit)) (on (node hit)) (place hit) ≡ true
-  is-key = sym (hit .is-rule-of .ensures) ∙ c .if5 .taken
+  is-key : isKey 6 (table origin) (name (node hit)) (on (node hit)) (place hit) ≡ true
+  is-key = sym (hit .is-rule-of .ensures) ∙ c .if4 .taken
 
-  rule-fits : RuleInside (table its-head) (place hit)
-  rule-fits = rule-inside (at-node (node hit)) (place hit) (told hit) is-key
+  rule-fits : RuleInside (table origin) (place hit)
+  rule-fits = rule-inside (at-node (node hit)) (place hit) (read hit) is-key
 
-  one-more : left its-use .lists < mostUses
-  one-more = omega (arith, passes its-use .few, room-for _ _ _ _ _ _ (reached its-head) (more (entry its-use)) (carried (entry its-use)) (is-use (node hit)))
+  one-more : left applied .lists < mostUses
+  one-more = omega (arith, told applied .1 .few, room-for _ _ _ _ _ _ (reached origin) (more (first applied)) (told applied .0) (is-use (node hit)))
 
 push-requires : tie.Need-push-requires Inv-loop μ-loop Inv-walk μ-walk
 push-requires c κs =
     let h = c .before in
-    let s = its-head h in
-    (rule-fits h, pre s .short, omega (arith, one-more h, pre s .room, keeps (its-use h) .size))
+    let s = origin h in
+    (rule-fits h, pre s .short, omega (arith, one-more h, pre s .room, keeps (applied h) .size))
 
-add-at-2 : tie.Need-add-at-2 Inv-loop μ-loop Inv-walk μ-walk
-add-at-2 c =
+add-at-3 : tie.Need-add-at-3 Inv-loop μ-loop Inv-walk μ-walk
+add-at-3 c =
     let h = c .before .before .before .before in
-    omega (arith, inside (entry (its-use h)) .some-use (is-use (node (hit h))), c .before .before .before .before .before .before .before .before .before .before .before .before .before .before .before .before .before .before .before .before .before .before .before .before .before .good)
+    omega (arith, inside (first (applied h)) .some-use (is-use (node (hit h))), c .before .before .before .before .before .before .before .before .before .before .before .before .before .before .before .before .before .before .before .before .before .before .before .before .before .before .before .before .good)
 
 walk-less-2 : tie.Need-walk-less-2 Inv-loop μ-loop Inv-walk μ-walk
-walk-less-2 c = let h = c .before .before .before .before in omega (arith, more (entry (its-use h)))
+walk-less-2 c = omega (arith, more (first (applied (c .before .before .before .before))))
 
 walk-again-2 : tie.Need-walk-again-2 Inv-loop μ-loop Inv-walk μ-walk
 walk-again-2 c =
     let h = c .before .before .before .before in
-    let p = its-use h in
-    let e = entry p in
+    let p = applied h in
+    let t = told p in
     let push = c .before .before .push in
     let pushes = push .ensures _ _ (keeps p .pends) in (
       keeps-pushed _ _ _ _ _ _ _ _ (keeps p) (push .kept .1 .1 .0) _ (one-more h) pushes,
-      λ T es g. goes-use _ _ _ _ _ _ (head e .walk .inv .1 T es g) (more e) (carried e) (is-use (node (hit h))) _ _ _ _
-          (rule-found (at-node (node (hit h))) (place (hit h)) (told (hit h)) (is-key h) T (g .rules-stand)) (passes p .others) (pushes .in-front) (omega (arith, pushes .few, passes p .few)),
+      λ T es g. goes-use _ _ _ _ _ _ (origin h .walk .inv .1 T es g) (more (first p)) (t .0) (is-use (node (hit h))) _ _ _ _
+          (rule-found (at-node (node (hit h))) (place (hit h)) (read (hit h)) (is-key h) T (g .rules-stand)) (t .1 .others) (pushes .in-front) (omega (arith, pushes .few, t .1 .few)),
     )
 
 same-length : tie.Need-same-length Inv-loop μ-loop Inv-walk μ-walk
@@ -320,46 +332,55 @@ returns c =
     let w = c .before in
     record { result = λ T es g. at-end _ _ _ _ _ _ (w .walk .inv .1 T es g) (c .if1 .taken); inside = within w; pends = w .walk .inv .0 .pends; kept = w .walk .inv .0 .kept }
 
+-- another goal is the first, or none is pending: the work space is as it was
+module _ (c : Refused) where
+  abbrev refused : Tried
+  refused = c .before .before .before .before
+
+  abbrev stopped : Head
+  stopped = head (entry refused)
+
+  other : (carriesFirst (carriedGoal (flat stopped) (at stopped)) (pending stopped) ≡ false) × (space refused ≡ stopped .walk .work)
+  other = other-told _ _ _ _ _ _ _ _ (takes refused) (c .enum-told .given .1)
+
+  kept-all : Keeps (table stopped) (flat stopped) (roots stopped) (begun stopped) (space refused) (stopped .walk .pending)
+  kept-all = subst (λ (v : List ℕ). Keeps (table stopped) (flat stopped) (roots stopped) (begun stopped) v (stopped .walk .pending)) (sym (other .1)) (stopped .walk .inv .0)
+
 same-length-2 : tie.Need-same-length-2 Inv-loop μ-loop Inv-walk μ-walk
-same-length-2 c = c .before .before .before .before .walk .inv .0 .size
+same-length-2 c = kept-all c .size
 
 returns-2 : tie.Need-returns-2 Inv-loop μ-loop Inv-walk μ-walk
 returns-2 c =
-    let w = c .before .before .before .before in
-    record {
-      result = λ T es g. not-first _ _ _ _ _ _ (w .walk .inv .1 T es g) (c .before .before .before .if1 .left) (sym (c .before .carries-first .ensures) ∙ not-true _ (c .if2 .taken));
-      inside = within w;
-      pends = w .walk .inv .0 .pends;
-      kept = w .walk .inv .0 .kept;
-    }
+    let w = stopped c in
+    record { result = λ T es g. not-first _ _ _ _ _ _ (w .walk .inv .1 T es g) (more (entry (refused c))) (other c .0) _; inside = within w; pends = kept-all c .pends; kept = kept-all c .kept }
 
 same-length-3 : tie.Need-same-length-3 Inv-loop μ-loop Inv-walk μ-walk
-same-length-3 c = keeps (c .before .before) .size
+same-length-3 c = keeps (c .before .before .before .before .before) .size
 
 returns-3 : tie.Need-returns-3 Inv-loop μ-loop Inv-walk μ-walk
 returns-3 c =
-    let p = c .before .before in
-    let e = entry p in
-    let w = head e in
+    let p = c .before .before .before .before .before in
+    let w = start p in
     record {
-      result = λ T es g. no-rule _ _ _ _ _ _ (w .walk .inv .1 T es g) (more e) (carried e) (c .before .if3 .left) (none-at-all _ _ _ (indexed p) (c .if4 .taken) _ _ T (g .rules-stand)) _;
+      result = λ T es g. no-rule _ _ _ _ _ _ (w .walk .inv .1 T es g) (more (first p)) (told p .0) (c .before .before .before .before .if2 .left)
+          (none-headed _ _ _ _ _ _ (c .before .before .before .digits-at .ensures) (c .before .head-of .ensures) _ (indexed p) (c .if3 .taken) T (g .rules-stand)) _;
       inside = within w;
       pends = keeps p .pends;
       kept = keeps p .kept;
     }
 
 same-length-4 : tie.Need-same-length-4 Inv-loop μ-loop Inv-walk μ-walk
-same-length-4 c = keeps (c .before .before .before .before .before .before .before .before .before .before .before) .size
+same-length-4 c = keeps (c .before .before .before .before .before .before .before .before .before .before .before .before .before) .size
 
 returns-4 : tie.Need-returns-4 Inv-loop μ-loop Inv-walk μ-walk
 returns-4 c =
-    let m = c .before .before .before .before in
-    let p = the-use (node m) in
-    let e = entry p in
-    let w = head e in
+    let m = c .before .before .before in
+    let n = node (missed m) in
+    let p = the-use n in
+    let w = start p in
     record {
-      result = λ T es g. no-rule _ _ _ _ _ _ (w .walk .inv .1 T es g) (more e) (carried e) (is-use (node m))
-          (none-found (at-node (node m)) (place m) (told m) (other-key (c .before .before .before)) _ (c .before .link .ensures) (c .if6 .taken) T (g .rules-stand)) _;
+      result = λ T es g. no-rule _ _ _ _ _ _ (w .walk .inv .1 T es g) (more (first p)) (told p .0) (is-use n)
+          (none-found (at-node n) (place (missed m)) (read (missed m)) (other-key m) _ (c .before .link .ensures) (c .if5 .taken) T (g .rules-stand)) _;
       inside = within w;
       pends = keeps p .pends;
       kept = keeps p .kept;
@@ -373,16 +394,20 @@ walk-spec =
     μ-loop
     Inv-walk
     μ-walk
-    mul-entries
-    add-entries
-    walk-holds
-    carries-first-requires
-    pass-requires
-    shared-slice-read-if3
+    mul-at
     add-at
+    walk-holds
+    carried-goal-requires
+    take-requires
+    enum-known-others
+    enum-told
+    shared-slice-read-if2
+    add-at-2
     walk-less
     walk-again
     digits-at-requires
+    head-of-requires
+    sub-node
     loop-holds
     mul-load16
     add-load16
@@ -395,7 +420,7 @@ walk-spec =
     loop-less
     loop-again
     push-requires
-    add-at-2
+    add-at-3
     walk-less-2
     walk-again-2
     same-length

@@ -78,7 +78,7 @@ unfolding readField
 returns-2 c =
     let r = c .before .before .before .before .before .before in
     let k = r .before .before .before in
-    (sym (body-read _ _ _ _ _ _ (header-is k) _ (field k .1) (r .before .before .if1 .left) _ _ true (eq-eqb _ _ (c .if2 .taken)) (sym (r .read-term .ensures .0 (lenOf k + 1) (omega (arith, field k))) ∙ c .before .before .body2 .given .1)), r .read-term .ensures .1 .1)
+    (sym (body-read _ _ _ _ _ _ (header-is k) _ (field k .1) (r .before .before .if1 .left) _ _ true (eq-eqb (c .before .before .body2 .given .0 .0) (k .before .before .before .next-field .result .next) (omega (arith, c .if2 .taken))) (sym (r .read-term .ensures .0 (lenOf k + 1) (omega (arith, field k))) ∙ c .before .before .body2 .given .1)), r .read-term .ensures .1 .1)
 
 returns-3 : tie.Need-returns-3
 unfolding readField

@@ -1,25 +1,18 @@
 -- `arity::link` meets its contract: the links up to a place, and the next place.
 -- Assumes nothing.
-use mathlib.Core.Path.{_≡_, refl, sym, subst, ap, _∙_}
-use mathlib.Core.List.{List}
-use Prim.Native.Nat.{ℕ, _+_, _-_, _≤_, _<_}
+use mathlib.Core.Path.{_≡_, refl, _∙_}
+use Prim.Native.Nat.{_+_, _-_, _≤_}
 use native.Mathlib.Omega.{arith}
 use lib.ListN.{length}
 use denote.Ref.{now}
-use borrow.Author.Needs.{needs}
 use Rattle.format.specs.Terms.{Term, size}
 use Rattle.format.specs.Standing.{Stands}
 use Rattle.format.proofs.StandsLaws.{known}
-use Rattle.walks.proofs.ThreadLaws.{Linking, Settling, arity-le, slot-rises, slot-apart}
-use Rattle.words.proofs.KeptLaws.{kept-both}
-use Rattle.walks.specs.Threads.{slot, width, after, Own, Owns, Room, Threads}
+use Rattle.walks.proofs.ThreadLaws.{Linking}
+use Rattle.walks.specs.Threads.{slot, Room}
 use Rattle.walks.proofs.ThreadLaws as law
 use Rattle.walks.proofs.arity.link.Statement.{statement}
 use Rattle.walks.proofs.arity.link.Tie as tie
-use Rattle.walks.proofs.arity.link.Reads as reads
-use Rattle.walks.proofs.arity.link.Lts as lts
-use Rattle.walks.proofs.arity.next_at.Reads as next-at-reads
-use Rattle.walks.proofs.arity.note.Reads as note-reads
 
 abbrev Inv-loop : tie.InvT-loop
 Inv-loop s at end work₀ place₀ next₀ work place next = (length work ≡ length work₀) × ((t : Term) → Room s at end work₀ t → Linking at t work₀ work place next)

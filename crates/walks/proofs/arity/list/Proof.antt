@@ -1,7 +1,7 @@
 -- `arity::list` meets its contract: once the arities of the fields from a place on are listed, so are all.
 -- Assumes nothing.
 use mathlib.Core.Path.{_≡_, refl, _∙_}
-use Prim.Native.Nat.{ℕ, _-_, _<_}
+use Prim.Native.Nat.{_-_, _<_}
 use native.Mathlib.Omega.{arith}
 use lib.ListN.{length}
 use denote.Ref.{now}
@@ -11,10 +11,6 @@ use Rattle.walks.proofs.ThreadLaws.{width-three}
 use Rattle.walks.proofs.ListLaws.{Listing, There, there, listing-start, listing-next, listing-end}
 use Rattle.walks.proofs.arity.list.Statement.{statement}
 use Rattle.walks.proofs.arity.list.Tie as tie
-use Rattle.walks.proofs.arity.list.Reads as reads
-use Rattle.walks.proofs.arity.list.Lts as lts
-use Rattle.walks.proofs.arity.list_one.Reads as list-one-reads
-use Rattle.walks.proofs.arity.next_at.Reads as next-at-reads
 
 abbrev Inv-loop : tie.InvT-loop
 Inv-loop s at end work₀ place₀ next₀ work place next = (length work ≡ length work₀) × ((t : Term) → Room s at end work₀ t → Own work₀ at t → Listing s at end t work₀ work place next)

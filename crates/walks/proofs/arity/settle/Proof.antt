@@ -1,26 +1,19 @@
 -- `arity::settle` meets its contract: the fields behind a place have their own arities, the others their links.
 -- Assumes nothing.
-use mathlib.Core.Path.{_≡_, refl, sym, subst, ap, _∙_}
+use mathlib.Core.Path.{_≡_, refl, sym, subst, _∙_}
 use mathlib.Core.List.{List}
-use Prim.Native.Nat.{ℕ, _+_, _-_, _≤_, _<_}
+use Prim.Native.Nat.{ℕ, _+_, _-_, _≤_}
 use native.Mathlib.Omega.{arith}
 use lib.ListN.{length}
 use denote.Ref.{now}
-use borrow.Author.Needs.{needs}
 use Rattle.format.specs.Terms.{Term, size}
 use Rattle.format.specs.Standing.{Stands}
-use Rattle.format.proofs.StandsLaws.{known}
-use Rattle.walks.proofs.ThreadLaws.{Linking, Settling, arity-le, slot-rises, slot-apart}
-use Rattle.words.proofs.KeptLaws.{kept-both}
-use Rattle.walks.specs.Threads.{slot, width, after, Own, Owns, Room, Threads}
+use Rattle.walks.proofs.ThreadLaws.{Settling, arity-le, slot-rises}
+use Rattle.walks.specs.Threads.{slot, Room, Threads}
 use Rattle.walks.proofs.ThreadLaws as law
 use Rattle.walks.proofs.arity.settle.Statement.{statement}
 use Rattle.walks.proofs.arity.settle.Tie as tie
 use Rattle.walks.proofs.arity.settle.Reads as reads
-use Rattle.walks.proofs.arity.settle.Lts as lts
-use Rattle.walks.proofs.arity.noted.Reads as noted-reads
-use Rattle.walks.proofs.arity.arity_of.Reads as arity-of-reads
-use Rattle.walks.proofs.arity.note.Reads as note-reads
 
 abbrev Inv-loop : tie.InvT-loop
 Inv-loop s at end last work₀ place₀ work place = (length work ≡ length work₀) × ((t : Term) (w : List ℕ) → Room s at end work₀ t → Threads at end t w work₀ last → Settling at t work₀ work place)

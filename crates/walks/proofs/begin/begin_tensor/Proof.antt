@@ -1,7 +1,7 @@
 -- `begin::begin_tensor` meets its contract: too few values for the left term's arity; or the frame fits, and the left term is next.
 -- Assumes nothing.
 use borrow.Author.Needs.{needs}
-use Prim.Native.Nat.{ℕ, _+_, _≤_}
+use Prim.Native.Nat.{_+_, _≤_}
 use native.Mathlib.Omega.{arith}
 use denote.Ref.{now}
 use Rattle.walks.specs.Layout.{aritiesEnd}

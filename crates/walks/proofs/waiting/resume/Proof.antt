@@ -19,6 +19,7 @@ use Rattle.walks.proofs.waiting.resume.Statement.{statement}
 use Rattle.walks.proofs.waiting.resume.Tie as tie
 use Rattle.walks.proofs.waiting.resume.Reads as reads
 use Rattle.walks.proofs.waiting.resume.Lts as lts
+use Rattle.walks.proofs.waiting.next_term.Reads as next-term-reads
 use Rattle.words.proofs.load16.Reads as load16-reads
 use Rattle.words.proofs.move_up.Reads as move-up-reads
 use Rattle.words.proofs.store16.Reads as store16-reads
@@ -68,6 +69,10 @@ top c = top-of (start c .pre .0 .0) (start c .pre .0 .1) (start c .pre .0 .2) _ 
 -- a step from the work space of the loop is one from that of the start
 from-start : (c : In) (act : Act) (x : Aim) (A : List Cell) (w′ : List ℕ) (r : Turn) → Steps act x A (file c) (space c) w′ (start c .args .at) r → Steps act x A (file c) (now (start c .args .work)) w′ (start c .args .at) r
 from-start c act x A w′ r z = subst (λ (v : List ℕ). Steps act x A (file c) v w′ (start c .args .at) r) (c .before .loop .inv .0) z
+
+-- the same of a next term, as it was told
+told-next : (c : In) (act : Act) (x : Aim) (A : List Cell) (w′ : List ℕ) (r q : Turn) → r ≡ q → Steps act x A (file c) (space c) w′ (start c .args .at) q → Steps act x A (file c) (now (start c .args .work)) w′ (start c .args .at) r
+told-next c act x A w′ r q e z = from-start c act x A w′ r (subst (Steps act x A (file c) (space c) w′ (start c .args .at)) (sym e) z)
 
 -- its place is read
 abbrev Read : Type 0
@@ -125,17 +130,20 @@ mul-move-up c = let i = c .before .before .before .before .before in omega (arit
 move-up-requires : tie.Need-move-up-requires Inv-loop μ-loop
 move-up-requires c κs = let i = c .before .before .before .before .before in (omega (arith, gave i .1 .room), omega (arith, gave i .1 .room, gave i .1 .below, roomy i .space))
 
+next-term-requires : tie.Need-next-term-requires Inv-loop μ-loop
+next-term-requires c κs = search needs
+
 same-length : tie.Need-same-length Inv-loop μ-loop
-same-length c = c .before .before .move-up .kept .0 ∙ ap length (c .before .before .before .before .before .before .before .before .before .loop .inv .0)
+same-length c = c .before .before .before .move-up .kept .0 ∙ ap length (c .before .before .before .before .before .before .before .before .before .before .loop .inv .0)
 
 returns : tie.Need-returns Inv-loop μ-loop
 returns c =
-    let r = c .before .before .before .before .before .before in
-    let i = c .before .before .before .before .before .before .before .before in
+    let r = c .before .before .before .before .before .before .before in
+    let i = c .before .before .before .before .before .before .before .before .before in
     λ act x A g.
     let h = i .before .loop .inv .1 act x A g in
-    from-start i act x A _ _
-    (sequence-next act x A _ _ _ _ _ _ _ _ _ _ _ (omega (arith, h .1 .room)) (c .before .before .move-up .ensures) (omega (arith, roomy i .space)) h (left i) (frame-tag r 19 (c .before .before .before .before .if1 .taken)))
+    told-next i act x A _ _ _ (c .next-term .ensures)
+    (sequence-next act x A _ _ _ _ _ _ _ _ _ _ _ (omega (arith, h .1 .room)) (c .before .before .before .move-up .ensures) (omega (arith, roomy i .space)) h (left i) (frame-tag r 19 (c .before .before .before .before .before .if1 .taken)))
 
 add-load16 : tie.Need-add-load16 Inv-loop μ-loop
 add-load16 c = let i = c .before .before .before .before .before in omega (arith, top i .four, top i .limited)
@@ -165,26 +173,29 @@ own-bound c =
     let b = bounds (c .before) .rest (omega (arith, c .if2 .taken, e)) in
     (omega (arith, b .0, e), omega (arith, b .1, e))
 
-sub-t34 : tie.Need-sub-t34 Inv-loop μ-loop
-sub-t34 c = omega (arith, own-bound (c .before .before .before .before) .0)
+sub-rest : tie.Need-sub-rest Inv-loop μ-loop
+sub-rest c = omega (arith, own-bound (c .before .before .before .before) .0)
 
-mul-t37 : tie.Need-mul-t37 Inv-loop μ-loop
-mul-t37 c = let i = c .before .before .before .before .before .before .before .before .before .before .before in omega (arith, gave i .1 .room, gave i .1 .below)
+mul-low : tie.Need-mul-low Inv-loop μ-loop
+mul-low c = let i = c .before .before .before .before .before .before .before .before .before .before .before in omega (arith, gave i .1 .room, gave i .1 .below)
 
-add-t38 : tie.Need-add-t38 Inv-loop μ-loop
-add-t38 c = let i = c .before .before .before .before .before .before .before .before .before .before .before in omega (arith, gave i .1 .room, gave i .1 .below)
+add-low : tie.Need-add-low Inv-loop μ-loop
+add-low c = let i = c .before .before .before .before .before .before .before .before .before .before .before in omega (arith, gave i .1 .room, gave i .1 .below)
+
+next-term-requires-2 : tie.Need-next-term-requires-2 Inv-loop μ-loop
+next-term-requires-2 c κs = search needs
 
 same-length-2 : tie.Need-same-length-2 Inv-loop μ-loop
-same-length-2 c = c .before .before .store16 .kept .0 ∙ ap length (c .before .before .before .before .before .before .before .before .before .before .before .before .loop .inv .0)
+same-length-2 c = c .before .before .before .store16 .kept .0 ∙ ap length (c .before .before .before .before .before .before .before .before .before .before .before .before .before .loop .inv .0)
 
 returns-2 : tie.Need-returns-2 Inv-loop μ-loop
 returns-2 c =
-    let r = c .before .before .before .before .before .before .before .before .before in
-    let i = c .before .before .before .before .before .before .before .before .before .before .before in
+    let r = c .before .before .before .before .before .before .before .before .before .before in
+    let i = c .before .before .before .before .before .before .before .before .before .before .before .before in
     λ act x A g.
     let h = i .before .loop .inv .1 act x A g in
-    from-start i act x A _ _
-    (tensor-next act x A _ _ _ _ _ _ _ _ _ _ _ (c .before .before .before .before .before .load162 .ensures) (c .before .before .store16 .ensures) (omega (arith, roomy i .space)) h (left i) (other-tag r (c .before .before .before .before .before .before .before .if1 .left)) (omega (arith, c .before .before .before .before .if2 .taken)))
+    told-next i act x A _ _ _ (c .next-term2 .ensures)
+    (tensor-next act x A _ _ _ _ _ _ _ _ _ _ _ (c .before .before .before .before .before .before .load162 .ensures) (c .before .before .before .store16 .ensures) (omega (arith, roomy i .space)) h (left i) (other-tag r (c .before .before .before .before .before .before .before .before .if1 .left)) (omega (arith, c .before .before .before .before .before .if2 .taken)))
 
 -- a tensor whose right term ended: where it began to give
 first-bound : (c : tie.Else2 Inv-loop μ-loop) → (began ≤ c .before .load162 .result) × (c .before .load162 .result ≤ began + c .before .before .before .before .before .before .before .before .loop .start)
@@ -251,6 +262,7 @@ resume-spec =
     sub-top
     mul-move-up
     move-up-requires
+    next-term-requires
     same-length
     returns
     add-load16
@@ -260,9 +272,10 @@ resume-spec =
     add-store16-2
     cast-store16
     store16-requires
-    sub-t34
-    mul-t37
-    add-t38
+    sub-rest
+    mul-low
+    add-low
+    next-term-requires-2
     same-length-2
     returns-2
     mul-count

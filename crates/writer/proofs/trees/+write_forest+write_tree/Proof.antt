@@ -13,7 +13,7 @@ use borrow.Fn.PlainCycle.{Measures, is, falls, and}
 use Rattle.words.specs.Word.{word}
 use Rattle.format.specs.Terms.{Term, size}
 use Rattle.writer.specs.Plan.{planSize}
-use Rattle.writer.specs.Trees.{Trees, Ready, Done, termOf, endOf, lead}
+use Rattle.writer.specs.Trees.{Ready, Done, termOf, endOf, lead}
 use Rattle.writer.proofs.Lent.{room-is, length-put}
 use Rattle.writer.proofs.TreeLaws.{UseTree, use-of, several, tree-ahead, tree-inside}
 use Rattle.writer.proofs.DoneLaws.{
