@@ -5,12 +5,13 @@ use mathlib.Core.List.{List}
 use Prim.Native.Nat.{ℕ, _+_, _*_, _≤_, _<_}
 use native.Mathlib.Omega.{arith}
 use lib.ListN.{length, getD}
-use Rattle.words.specs.Word.{word}
 use Rattle.words.specs.Kept.{Kept}
 use Rattle.format.specs.Limits.{mostBytes}
 use Rattle.format.specs.Refusals.{number, inputTooLong}
-use Rattle.format.specs.Terms.{Term}
+use Rattle.format.specs.Results.{gives}
+use Rattle.format.specs.Terms.{Term, atomic, id, label, sequence, tensor, empty, alternation, assert, defined, size}
 use Rattle.format.specs.Standing.{Stands}
+use Rattle.format.proofs.ResultLaws.{never-gives}
 use Rattle.format.proofs.StandsLaws.{known}
 use Rattle.tables.specs.Tables.{Table}
 use Rattle.index.specs.Build.{RulesIndexed}
@@ -21,6 +22,7 @@ use Rattle.walks.specs.declared.state.Next.{Next}
 use Rattle.walks.specs.declared.state.Turn.{Turn}
 use Rattle.walks.specs.declared.state.Turn.the-variants as U
 use Rattle.walks.specs.Layout.{framesEnd, aritiesEnd, indexEnd}
+use Rattle.walks.specs.Walks.{Out}
 use Rattle.walks.specs.Loops.{Aim, Roomy, Begins, Gave, placed, Leaf, Acted, Turned, Steps}
 use Rattle.walks.proofs.LeafLaws.{leaf-refused, leaf-gave, begins-behind, turned-later}
 use Rattle.flattener.specs.declared.walk.Stepped.{Stepped}
@@ -45,6 +47,19 @@ indexed-still table first w w′ e k ix = (
 -- the next term is behind an earlier place too
 pub goes-later : (T : Table) (x : Aim) (s w w′ : List ℕ) (at at′ : ℕ) (r : Stepped) → at′ ≤ at → Goes T x s w w′ at r → Goes T x s w w′ at′ r
 goes-later T x s w w′ at at′ r h g = record { turned = turned-later (nodeAct T) x (cellsOf w′ (r .next)) s w′ at at′ (r .turn) h (g .turned); index-kept = g .index-kept }
+
+-- a term that gave: an atomic has two bytes behind its header, id and empty none
+size-of : (T : Table) (t : Term) (at : ℕ) (A : List Cell) (ns : List ℕ) (o : Out) → nodeAct T t at A ns ≡ gives o → size t ≡ 3 + atomics t * 2
+unfolding nodeAct size atomics
+size-of T (atomic a) at A ns o e = refl
+size-of T id at A ns o e = refl
+size-of T (label l t) at A ns o e = never-gives e
+size-of T (sequence t u) at A ns o e = never-gives e
+size-of T (tensor t u) at A ns o e = never-gives e
+size-of T empty at A ns o e = refl
+size-of T (alternation t u) at A ns o e = never-gives e
+size-of T (assert γ) at A ns o e = never-gives e
+size-of T (defined m) at A ns o e = never-gives e
 
 module _ (T : Table) (x : Aim) (table : List ℕ) (first : ℕ) (s w : List ℕ) (k : Walkable T x table first s w) where
   pub roomy : Roomy s w
@@ -72,8 +87,8 @@ module _ (T : Table) (x : Aim) (table : List ℕ) (first : ℕ) (s w : List ℕ)
 
     -- a term without inner terms
     module _ (n : Next) (at : ℕ) (b : Begins (nodeAct T) x A₀ s w (placed n at)) (l : Leaf s at) where
-      pub leaf-inside : (at + 3 + word s (at + 1) ≤ length s) × (length s ≤ mostBytes)
-      leaf-inside = let t = known s at (b .0) (b .2 .stands) in (omega (arith, t .inside, t .length-is), k .file)
+      leaf-inside : at ≤ length s
+      leaf-inside = omega (arith, known s at (b .0) (b .2 .stands) .inside)
 
       pub leaf-room : LeafRoom w n (atomics (b .0))
       leaf-room = record { apart = omega (arith, b .2 .room); below = b .2 .below; space = k .space }
@@ -81,13 +96,13 @@ module _ (T : Table) (x : Aim) (table : List ℕ) (first : ℕ) (s w : List ℕ)
       pub leaf-fits : Fitting T (b .0) at w n next
       unfolding Turned number
       leaf-fits e =
-          let z = leaf-refused (nodeAct T) x A₀ s w (placed n at) b l inputTooLong 1 at refl (omega (arith, leaf-inside)) e w at in
+          let z = leaf-refused (nodeAct T) x A₀ s w (placed n at) b l inputTooLong 1 at refl leaf-inside e w at in
           omega (arith, k .sound (z .0) at (z .2), z .1)
 
       pub refused-goes : (v w′ : List ℕ) → Takes T (b .0) at w v w′ n next A.Refused → Goes T x s w w′ (at + 1) (record { turn = U.Refused 20 at; next = next })
       unfolding Takes
       refused-goes v w′ t = subst (λ (y : List ℕ). Goes T x s w y (at + 1) (record { turn = U.Refused 20 at; next = next })) (sym (t .3)) (record {
-        turned = leaf-refused (nodeAct T) x A₀ s w (placed n at) b l (t .0) 20 at (t .1) (omega (arith, leaf-inside)) (t .2) w (at + 1);
+        turned = leaf-refused (nodeAct T) x A₀ s w (placed n at) b l (t .0) 20 at (t .1) leaf-inside (t .2) w (at + 1);
         index-kept = λ i p q. refl;
       })
 
@@ -100,12 +115,17 @@ module _ (T : Table) (x : Aim) (table : List ℕ) (first : ℕ) (s w : List ℕ)
         unfolding Takes
         acted = t (b₁ .0) (b₁ .2 .stands)
 
-        pub leaf-gives : (behind : ℕ) → behind ≡ at + 3 + word s (at + 1) → Gave (nodeAct T) x (cellsOf w′ made) s w′ behind (n .low) given (n .top + n .count * 2) (n .frames) (n .arity) (n .uses + used) × (n .uses + used ≤ mostBytes)
-        leaf-gives behind e =
-            leaf-gave (nodeAct T) x A₀ s v (placed n at) b₁ l (cellsOf w′ made) w′ given used acted behind (omega (arith, e, known s at (b₁ .0) (b₁ .2 .stands) .length-is))
+        gave-size : at + size (b₁ .0) ≡ at + 3 + used * 2
+        gave-size = let e = size-of T (b₁ .0) at A₀ _ _ (acted .comes) in omega (arith, e, acted .used-is)
 
-        pub gave-goes : (w″ : List ℕ) (behind : ℕ) (r : Turn) → behind ≡ at + 3 + word s (at + 1) → Steps (nodeAct T) x (cellsOf w′ made) s w′ w″ behind r → Goes T x s w w″ (at + 1) (record { turn = r; next = made })
-        gave-goes w″ behind r e z = record {
-          turned = subst (λ (B : List Cell). Turned (nodeAct T) x B s w″ (at + 1) r) (sym (cells-above w′ w″ 0 framesEnd made (z .kept) (omega arith))) (turned-later (nodeAct T) x (cellsOf w′ made) s w″ behind (at + 1) r (omega (arith, e)) (z .turned));
+        pub leaf-behind : at + 3 + used * 2 ≤ mostBytes
+        leaf-behind = omega (arith, gave-size, known s at (b₁ .0) (b₁ .2 .stands) .inside, k .file)
+
+        pub leaf-gives : Gave (nodeAct T) x (cellsOf w′ made) s w′ (at + 3 + used * 2) (n .low) given (n .top + n .count * 2) (n .frames) (n .arity) (n .uses + used) × (n .uses + used ≤ mostBytes)
+        leaf-gives = leaf-gave (nodeAct T) x A₀ s v (placed n at) b₁ l (cellsOf w′ made) w′ given used acted (at + 3 + used * 2) gave-size
+
+        pub gave-goes : (w″ : List ℕ) (r : Turn) → Steps (nodeAct T) x (cellsOf w′ made) s w′ w″ (at + 3 + used * 2) r → Goes T x s w w″ (at + 1) (record { turn = r; next = made })
+        gave-goes w″ r z = record {
+          turned = subst (λ (B : List Cell). Turned (nodeAct T) x B s w″ (at + 1) r) (sym (cells-above w′ w″ 0 framesEnd made (z .kept) (omega arith))) (turned-later (nodeAct T) x (cellsOf w′ made) s w″ (at + 3 + used * 2) (at + 1) r (omega arith) (z .turned));
           index-kept = λ i p q. z .kept .above i (omega arith) ∙ acted .kept .above i (omega (arith, b .2 .below)) ∙ in-cells .below i (omega arith);
         }

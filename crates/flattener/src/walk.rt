@@ -15,7 +15,6 @@ use walks::labels::unlabelled;
 use walks::state::Next;
 use walks::state::Turn;
 use walks::waiting::resume;
-use words::load16;
 
 // A step's turn, and the first node that is free behind it.
 pub struct Stepped {
@@ -29,7 +28,7 @@ pub enum Walked {
     Gives(usize, usize, usize),
 }
 
-// A term that is no label, no sequence and no tensor takes its nodes and ends.
+// A term that is no label, no sequence and no tensor takes its nodes and ends. Behind its header it has two bytes for the name of a use, or none.
 fn begin_leaf(
     table: &[u8],
     first: usize,
@@ -49,7 +48,7 @@ fn begin_leaf(
             next,
         },
         Taken::Gives(given, used, made) => {
-            let behind = at + 3 + load16(proof, at + 1) as usize;
+            let behind = at + 3 + used * 2;
             let uses = n.uses + used;
             let turn = resume(proof, work, n, behind, given, uses);
             Stepped { turn, next: made }

@@ -1,21 +1,21 @@
 -- `walk::begin_leaf` meets its contract: the term's refusal, or where the walk stands behind it.
 -- Assumes nothing.
-use mathlib.Core.Path.{refl, subst, ap}
-use Prim.Native.Nat.{ℕ, _+_, _≤_}
+use mathlib.Core.Path.{subst}
+use Prim.Native.Nat.{ℕ, _+_, _*_, _≤_}
 use native.Mathlib.Omega.{arith}
-use lib.ListN.{length}
 use denote.Ref.{now}
 use borrow.Author.Needs.{needs}
-use Rattle.words.specs.Word.{word}
 use Rattle.format.specs.Terms.{Term}
 use Rattle.format.specs.Standing.{Stands}
 use Rattle.tables.specs.Tables.{Table}
 use Rattle.tables.specs.Standing.{TableStands}
+use Rattle.walks.specs.Loops.{Aim, Begins, Gave, placed, Leaf}
 use Rattle.flattener.specs.declared.leaf.Taken.the-variants as A
 use Rattle.flattener.specs.Space.{cellsOf}
 use Rattle.flattener.specs.NodeActs.{nodeAct}
 use Rattle.flattener.specs.Leaves.{Takes}
-use Rattle.flattener.proofs.WalkLaws.{leaf-inside, leaf-room, leaf-fits, refused-goes, leaf-gives, gave-goes}
+use Rattle.flattener.specs.Walks.{Walkable}
+use Rattle.flattener.proofs.WalkLaws.{leaf-room, leaf-fits, refused-goes, leaf-behind, leaf-gives, gave-goes}
 use Rattle.flattener.proofs.walk.begin_leaf.Statement.{statement}
 use Rattle.flattener.proofs.walk.begin_leaf.Tie as tie
 
@@ -35,24 +35,6 @@ enum-told c = search needs
 enum-known-taken : tie.Need-enum-known-taken
 enum-known-taken c = search needs
 
-inside : (i : tie.Start) → (i .args .at + 3 + word (now (i .args .proof)) (i .args .at + 1) ≤ length (now (i .args .proof))) × (length (now (i .args .proof)) ≤ 65535)
-inside i = let (T, x, k, b) = i .pre .0 in leaf-inside T x _ _ _ _ k _ (i .args .n) _ b (i .pre .1)
-
-add-behind : tie.Need-add-behind
-add-behind c = omega (arith, inside (c .before .before .before .before .before .before .before .before .before .before))
-
-add-load16 : tie.Need-add-load16
-add-load16 c = omega (arith, inside (c .before .before .before .before .before .before .before .before .before .before))
-
-load16-requires : tie.Need-load16-requires
-load16-requires c κs = omega (arith, inside (c .before .before .before .before .before .before .before .before .before .before))
-
-cast-behind : tie.Need-cast-behind
-cast-behind c = search needs
-
-add-behind-2 : tie.Need-add-behind-2
-add-behind-2 c = omega (arith, inside (c .before .before .before .before .before .before .before .before .before .before .before), c .load16 .ensures)
-
 -- what the term gave
 gives : (c : tie.After-known-told) (T : Table) → let i = c .before .before .before .before .before .before .before .before .before .before in let a = c .before .before .before .before .before .act in TableStands (now (i .args .table)) (i .args .first) T
     → (t : Term) → Stands (now (i .args .proof)) (i .args .at) t
@@ -62,22 +44,37 @@ gives c T ts t st =
     let a = c .before .before .before .before .before .act in
     subst (Takes T t (i .args .at) (now (i .args .work)) (a .ensures .0) (a .last .1 .1 .1 .1 .0) (i .args .n) (i .args .next)) (c .before .taken .given .1) (a .ensures .2 T t ts st)
 
+-- where the walk stands behind it
+module _ (c : tie.After-known-told) (T : Table) (x : Aim) (k : let i = c .before .before .before .before .before .before .before .before .before .before in Walkable T x (now (i .args .table)) (i .args .first) (now (i .args .proof)) (now (i .args .work)))
+    (b : let i = c .before .before .before .before .before .before .before .before .before .before in Begins (nodeAct T) x (cellsOf (now (i .args .work)) (i .args .next)) (now (i .args .proof)) (now (i .args .work)) (placed (i .args .n) (i .args .at)))
+    (l : let i = c .before .before .before .before .before .before .before .before .before .before in Leaf (now (i .args .proof)) (i .args .at)) where
+  abbrev place : ℕ
+  place = (c .before .before .before .before .before .before .before .before .before .before) .args .at + 3 + c .before .taken .given .0 .1 .0 * 2
+
+  behind : place ≤ 65535
+  behind = leaf-behind T x _ _ _ _ k _ ((c .before .before .before .before .before .before .before .before .before .before) .args .n) _ b l _ _ (c .before .before .before .before .before .act .ensures .1) _ _ _ (gives c T (k .table-stands))
+
+  stands : let i = c .before .before .before .before .before .before .before .before .before .before in let n = i .args .n in let u = n .uses + c .before .taken .given .0 .1 .0 in let w = c .before .before .before .before .before .act .last .1 .1 .1 .1 .0 in
+      Gave (nodeAct T) x (cellsOf w (c .before .taken .given .0 .1 .1 .0)) (now (i .args .proof)) w place (n .low) (c .before .taken .given .0 .0) (n .top + n .count * 2) (n .frames) (n .arity) u × (u ≤ 65535)
+  stands = leaf-gives T x _ _ _ _ k _ ((c .before .before .before .before .before .before .before .before .before .before) .args .n) _ b l _ _ (c .before .before .before .before .before .act .ensures .1) _ _ _ (gives c T (k .table-stands))
+
+add-behind : tie.Need-add-behind
+add-behind c = let (T, x, k, b) = (c .before .before .before .before .before .before .before .before .before .before) .pre .0 in omega (arith, behind c T x k b ((c .before .before .before .before .before .before .before .before .before .before) .pre .1))
+
+mul-behind : tie.Need-mul-behind
+mul-behind c = let (T, x, k, b) = (c .before .before .before .before .before .before .before .before .before .before) .pre .0 in omega (arith, behind c T x k b ((c .before .before .before .before .before .before .before .before .before .before) .pre .1))
+
+add-behind-2 : tie.Need-add-behind-2
+add-behind-2 c = let (T, x, k, b) = (c .before .before .before .before .before .before .before .before .before .before) .pre .0 in omega (arith, behind c T x k b ((c .before .before .before .before .before .before .before .before .before .before) .pre .1))
+
 add-uses : tie.Need-add-uses
-add-uses c =
-    let i = c .before .before .before .before .before .before .before .before .before .before .before .before in
-    let d = c .before .before in
-    let (T, x, k, b) = i .pre .0 in
-    let g = leaf-gives T x _ _ _ _ k _ (i .args .n) _ b (i .pre .1) _ _ (c .before .before .before .before .before .before .before .act .ensures .1) _ _ _ (gives d T (k .table-stands)) _ refl in
-    omega (arith, g .1)
+add-uses c = let (T, x, k, b) = (c .before .before .before .before .before .before .before .before .before .before .before) .pre .0 in omega (arith, stands (c .before) T x k b ((c .before .before .before .before .before .before .before .before .before .before .before) .pre .1) .1)
 
 resume-requires : tie.Need-resume-requires
 resume-requires c κs =
-    let i = c .before .before .before .before .before .before .before .before .before .before .before .before .before in
-    let d = c .before .before .before in
-    let a = c .before .before .before .before .before .before .before .before .act in
-    let (T, x, k, b) = i .pre .0 in
-    let g = leaf-gives T x _ _ _ _ k _ (i .args .n) _ b (i .pre .1) _ _ (a .ensures .1) _ _ _ (gives d T (k .table-stands)) _ (ap (λ (y : ℕ). i .args .at + 3 + y) (c .before .before .load16 .ensures)) in (
-      (nodeAct T, x, cellsOf (a .last .1 .1 .1 .1 .0) (d .before .taken .given .0 .1 .1 .0), g .0),
+    let (T, x, k, b) = (c .before .before .before .before .before .before .before .before .before .before .before .before) .pre .0 in
+    let a = c .before .before .before .before .before .before .before .act in (
+      (nodeAct T, x, _, stands (c .before .before) T x k b ((c .before .before .before .before .before .before .before .before .before .before .before .before) .pre .1) .0),
       record { file = k .file; space = omega (arith, k .space, a .kept .1 .1 .1 .1 .0) },
     )
 
@@ -96,13 +93,10 @@ same-length-2 c = search needs
 
 returns-2 : tie.Need-returns-2
 returns-2 c =
-    let i = c .before .before .before .before .before .before .before .before .before .before .before .before .before .before .before .before in
-    let d = c .before .before .before .before .before .before in
-    let a = c .before .before .before .before .before .before .before .before .before .before .before .act in
-    let e = ap (λ (y : ℕ). i .args .at + 3 + y) (c .before .before .before .before .before .load16 .ensures) in
-    λ T x k b l.
-    let g = leaf-gives T x _ _ _ _ k _ (i .args .n) _ b l _ _ (a .ensures .1) _ _ _ (gives d T (k .table-stands)) _ e in
-    gave-goes T x _ _ _ _ k _ (i .args .n) _ b l _ _ (a .ensures .1) _ _ _ (gives d T (k .table-stands)) _ _ _ e (c .before .before .resume .ensures (nodeAct T) x _ (g .0))
+    let i = c .before .before .before .before .before .before .before .before .before .before .before .before .before .before .before in
+    let d = c .before .before .before .before .before in
+    λ T x k b l. gave-goes T x _ _ _ _ k _ (i .args .n) _ b l _ _ (c .before .before .before .before .before .before .before .before .before .before .act .ensures .1) _ _ _ (gives d T (k .table-stands)) _ _
+    (c .before .before .resume .ensures (nodeAct T) x _ (stands d T x k b l .0))
 
 pub begin-leaf-spec : {M : Type 1} → statement M
 begin-leaf-spec =
@@ -112,9 +106,7 @@ begin-leaf-spec =
     enum-told
     enum-known-taken
     add-behind
-    add-load16
-    load16-requires
-    cast-behind
+    mul-behind
     add-behind-2
     add-uses
     resume-requires
