@@ -71,11 +71,11 @@ struct hitac_answer hitac_write_proof(const uint8_t *table, size_t table_length,
  * library/build makes it, and fails if a number here is smaller; who compiles or links otherwise measures with it anew.
  * Signal handlers are not counted, nor is a name that the dynamic linker looks up at its first call: link with -z now.
  */
-#define HITAC_CHECK_STACK 4096         /* for hitac_check */
+#define HITAC_CHECK_STACK 1536         /* for hitac_check */
 #define HITAC_RUN_STACK 200704         /* for hitac_run */
-#define HITAC_FLATTEN_STACK 4096       /* for hitac_flatten */
-#define HITAC_CHECK_FLAT_STACK 4096    /* for hitac_check_flat */
-#define HITAC_WRITE_PROOF_STACK 262144 /* for hitac_write_proof */
+#define HITAC_FLATTEN_STACK 1536       /* for hitac_flatten */
+#define HITAC_CHECK_FLAT_STACK 1536    /* for hitac_check_flat */
+#define HITAC_WRITE_PROOF_STACK 172032 /* for hitac_write_proof */
 
 /* Output space that is always long enough, in bytes. */
 #define HITAC_LONGEST_PROOF 21510 /* for hitac_run and hitac_write_proof: no proof file is longer */

@@ -1,4 +1,3 @@
-pub mod ConstantTable
 pub mod Rows
 pub mod ResultLaws
 pub mod HeaderLaws

@@ -5,8 +5,9 @@ ghost use Prim.Native.Nat.{ℕ, _+_, _≤_, _<_};
 ghost use lib.ListN.{length};
 ghost use Rattle.format.specs.Waiting.{refusing, putWaiting, Going, Moved, Enters, Turned};
 use crate::headers::HeaderRead;
-use crate::tags::inner_of;
-use crate::tags::least_of;
+use crate::tags::inner_at;
+use crate::tags::least_at;
+use crate::tags::row_of;
 use words::load16;
 use words::store16;
 
@@ -68,7 +69,8 @@ fn enter(x: State, header: HeaderRead, work: &mut [u8], base: usize) -> State
             let close = at + 3 + len;
             r.end = close;
             r.fields = x.fields + 1;
-            let inner = inner_of(tag);
+            let row = row_of(tag);
+            let inner = inner_at(row);
             if inner == 0 {
                 r.mode = GAVE;
                 r.at = close;
@@ -76,7 +78,7 @@ fn enter(x: State, header: HeaderRead, work: &mut [u8], base: usize) -> State
             }
             let low = base + x.depth * 4;
             push(work, low, (at - x.top) as u16, (inner - 1) as u16);
-            r.at = at + 3 + least_of(tag) as usize;
+            r.at = at + 3 + least_at(row) as usize;
             r.depth = x.depth + 1;
             r.top = at;
             r

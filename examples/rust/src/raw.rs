@@ -21,11 +21,11 @@ pub const CHECK_FLAT_WORK: usize = 65536;
 pub const WRITE_PROOF_WORK: usize = 65536;
 
 // Machine stack that each call needs, in bytes; include/hitac.h says what is counted.
-pub const CHECK_STACK: usize = 4096;
+pub const CHECK_STACK: usize = 1536;
 pub const RUN_STACK: usize = 200704;
-pub const FLATTEN_STACK: usize = 4096;
-pub const CHECK_FLAT_STACK: usize = 4096;
-pub const WRITE_PROOF_STACK: usize = 262144;
+pub const FLATTEN_STACK: usize = 1536;
+pub const CHECK_FLAT_STACK: usize = 1536;
+pub const WRITE_PROOF_STACK: usize = 172032;
 
 pub const LONGEST_PROOF: usize = 21510;
 pub const LONGEST_FLAT: usize = 16131;

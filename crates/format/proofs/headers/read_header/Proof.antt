@@ -11,7 +11,8 @@ use Rattle.format.proofs.headers.read_header.Tie as tie
 use Rattle.format.proofs.headers.read_header.Reads as reads
 use Rattle.format.proofs.headers.read_header.Lts as lts
 use Rattle.format.proofs.headers.length_fits.Reads as length-fits-reads
-use Rattle.format.proofs.tags.kind_of.Reads as kind-of-reads
+use Rattle.format.proofs.tags.kind_at.Reads as kind-at-reads
+use Rattle.format.proofs.tags.row_of.Reads as row-of-reads
 use Rattle.words.proofs.load16.Reads as load16-reads
 
 add-if1 : tie.Need-add-if1
@@ -24,20 +25,23 @@ returns c = simp (lt-ltb _ _ (c .if1 .taken))
 shared-slice-read-tag : tie.Need-shared-slice-read-tag
 shared-slice-read-tag c = search needs
 
-kind-of-requires : tie.Need-kind-of-requires
-kind-of-requires c κs = search needs
+row-of-requires : tie.Need-row-of-requires
+row-of-requires c κs = search needs
+
+kind-at-requires : tie.Need-kind-at-requires
+kind-at-requires c κs = search needs
 
 returns-2 : tie.Need-returns-2
 unfolding headerAt headerShape told number
-returns-2 c = simp (le-ltb _ _ (c .before .before .before .if1 .left), ← c .before .kind-of .ensures, lt-ltb _ _ (c .if2 .taken))
+returns-2 c = simp (le-ltb _ _ (c .before .before .before .before .if1 .left), ← c .before .kind-at .ensures _ (c .before .before .row-of .ensures .0), lt-ltb _ _ (c .if2 .taken))
 
 returns-3 : tie.Need-returns-3
 unfolding headerAt headerShape told number
-returns-3 c = simp (le-ltb _ _ (c .before .before .before .before .if1 .left), ← c .before .before .kind-of .ensures, le-ltb _ _ (c .before .if2 .left), lt-ltb _ _ (c .if3 .taken))
+returns-3 c = simp (le-ltb _ _ (c .before .before .before .before .before .if1 .left), ← c .before .before .kind-at .ensures _ (c .before .before .before .row-of .ensures .0), le-ltb _ _ (c .before .if2 .left), lt-ltb _ _ (c .if3 .taken))
 
 returns-4 : tie.Need-returns-4
 unfolding headerAt headerShape told number
-returns-4 c = simp (le-ltb _ _ (c .before .before .before .before .before .if1 .left), ← c .before .before .before .kind-of .ensures, le-ltb _ _ (c .before .before .if2 .left), le-ltb _ _ (c .before .if3 .left), c .if4 .taken)
+returns-4 c = simp (le-ltb _ _ (c .before .before .before .before .before .before .if1 .left), ← c .before .before .before .kind-at .ensures _ (c .before .before .before .before .row-of .ensures .0), le-ltb _ _ (c .before .before .if2 .left), le-ltb _ _ (c .before .if3 .left), c .if4 .taken)
 
 add-load16 : tie.Need-add-load16
 add-load16 c = search needs
@@ -56,18 +60,18 @@ add-if5-2 c = search needs
 
 returns-5 : tie.Need-returns-5
 unfolding headerAt headerShape told number
-returns-5 c = simp (le-ltb _ _ (c .before .before .before .before .before .before .before .if1 .left), ← c .before .before .before .before .before .kind-of .ensures, le-ltb _ _ (c .before .before .before .before .if2 .left), le-ltb _ _ (c .before .before .before .if3 .left), c .before .before .if4 .left, ← c .before .load16 .ensures, lt-ltb _ _ (c .if5 .taken))
+returns-5 c = simp (le-ltb _ _ (c .before .before .before .before .before .before .before .before .if1 .left), ← c .before .before .before .before .before .kind-at .ensures _ (c .before .before .before .before .before .before .row-of .ensures .0), le-ltb _ _ (c .before .before .before .before .if2 .left), le-ltb _ _ (c .before .before .before .if3 .left), c .before .before .if4 .left, ← c .before .load16 .ensures, lt-ltb _ _ (c .if5 .taken))
 
 length-fits-requires : tie.Need-length-fits-requires
 length-fits-requires c κs = search needs
 
 returns-6 : tie.Need-returns-6
 unfolding headerAt headerShape told number
-returns-6 c = simp (le-ltb _ _ (c .before .before .before .before .before .before .before .before .before .if1 .left), ← c .before .before .before .before .before .before .before .kind-of .ensures, le-ltb _ _ (c .before .before .before .before .before .before .if2 .left), le-ltb _ _ (c .before .before .before .before .before .if3 .left), c .before .before .before .before .if4 .left, ← c .before .before .before .load16 .ensures, le-ltb _ _ (c .before .before .if5 .left), ← c .before .length-fits .ensures, c .if6 .taken)
+returns-6 c = simp (le-ltb _ _ (c .before .before .before .before .before .before .before .before .before .before .if1 .left), ← c .before .before .before .before .before .before .before .kind-at .ensures _ (c .before .before .before .before .before .before .before .before .row-of .ensures .0), le-ltb _ _ (c .before .before .before .before .before .before .if2 .left), le-ltb _ _ (c .before .before .before .before .before .if3 .left), c .before .before .before .before .if4 .left, ← c .before .before .before .load16 .ensures, le-ltb _ _ (c .before .before .if5 .left), ← c .before .length-fits .ensures _ (c .before .before .before .before .before .before .before .before .row-of .ensures .0), c .if6 .taken)
 
 returns-7 : tie.Need-returns-7
 unfolding headerAt headerShape told number
-returns-7 c = simp (le-ltb _ _ (c .before .before .before .before .before .before .before .before .before .if1 .left), ← c .before .before .before .before .before .before .before .kind-of .ensures, le-ltb _ _ (c .before .before .before .before .before .before .if2 .left), le-ltb _ _ (c .before .before .before .before .before .if3 .left), c .before .before .before .before .if4 .left, ← c .before .before .before .load16 .ensures, le-ltb _ _ (c .before .before .if5 .left), ← c .before .length-fits .ensures, c .if6 .left)
+returns-7 c = simp (le-ltb _ _ (c .before .before .before .before .before .before .before .before .before .before .if1 .left), ← c .before .before .before .before .before .before .before .kind-at .ensures _ (c .before .before .before .before .before .before .before .before .row-of .ensures .0), le-ltb _ _ (c .before .before .before .before .before .before .if2 .left), le-ltb _ _ (c .before .before .before .before .before .if3 .left), c .before .before .before .before .if4 .left, ← c .before .before .before .load16 .ensures, le-ltb _ _ (c .before .before .if5 .left), ← c .before .length-fits .ensures _ (c .before .before .before .before .before .before .before .before .row-of .ensures .0), c .if6 .left)
 
 pub read-header-spec : {M : Type 1} → statement M
 read-header-spec =
@@ -76,7 +80,8 @@ read-header-spec =
     add-if1
     returns
     shared-slice-read-tag
-    kind-of-requires
+    row-of-requires
+    kind-at-requires
     returns-2
     returns-3
     returns-4

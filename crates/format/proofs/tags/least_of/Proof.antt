@@ -1,27 +1,17 @@
--- `tags::least_of` meets its contract: its table is the rows' column, tested entry by entry; a number past it has no row.
+-- `tags::least_of` meets its contract: the entry in the tag's row.
 -- Assumes nothing.
-use mathlib.Core.Path.{sym, ap}
-use mathlib.Core.List.{List, [], _∷_}
-use Prim.Native.Nat.{ℕ}
 use borrow.Author.Needs.{needs}
-use Rattle.format.specs.Tags.{Row, leastOf, rowOf, rows, findRow}
-use Rattle.format.proofs.Rows.{beyond, entry}
 use Rattle.format.proofs.tags.least_of.Statement.{statement}
 use Rattle.format.proofs.tags.least_of.Tie as tie
 
+row-of-requires : tie.Need-row-of-requires
+row-of-requires c κs = search needs
+
+least-at-requires : tie.Need-least-at-requires
+least-at-requires c κs = search needs
+
 returns : tie.Need-returns
-unfolding leastOf
-returns c = sym (ap (λ (r : Row). r .least) (beyond (c .before .args .tag) (c .if1 .taken)))
-
-array-read-result : tie.Need-array-read-result
-array-read-result c = search needs
-
-table : List ℕ
-table = 0 ∷ 4 ∷ 2 ∷ 0 ∷ 0 ∷ 0 ∷ 0 ∷ 0 ∷ 0 ∷ 0 ∷ 0 ∷ 0 ∷ 0 ∷ 0 ∷ 0 ∷ 0 ∷ 2 ∷ 0 ∷ 2 ∷ 0 ∷ 0 ∷ 0 ∷ 0 ∷ 2 ∷ 2 ∷ 0 ∷ 0 ∷ 0 ∷ 0 ∷ 0 ∷ 0 ∷ 0 ∷ 4 ∷ 2 ∷ []
-
-returns-2 : tie.Need-returns-2
-unfolding leastOf table rowOf rows findRow
-returns-2 c = entry (λ r. r .least) table tt (c .before .args .tag) (search needs)
+returns c = c .least-at .ensures _ (c .before .row-of .ensures .0)
 
 pub least-of-spec : {M : Type 1} → statement M
-least-of-spec = tie.close (tie.spec returns array-read-result returns-2)
+least-of-spec = tie.close (tie.spec row-of-requires least-at-requires returns)

@@ -20,8 +20,9 @@ use Rattle.format.proofs.waiting.enter.Statement.{statement}
 use Rattle.format.proofs.waiting.enter.Tie as tie
 use Rattle.format.proofs.waiting.enter.Reads as reads
 use Rattle.format.proofs.waiting.enter.Lts as lts
-use Rattle.format.proofs.tags.inner_of.Reads as inner-of-reads
-use Rattle.format.proofs.tags.least_of.Reads as least-of-reads
+use Rattle.format.proofs.tags.inner_at.Reads as inner-at-reads
+use Rattle.format.proofs.tags.least_at.Reads as least-at-reads
+use Rattle.format.proofs.tags.row_of.Reads as row-of-reads
 use Rattle.format.proofs.waiting.push.Reads as push-reads
 use Rattle.format.proofs.waiting.refused.Reads as refused-reads
 
@@ -76,23 +77,26 @@ add-close-2 c = omega (arith, holds c)
 add-r : tie.Need-add-r
 add-r c = omega (arith, holds (c .before))
 
-inner-of-requires : tie.Need-inner-of-requires
-inner-of-requires c κs = search needs
+row-of-requires : tie.Need-row-of-requires
+row-of-requires c κs = search needs
+
+inner-at-requires : tie.Need-inner-at-requires
+inner-at-requires c κs = search needs
 
 returns : tie.Need-returns
-returns c = λ s high b. enter-leaf _ _ _ _ _ (b .going) (b .reading) _ _ _ _ (header-is (c .before .before .before) s high b) refl (c .before .inner-of .ensures) (c .if1 .taken)
+returns c = λ s high b. enter-leaf _ _ _ _ _ (b .going) (b .reading) _ _ _ _ (header-is (c .before .before .before .before) s high b) refl (c .before .inner-at .ensures _ (c .before .before .row-of .ensures .0)) (c .if1 .taken)
 
 mul-low : tie.Need-mul-low
-mul-low c = omega (arith, holds (c .before .before .before .before))
+mul-low c = omega (arith, holds (c .before .before .before .before .before))
 
 add-low : tie.Need-add-low
-add-low c = omega (arith, holds (c .before .before .before .before))
+add-low c = omega (arith, holds (c .before .before .before .before .before))
 
 sub-push : tie.Need-sub-push
 sub-push c = search needs
 
 cast-push : tie.Need-cast-push
-cast-push c = omega (arith, gap-fits _ _ _ _ (start (c .before .before .before .before .before .before) .pre .2 .going) (start (c .before .before .before .before .before .before) .pre .2 .reading) (field (c .before .before .before .before .before .before) .header-fits))
+cast-push c = omega (arith, gap-fits _ _ _ _ (start (c .before .before .before .before .before .before .before) .pre .2 .going) (start (c .before .before .before .before .before .before .before) .pre .2 .reading) (field (c .before .before .before .before .before .before .before) .header-fits))
 
 sub-push-2 : tie.Need-sub-push-2
 sub-push-2 c = search needs
@@ -101,22 +105,22 @@ cast-push-2 : tie.Need-cast-push-2
 cast-push-2 c = search needs
 
 push-requires : tie.Need-push-requires
-push-requires c κs = omega (arith, holds (c .before .before .before .before .before .before))
+push-requires c κs = omega (arith, holds (c .before .before .before .before .before .before .before))
 
 add-r-2 : tie.Need-add-r-2
-add-r-2 c = omega (arith, holds (c .before .before .before .before .before .before .before .before .before))
+add-r-2 c = omega (arith, holds (c .before .before .before .before .before .before .before .before .before .before))
 
-least-of-requires : tie.Need-least-of-requires
-least-of-requires c κs = search needs
+least-at-requires : tie.Need-least-at-requires
+least-at-requires c κs = search needs
 
 cast-r : tie.Need-cast-r
 cast-r c = search needs
 
 add-r-3 : tie.Need-add-r-3
-add-r-3 c = omega (arith, holds (c .before .before .before .before .before .before .before .before .before .before), field (c .before .before .before .before .before .before .before .before .before .before))
+add-r-3 c = omega (arith, holds (c .before .before .before .before .before .before .before .before .before .before .before), field (c .before .before .before .before .before .before .before .before .before .before .before), c .least-at .ensures _ (c .before .before .before .before .before .before .before .before .before .row-of .ensures .0))
 
 add-r-4 : tie.Need-add-r-4
-add-r-4 c = omega (arith, holds (c .before .before .before .before .before .before .before .before .before .before .before))
+add-r-4 c = omega (arith, holds (c .before .before .before .before .before .before .before .before .before .before .before .before))
 
 returns-2 : tie.Need-returns-2
 returns-2 c = λ s high b. rw (c .refused .ensures) (enter-refused _ _ _ _ _ (b .going) (b .reading) _ _ (sym (b .header-is) ∙ c .before .before .header .given .1))
@@ -125,7 +129,7 @@ same-length : tie.Need-same-length
 same-length c = search needs
 
 returns-3 : tie.Need-returns-3
-returns-3 c = λ s high b. enter-inner _ _ _ _ _ (b .going) (b .reading) _ _ _ _ (header-is (c .before .before .before .before .before .before .before .before .before .before .before) s high b) refl (c .before .before .before .before .before .before .before .before .before .inner-of .ensures) _ (c .before .least-of .ensures) (c .before .before .before .before .before .before .before .before .if1 .left) _ (c .before .before .before .before .push .ensures)
+returns-3 c = λ s high b. enter-inner _ _ _ _ _ (b .going) (b .reading) _ _ _ _ (header-is (c .before .before .before .before .before .before .before .before .before .before .before .before) s high b) refl (c .before .before .before .before .before .before .before .before .before .inner-at .ensures _ (c .before .before .before .before .before .before .before .before .before .before .row-of .ensures .0)) _ (c .before .least-at .ensures _ (c .before .before .before .before .before .before .before .before .before .before .row-of .ensures .0)) (c .before .before .before .before .before .before .before .before .if1 .left) _ (c .before .before .before .before .push .ensures)
 
 pub enter-spec : {M : Type 1} → statement M
 enter-spec =
@@ -137,7 +141,8 @@ enter-spec =
     add-close
     add-close-2
     add-r
-    inner-of-requires
+    row-of-requires
+    inner-at-requires
     returns
     mul-low
     add-low
@@ -147,7 +152,7 @@ enter-spec =
     cast-push-2
     push-requires
     add-r-2
-    least-of-requires
+    least-at-requires
     cast-r
     add-r-3
     add-r-4
