@@ -1,4 +1,5 @@
 pub mod ValueLaws
+pub mod MoveLaws
 pub mod LabelLaws
 pub mod ArityLaws
 pub mod ThreadLaws

@@ -2,7 +2,8 @@
 ghost use mathlib.Core.Path.{_≡_};
 ghost use mathlib.Core.List.{List};
 ghost use Prim.Native.Nat.{_+_, _*_, _≤_, _<_};
-ghost use lib.ListN.{length};
+ghost use lib.ListN.{length, drop};
+ghost use lib.Seq.{paste};
 ghost use Rattle.hitac.proofs.Nodes.{Cell};
 ghost use Rattle.walks.specs.Walks.{Act};
 ghost use Rattle.walks.specs.Shows.{putFrame};
@@ -23,6 +24,19 @@ pub fn push(work: &mut [u8], at: usize, place: usize, value: usize)
 {
     store16(work, at, place as u16);
     store16(work, at + 2, value as u16);
+}
+
+// Moves n bytes from `from` up to `to`. Most sequences pass one value on, which takes no loop; its last byte goes first, as in the loop.
+fn raise(work: &mut [u8], from: usize, to: usize, n: usize)
+    requires { ⌜ (from ≤ to) × (to + n ≤ length (now work)) ⌝ }
+    ensures { λ _. ⌜ now (work .exit) ≡ paste (now (work .entry)) to (drop from (now (work .entry))) n ⌝ }
+{
+    if n == 2 {
+        work[to + 1] = work[from + 1];
+        work[to] = work[from];
+        return;
+    }
+    move_up(work, from, to, n);
 }
 
 // The term at a place is next: it takes so many values from `top` on and gives from `low` on.
@@ -62,7 +76,7 @@ pub fn resume(proof: &[u8], work: &mut [u8], n: Next, at: usize, given: usize, u
         let place = load16(work, frame) as usize;
         if proof[place] == 19 {
             let top = end - count * 2;
-            move_up(work, start, top, count * 2);
+            raise(work, start, top, count * 2);
             return next_term(n, at, count, start, top, frame, uses);
         }
         let value = load16(work, frame + 2) as usize;

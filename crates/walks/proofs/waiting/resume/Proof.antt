@@ -21,7 +21,7 @@ use Rattle.walks.proofs.waiting.resume.Reads as reads
 use Rattle.walks.proofs.waiting.resume.Lts as lts
 use Rattle.walks.proofs.waiting.next_term.Reads as next-term-reads
 use Rattle.words.proofs.load16.Reads as load16-reads
-use Rattle.words.proofs.move_up.Reads as move-up-reads
+use Rattle.walks.proofs.waiting.raise.Reads as raise-reads
 use Rattle.words.proofs.store16.Reads as store16-reads
 
 -- the work space is as it was, and whatever the term gave at the start is what is given now
@@ -124,17 +124,17 @@ mul-top c = let i = c .before .before .before .before in omega (arith, gave i .1
 sub-top : tie.Need-sub-top Inv-loop μ-loop
 sub-top c = let i = c .before .before .before .before in omega (arith, gave i .1 .room)
 
-mul-move-up : tie.Need-mul-move-up Inv-loop μ-loop
-mul-move-up c = let i = c .before .before .before .before .before in omega (arith, gave i .1 .room, gave i .1 .below)
+mul-raise : tie.Need-mul-raise Inv-loop μ-loop
+mul-raise c = let i = c .before .before .before .before .before in omega (arith, gave i .1 .room, gave i .1 .below)
 
-move-up-requires : tie.Need-move-up-requires Inv-loop μ-loop
-move-up-requires c κs = let i = c .before .before .before .before .before in (omega (arith, gave i .1 .room), omega (arith, gave i .1 .room, gave i .1 .below, roomy i .space))
+raise-requires : tie.Need-raise-requires Inv-loop μ-loop
+raise-requires c κs = let i = c .before .before .before .before .before in (omega (arith, gave i .1 .room), omega (arith, gave i .1 .room, gave i .1 .below, roomy i .space))
 
 next-term-requires : tie.Need-next-term-requires Inv-loop μ-loop
 next-term-requires c κs = search needs
 
 same-length : tie.Need-same-length Inv-loop μ-loop
-same-length c = c .before .before .before .move-up .kept .0 ∙ ap length (c .before .before .before .before .before .before .before .before .before .before .loop .inv .0)
+same-length c = c .before .before .before .raise .kept .0 ∙ ap length (c .before .before .before .before .before .before .before .before .before .before .loop .inv .0)
 
 returns : tie.Need-returns Inv-loop μ-loop
 returns c =
@@ -143,7 +143,7 @@ returns c =
     λ act x A g.
     let h = i .before .loop .inv .1 act x A g in
     told-next i act x A _ _ _ (c .next-term .ensures)
-    (sequence-next act x A _ _ _ _ _ _ _ _ _ _ _ (omega (arith, h .1 .room)) (c .before .before .before .move-up .ensures) (omega (arith, roomy i .space)) h (left i) (frame-tag r 19 (c .before .before .before .before .before .if1 .taken)))
+    (sequence-next act x A _ _ _ _ _ _ _ _ _ _ _ (omega (arith, h .1 .room)) (c .before .before .before .raise .ensures) (omega (arith, roomy i .space)) h (left i) (frame-tag r 19 (c .before .before .before .before .before .if1 .taken)))
 
 add-load16 : tie.Need-add-load16 Inv-loop μ-loop
 add-load16 c = let i = c .before .before .before .before .before in omega (arith, top i .four, top i .limited)
@@ -260,8 +260,8 @@ resume-spec =
     shared-slice-read-if1
     mul-top
     sub-top
-    mul-move-up
-    move-up-requires
+    mul-raise
+    raise-requires
     next-term-requires
     same-length
     returns
