@@ -11,7 +11,7 @@ use borrow.Author.Tests.{lt-ltb, le-ltb, eq-eqb, ne-eqb}
 use Rattle.format.specs.declared.values.RuleName.{RuleName}
 use Rattle.format.specs.declared.values.Goal.{Goal}
 use Rattle.format.specs.declared.headers.HeaderRead.the-variants as H
-use Rattle.format.specs.declared.goals.GoalsRead.the-variants as G
+use Rattle.format.specs.GoalsRead as G
 use Rattle.format.specs.Results.{Result, gives, refused, andThen, told}
 use Rattle.format.specs.Inputs.{ofSize}
 use Rattle.format.specs.Tags.{rows, findRow, rowOf, kindOf, leastOf, mostOf, entryKind}

@@ -7,8 +7,8 @@ use native.Mathlib.Omega.{arith}
 use lib.ListN.{length}
 use borrow.Author.Tests.{eq-eqb, ne-eqb}
 use Rattle.format.specs.declared.values.Goal.{Goal}
-use Rattle.format.specs.declared.goals.GoalsRead.the-variants as G
-use Rattle.format.specs.declared.terms.TermRead.the-variants as T
+use Rattle.format.specs.GoalsRead as G
+use Rattle.format.specs.TermRead as T
 use Rattle.format.specs.Refusals.{number}
 use Rattle.format.specs.Results.{andThen, told}
 use Rattle.format.specs.Inputs.{ofSize}

@@ -7,8 +7,8 @@ use Prim.Native.Nat.{ℕ, _+_, _*_, _≤_}
 use native.Mathlib.Omega.{arith}
 use lib.Dec.{ltb}
 use lib.ListN.{length}
-use Rattle.format.specs.declared.goals.GoalsRead.the-variants as G
-use Rattle.format.specs.declared.terms.TermRead.the-variants as T
+use Rattle.format.specs.GoalsRead as G
+use Rattle.format.specs.TermRead as T
 use Rattle.format.specs.Limits.{mostBytes}
 use Rattle.format.specs.Refusals.{Cause, number, inputTooLong}
 use Rattle.format.specs.Results.{Result, gives, refused, andThen, told}

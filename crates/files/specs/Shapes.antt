@@ -2,8 +2,8 @@
 use Prim.Native.Nat.{ℕ, _+_}
 use mathlib.Core.List.{List}
 use lib.ListN.{length}
-use Rattle.format.specs.declared.terms.TermRead.{TermRead}
-use Rattle.format.specs.declared.terms.TermRead.the-variants as T
+use Rattle.format.specs.TermRead.{TermRead}
+use Rattle.format.specs.TermRead as T
 use Rattle.format.specs.Results.{Result, told}
 use Rattle.format.specs.Terms.{Term, size, fields}
 use Rattle.files.specs.declared.proofs.ProofParts.{ProofParts}

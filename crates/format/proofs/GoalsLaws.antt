@@ -9,7 +9,7 @@ use lib.Dec.{ltb}
 use lib.ListN.{length}
 use borrow.Author.Tests.{ltb-false}
 use Rattle.format.specs.declared.headers.HeaderRead.the-variants as H
-use Rattle.format.specs.declared.goals.GoalsRead.the-variants.{Refused, Read}
+use Rattle.format.specs.GoalsRead.{Refused, Read}
 use Rattle.format.specs.Limits.{mostGoals}
 use Rattle.format.specs.Refusals.{number, limitPassed}
 use Rattle.format.specs.Results.{Result, gives, refused, andThen, told}

@@ -1,4 +1,4 @@
--- Where the reader moves: by the cases of a header; and a header that is read ends within what encloses it, by the tests of `headerAt`.
+-- A header that is read ends within what encloses it, by the tests of `headerAt`.
 -- Assumes nothing.
 use mathlib.Core.Path.{_≡_, refl, ap, subst}
 use mathlib.Core.Bool.{Bool}
@@ -9,18 +9,8 @@ use Rattle.format.specs.declared.headers.HeaderRead.the-variants.{Refuse
 use Rattle.format.specs.Results.{Result, gives, refused, told}
 use Rattle.format.specs.Headers.{Header, headerAt}
 use Rattle.format.specs.Shapes.{headerShape}
-use Rattle.format.specs.Reader.{behindField, Encloses}
+use Rattle.format.specs.Reader.{Encloses}
 use Rattle.format.proofs.HeaderLaws.{is-field}
-
--- at a refusal the reader stays
-pub stays : (at k p : ℕ) (h : HeaderRead) → h ≡ Refused k p → behindField at h ≡ at
-unfolding behindField
-stays at k p h e = ap (behindField at) e
-
--- behind a field it moves by the three header bytes and the contents
-pub moves : (at tag len : ℕ) (h : HeaderRead) → h ≡ Field tag len → behindField at h ≡ at + 3 + len
-unfolding behindField
-moves at tag len h e = ap (behindField at) e
 
 pub ends-within : (at end tag len : ℕ) (h : HeaderRead) → h ≡ Field tag len → Encloses at end h → at + 3 + len ≤ end
 unfolding Encloses

@@ -7,8 +7,8 @@ use native.Mathlib.Omega.{arith}
 use lib.Dec.{leb}
 use lib.ListN.{length}
 use Rattle.format.specs.declared.headers.HeaderRead.the-variants as H
-use Rattle.format.specs.declared.terms.TermRead.{TermRead}
-use Rattle.format.specs.declared.terms.TermRead.the-variants.{Refused, Read}
+use Rattle.format.specs.TermRead.{TermRead}
+use Rattle.format.specs.TermRead.{Refused, Read}
 use Rattle.format.specs.Limits.{mostTermFields}
 use Rattle.format.specs.Results.{gives, andThen}
 use Rattle.format.specs.Tags.{leastOf, innerOf, hiproofKind}

@@ -7,8 +7,8 @@ use Prim.Native.Nat.{ℕ, zero, suc, _+_, _≤_, _<_}
 use native.Mathlib.Omega.{arith}
 use lib.Dec.{eqb, leb}
 use Rattle.format.specs.declared.headers.HeaderRead.the-variants as H
-use Rattle.format.specs.declared.terms.TermRead.{TermRead}
-use Rattle.format.specs.declared.terms.TermRead.the-variants.{Refused, Read}
+use Rattle.format.specs.TermRead.{TermRead}
+use Rattle.format.specs.TermRead.{Refused, Read}
 use Rattle.format.specs.Limits.{mostTermFields}
 use Rattle.format.specs.Refusals.{number, lengthWrong}
 use Rattle.format.specs.Results.{Result, gives, refused, andThen, told}

@@ -1,4 +1,4 @@
--- One turn of the loop: a law for each return of `enter`, `leave` and `turn`, and what the loop holds.
+-- One turn within a term: a law for each return of `enter`, `leave` and `turn_within`.
 -- Assumes nothing.
 use mathlib.Core.Path.{_≡_, refl, sym, ap, subst, _∙_}
 use mathlib.Core.Bool.{Bool}
@@ -15,8 +15,7 @@ use Rattle.words.proofs.WordLaws.{length-putWord, word-same, word-other}
 use Rattle.words.proofs.KeptLaws.{kept-put, kept-both, kept-same}
 use Rattle.format.specs.declared.headers.HeaderRead.{HeaderRead}
 use Rattle.format.specs.declared.headers.HeaderRead.the-variants as H
-use Rattle.format.specs.declared.terms.TermRead.{TermRead}
-use Rattle.format.specs.declared.terms.TermRead.the-variants.{Refused, Read}
+use Rattle.format.specs.TermRead.{TermRead, Refused, Read}
 use Rattle.format.specs.Limits.{mostTermFields}
 use Rattle.format.specs.Refusals.{number}
 use Rattle.format.specs.Results.{gives}
@@ -25,8 +24,9 @@ use Rattle.format.specs.Headers.{header, headerAt}
 use Rattle.format.specs.ReadTerms.{readTerm}
 use Rattle.format.specs.Shapes.{headerShape, termShape, ending, Within}
 use Rattle.format.proofs.HeaderLaws.{IsField, is-field}
-use Rattle.format.specs.declared.waiting.State.{State}
-use Rattle.format.specs.Waiting.{readingRoom, goOn, reads, closing, endOf, putWaiting, resumed, beginning, refusing, told, outcome, Waits, Going, weight, Moved, Enters, Reached, Turned}
+use Rattle.format.specs.declared.state.State.{State}
+use Rattle.format.specs.States.{refusing, endOf}
+use Rattle.format.specs.Waiting.{readingRoom, goOn, reads, closing, putWaiting, resumed, told, outcome, Waits, Going, weight, Held, Moved, Turned}
 use Rattle.format.proofs.Lengths.{short-field}
 use Rattle.format.proofs.TermLaws.{within}
 use Rattle.format.proofs.ShapeLaws.{reads-refused, reads-leaf, reads-inner, reads-any}
@@ -58,9 +58,9 @@ gap-fits s w base x g m l = go (g .near m)
     go (inl e) = omega arith
     go (inr e) = omega arith
 
--- a state with the same refusal
+-- a state of the same part with the same refusal
 abbrev stepped : State → (mode at end fields depth top : ℕ) → State
-stepped x m at end n d top = record { mode = m; at = at; end = end; fields = n; depth = d; top = top; number = x .number; place = x .place }
+stepped x m at end n d top = record { mode = m; part = x .part; low = x .low; high = x .high; full = x .full; at = at; end = end; fields = n; depth = d; top = top; goals = x .goals; first = x .first; second = x .second; from = x .from; rest = x .rest; field = x .field; number = x .number; place = x .place }
 
 -- a step to a refusal
 refuses : (s w : List ℕ) (high base : ℕ) (x : State) (k p : ℕ) → Going s w base x → 1 ≤ x .mode → outcome s w high base x ≡ Refused k p → Moved s w high base x w (refusing x k p)
@@ -70,11 +70,9 @@ refuses s w high base x k p g m e = record {
   same = when-refused s w high base (refusing x k p) refl ∙ sym e;
   kept = kept-same w base (base + readingRoom);
   less = omega arith;
+  held = record { part = refl; low = refl; high = refl; goals = refl; first = refl; second = refl; from = refl; field = refl };
+  ahead = omega arith;
 }
-
--- what is known before a field, from what the reader told
-pub enters : (s w : List ℕ) (high base : ℕ) (x : State) → Going s w base x → x .mode ≡ 1 → (full : Bool) (h : HeaderRead) → full ≡ leb mostTermFields (x .fields) → h ≡ headerShape (headerAt s (x .at) (x .end) hiproofKind high full) → Enters s w high base x h
-enters s w high base x g m full h f e = record { going = g; reading = m; header-is = rw (← f) e }
 
 -- the returns of `enter`
 module _ (s w : List ℕ) (high base : ℕ) (x : State) (g : Going s w base x) (m : x .mode ≡ 1) where
@@ -110,6 +108,8 @@ module _ (s w : List ℕ) (high base : ℕ) (x : State) (g : Going s w base x) (
               ∙ sym (when-reads s w high base x m);
           kept = kept-same w base (base + readingRoom);
           less = omega (arith, f, h);
+          held = record { part = refl; low = refl; high = refl; goals = refl; first = refl; second = refl; from = refl; field = refl };
+          ahead = omega arith;
         }
 
     turned : (l : ℕ) → l ≡ leastOf tag → endOf s (x .at) ≡ close → (k : ℕ) → innerOf tag ≡ suc k
@@ -163,6 +163,8 @@ module _ (s w : List ℕ) (high base : ℕ) (x : State) (g : Going s w base x) (
               ∙ sym (when-reads s w high base x m);
           kept = ka;
           less = omega (arith, f, h);
+          held = record { part = refl; low = refl; high = refl; goals = refl; first = refl; second = refl; from = refl; field = refl };
+          ahead = omega arith;
         }
 
 -- the field on top of those that wait lies in the file, and stands behind the one around it
@@ -215,6 +217,8 @@ module _ (s w : List ℕ) (high base : ℕ) (x : State) (g : Going s w base x) (
             ∙ sym before;
         kept = kept-same w base (base + readingRoom);
         less = omega arith;
+        held = record { part = refl; low = refl; high = refl; goals = refl; first = refl; second = refl; from = refl; field = refl };
+        ahead = omega arith;
       }
 
   pub leave-refused : left ≡ 0 → (x .at ≡ end → ⊥) → Moved s w high base x w (refusing x 4 (x .top))
@@ -263,7 +267,21 @@ module _ (s w : List ℕ) (high base : ℕ) (x : State) (g : Going s w base x) (
             ∙ sym before;
         kept = ka;
         less = omega (arith, m);
+        held = record { part = refl; low = refl; high = refl; goals = refl; first = refl; second = refl; from = refl; field = refl };
+        ahead = omega arith;
       }
+
+held-both : (x y z : State) → Held x y → Held y z → Held x z
+held-both x y z a b = record {
+  part = b .part ∙ a .part;
+  low = b .low ∙ a .low;
+  high = b .high ∙ a .high;
+  goals = b .goals ∙ a .goals;
+  first = b .first ∙ a .first;
+  second = b .second ∙ a .second;
+  from = b .from ∙ a .from;
+  field = b .field ∙ a .field;
+}
 
 -- two steps
 pub moved-both : (s w : List ℕ) (high base : ℕ) (x : State) (w′ : List ℕ) (y : State) (w″ : List ℕ) (z : State) → Moved s w high base x w′ y → Moved s w′ high base y w″ z → Moved s w high base x w″ z
@@ -272,13 +290,15 @@ moved-both s w high base x w′ y w″ z a b = record {
   same = b .same ∙ a .same;
   kept = kept-both w w′ w″ base (base + readingRoom) base (base + readingRoom) base (base + readingRoom) (a .kept) (b .kept) (omega arith) (omega arith) (omega arith) (omega arith);
   less = omega (arith, a .less, b .less);
+  held = held-both x y z (a .held) (b .held);
+  ahead = omega (arith, a .ahead, b .ahead);
 }
 
 -- a mode that is neither of two
 zero-left : (m : ℕ) → m ≤ 2 → (m ≡ 2 → ⊥) → (m ≡ 1 → ⊥) → m ≡ 0
 zero-left m l a b = omega (arith, a, b)
 
--- the returns of `turn`: what was read is a term that no field encloses, or nothing was read
+-- the returns of `turn_within`: what was read is a term that no field encloses, or nothing was read
 module _ (s w : List ℕ) (high base : ℕ) (x : State) (w′ : List ℕ) (r : State) (v : Moved s w high base x w′ r) where
   pub turned-whole : r .mode ≡ 2 → r .depth ≡ 0 → Turned s w high base x w′ r
   unfolding resumed told
@@ -293,33 +313,3 @@ module _ (s w : List ℕ) (high base : ℕ) (x : State) (w′ : List ℕ) (r : S
     moved = v;
     over = λ n. when-refused s w′ high base r (zero-left (r .mode) (v .going .modes) m n) ∙ rw (eq-eqb (r .mode) 0 (zero-left (r .mode) (v .going .modes) m n));
   }
-
--- what the loop holds
-module _ (s w₀ : List ℕ) (high base : ℕ) (x : State) where
-  pub reached-start : Going s w₀ base x → x .mode ≡ 1 → Reached s w₀ high base x w₀ x
-  reached-start g m = record { going = g; same = refl; kept = kept-same w₀ base (base + readingRoom); over = λ n. absurd (n m) }
-
-  pub reached-next : (w : List ℕ) (y : State) → Reached s w₀ high base x w y → (w′ : List ℕ) (z : State) → Turned s w high base y w′ z → Reached s w₀ high base x w′ z
-  reached-next w y r w′ z v = record {
-    going = v .moved .going;
-    same = v .moved .same ∙ r .same;
-    kept = kept-both w₀ w w′ base (base + readingRoom) base (base + readingRoom) base (base + readingRoom) (r .kept) (v .moved .kept) (omega arith) (omega arith) (omega arith) (omega arith);
-    over = v .over;
-  }
-
--- the first state of `read_term`, and what it ensures
-module _ (s : List ℕ) (at end n : ℕ) (w : List ℕ) (base : ℕ) (a : at ≤ end) (b : end ≤ length s) where
-  pub begins : (x : State) → x ≡ beginning at end n → base + readingRoom ≤ length w → Going s w base x × (x .mode ≡ 1)
-  unfolding Waits
-  begins x e r = rw e (record { ordered = a; waits = b; few = omega arith; most = omega arith; behind = omega arith; near = λ z. inl refl; room = r; modes = omega arith }, refl)
-
-  whole : (high : ℕ) (x : State) → x ≡ beginning at end n → outcome s w high base x ≡ reads s high at end n
-  unfolding resumed
-  whole high x e = rw e (when-reads s w high base (beginning at end n) refl)
-
-  pub ensured : (high : ℕ) (x : State) → x ≡ beginning at end n → (w′ : List ℕ) (y : State) → Reached s w high base x w′ y → (y .mode ≡ 1 → ⊥) → (r : TermRead) → r ≡ told y
-      → ((f : ℕ) → end - at < f → r ≡ termShape (readTerm f s high at end n)) × (Within at end r × Kept w w′ base (base + readingRoom))
-  unfolding reads
-  ensured high x ex w′ y v m r er =
-      let e : r ≡ reads s high at end n = er ∙ sym (v .over m) ∙ v .same ∙ whole high x ex in
-      (λ f l. e ∙ reads-any s high f at end n b l, (rw e (within s high (suc (length s)) at end n), v .kept))

@@ -10,9 +10,10 @@ use Rattle.words.specs.Word.{word, putWord}
 use Rattle.words.specs.Kept.{Kept}
 use Rattle.words.proofs.WordLaws.{length-putWord, word-same, word-other}
 use Rattle.words.proofs.KeptLaws.{kept-put, kept-both, word-below}
-use Rattle.format.specs.declared.terms.TermRead.{TermRead}
-use Rattle.format.specs.declared.terms.TermRead.the-variants.{Refused}
-use Rattle.format.specs.Waiting.{goOn, reads, closing, endOf, putWaiting, resumed, Waits}
+use Rattle.format.specs.TermRead.{TermRead}
+use Rattle.format.specs.TermRead.{Refused}
+use Rattle.format.specs.Waiting.{goOn, reads, closing, putWaiting, resumed, Waits}
+use Rattle.format.specs.States.{endOf}
 
 closing-refused : (rec : ℕ → ℕ → ℕ → TermRead) (at end left k p : ℕ) → closing rec at end left (Refused k p) ≡ Refused k p
 unfolding closing goOn

@@ -10,6 +10,11 @@ pub mod ReadTerms
 pub mod Goals
 pub mod Encoding
 pub mod Standing
+pub mod TermRead
+pub mod GoalsRead
 pub mod Shapes
 pub mod Reader
+pub mod Next
+pub mod States
 pub mod Waiting
+pub mod Reading

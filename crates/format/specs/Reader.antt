@@ -1,12 +1,7 @@
--- Document 01, "The reader moves over the file one field at a time": from a field to the offset behind its contents, within what encloses it.
+-- Document 01, "The reader moves over the file one field at a time": the field at which it stands ends within what encloses it.
 use Prim.Native.Nat.{ℕ, _+_, _≤_}
 use Rattle.format.specs.declared.headers.HeaderRead.{HeaderRead}
 use Rattle.format.specs.declared.headers.HeaderRead.the-variants.{Refused, Field}
-
--- the offset behind the three header bytes and the contents; a refusal leaves the reader where it stands
-unfoldable pub behindField : (at : ℕ) → HeaderRead → ℕ
-behindField at (Refused k p) = at
-behindField at (Field tag len) = at + 3 + len
 
 -- the field at a place ends within what ends at `end`
 unfoldable pub Encloses : (at end : ℕ) → HeaderRead → Type 0

@@ -5,10 +5,10 @@ use lib.Dec.{eqb}
 use lib.ListN.{length}
 use Rattle.format.specs.declared.headers.HeaderRead.{HeaderRead}
 use Rattle.format.specs.declared.headers.HeaderRead.the-variants as H
-use Rattle.format.specs.declared.terms.TermRead.{TermRead}
-use Rattle.format.specs.declared.terms.TermRead.the-variants as T
-use Rattle.format.specs.declared.goals.GoalsRead.{GoalsRead}
-use Rattle.format.specs.declared.goals.GoalsRead.the-variants as G
+use Rattle.format.specs.TermRead.{TermRead}
+use Rattle.format.specs.TermRead as T
+use Rattle.format.specs.GoalsRead.{GoalsRead}
+use Rattle.format.specs.GoalsRead as G
 use Rattle.format.specs.Refusals.{number, lengthWrong}
 use Rattle.format.specs.Results.{Result, told}
 use Rattle.format.specs.Headers.{Header}

@@ -9,14 +9,14 @@ use lib.ListN.{length}
 use Rattle.words.specs.Word.{word, putWord}
 use Rattle.words.specs.Kept.{Kept}
 use Rattle.format.specs.declared.headers.HeaderRead.{HeaderRead}
-use Rattle.format.specs.declared.terms.TermRead.{TermRead}
-use Rattle.format.specs.declared.terms.TermRead.the-variants.{Refused, Read}
+use Rattle.format.specs.declared.state.State.{State}
+use Rattle.format.specs.TermRead.{TermRead, Refused, Read}
 use Rattle.format.specs.Limits.{mostTermFields}
 use Rattle.format.specs.Tags.{hiproofKind}
 use Rattle.format.specs.Headers.{headerAt}
 use Rattle.format.specs.ReadTerms.{readTerm}
 use Rattle.format.specs.Shapes.{headerShape, termShape, ending}
-use Rattle.format.specs.declared.waiting.State.{State}
+use Rattle.format.specs.States.{endOf}
 
 -- the bytes that the fields that wait take: at most every term field of a file waits, in four bytes
 abbrev pub readingRoom : ℕ
@@ -36,10 +36,6 @@ unfoldable pub closing : (rec : ℕ → ℕ → ℕ → TermRead) → (at end le
 closing rec at end zero r = goOn r (ending at end)
 closing rec at end (suc k) r = goOn r (λ next m. goOn (rec next end m) (ending at end))
 
--- the end of the field at a place
-unfoldable pub endOf : List ℕ → (at : ℕ) → ℕ
-endOf s at = at + 3 + word s (at + 1)
-
 -- a field that waits takes four bytes: how far behind the place of the field around it it stands, and how many inner terms follow the one that is read now
 unfoldable pub putWaiting : List ℕ → (low gap left : ℕ) → List ℕ
 putWaiting w low gap left = putWord (putWord w low gap) (low + 2) left
@@ -49,14 +45,6 @@ unfoldable pub resumed : (s w : List ℕ) (high base top depth : ℕ) → TermRe
 resumed s w high base top zero r = r
 resumed s w high base top (suc k) r =
     resumed s w high base (top - word w (base + k * 4)) k (closing (reads s high) top (endOf s top) (word w (base + k * 4 + 2)) r)
-
--- before the first field nothing waits
-abbrev pub beginning : (at end count : ℕ) → State
-beginning at end n = record { mode = 1; at = at; end = end; fields = n; depth = 0; top = at; number = 0; place = 0 }
-
--- a refusal
-abbrev pub refusing : State → (number place : ℕ) → State
-refusing x k p = record { mode = 0; at = x .at; end = x .end; fields = x .fields; depth = x .depth; top = x .top; number = k; place = p }
 
 -- what a state in which nothing is left to read comes to
 unfoldable pub told : State → TermRead
@@ -89,12 +77,25 @@ pub record Going (s w : List ℕ) (base : ℕ) (x : State) : Type 0 where
 unfoldable pub weight : List ℕ → State → ℕ
 weight s x = (length s - x .at) * 2 + x .depth + x .mode
 
+-- what stays while a term is read: the part of the file, what may stand in the term, and what was counted before it
+pub record Held (x r : State) : Type 0 where
+  pub part : r .part ≡ x .part
+  pub low : r .low ≡ x .low
+  pub high : r .high ≡ x .high
+  pub goals : r .goals ≡ x .goals
+  pub first : r .first ≡ x .first
+  pub second : r .second ≡ x .second
+  pub from : r .from ≡ x .from
+  pub field : r .field ≡ x .field
+
 -- one step
 pub record Moved (s w : List ℕ) (high base : ℕ) (x : State) (w′ : List ℕ) (r : State) : Type 0 where
   pub going : Going s w′ base r
   pub same : outcome s w′ high base r ≡ outcome s w high base x
   pub kept : Kept w w′ base (base + readingRoom)
   pub less : weight s r < weight s x
+  pub held : Held x r
+  pub ahead : x .at ≤ r .at
 
 -- what is known before a field: it is the one at the place of a term that is to be read
 pub record Enters (s w : List ℕ) (high base : ℕ) (x : State) (h : HeaderRead) : Type 0 where
@@ -102,14 +103,7 @@ pub record Enters (s w : List ℕ) (high base : ℕ) (x : State) (h : HeaderRead
   pub reading : x .mode ≡ 1
   pub header-is : h ≡ headerShape (headerAt s (x .at) (x .end) hiproofKind high (leb mostTermFields (x .fields)))
 
--- any number of turns, from the bytes w₀ and the state x to w and y
-pub record Reached (s w₀ : List ℕ) (high base : ℕ) (x : State) (w : List ℕ) (y : State) : Type 0 where
-  pub going : Going s w base y
-  pub same : outcome s w high base y ≡ outcome s w₀ high base x
-  pub kept : Kept w₀ w base (base + readingRoom)
-  pub over : (y .mode ≡ 1 → ⊥) → outcome s w high base y ≡ told y
-
--- one turn: to the next term that is to be read, or to the end
+-- one turn: to the next term that is to be read, or to the end of the outermost
 pub record Turned (s w : List ℕ) (high base : ℕ) (x : State) (w′ : List ℕ) (r : State) : Type 0 where
   pub moved : Moved s w high base x w′ r
   pub over : (r .mode ≡ 1 → ⊥) → outcome s w′ high base r ≡ told r

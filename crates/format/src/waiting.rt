@@ -3,49 +3,17 @@ ghost use mathlib.Core.Path.{_≡_};
 ghost use mathlib.Core.List.{List};
 ghost use Prim.Native.Nat.{ℕ, _+_, _≤_, _<_};
 ghost use lib.ListN.{length};
-ghost use Rattle.format.specs.Waiting.{refusing, putWaiting, Going, Moved, Enters, Turned};
+ghost use Rattle.format.specs.Waiting.{putWaiting, Going, Moved, Enters, Turned};
 use crate::headers::HeaderRead;
+use crate::state::GAVE;
+use crate::state::READS;
+use crate::state::State;
+use crate::state::refused;
 use crate::tags::inner_at;
 use crate::tags::least_at;
 use crate::tags::row_of;
 use words::load16;
 use words::store16;
-
-// At most so many term fields stand in a file, and so many wait.
-pub const MOST_TERM_FIELDS: usize = 4096;
-
-// The bytes that they take.
-pub const READING_ROOM: usize = 4 * MOST_TERM_FIELDS;
-
-// What comes next: nothing after a refusal, the term at a place, or what follows a term that was read.
-pub const REFUSED: u8 = 0;
-
-pub const READS: u8 = 1;
-
-pub const GAVE: u8 = 2;
-
-// The place of the term to read or behind the one that was read, the end of what encloses it, the term fields so far, the number of fields that wait and the place of the innermost of them; of a refusal its number and place.
-pub struct State {
-    pub mode: u8,
-    pub at: usize,
-    pub end: usize,
-    pub fields: usize,
-    pub depth: usize,
-    pub top: usize,
-    pub number: u8,
-    pub place: usize,
-}
-
-// A refusal ends the reading.
-fn refused(x: State, number: u8, place: usize) -> State
-    ensures { λ r. ⌜ r ≡ refusing x number place ⌝ }
-{
-    let mut r = x;
-    r.mode = REFUSED;
-    r.number = number;
-    r.place = place;
-    r
-}
 
 // A field that waits: how far behind the place of the field around it it stands, and how many inner terms follow the one that is read now.
 fn push(work: &mut [u8], low: usize, gap: u16, left: u16)
@@ -112,8 +80,8 @@ fn leave(x: State, s: &[u8], work: &mut [u8], base: usize) -> State
     r
 }
 
-// From a header to the next place where a term is to be read, if there is one: behind a term that was read, all fields that end there are left.
-pub fn turn(x: State, header: HeaderRead, s: &[u8], work: &mut [u8], base: usize) -> State
+// From the header of a term's field to the next place where a term is to be read, if there is one: behind a term that was read, all fields that end there are left.
+pub fn turn_within(x: State, header: HeaderRead, s: &[u8], work: &mut [u8], base: usize) -> State
     requires { ⌜ ((high : ℕ) × Enters (now s) (now work) high base x header) ⌝ }
     ensures { λ r. ⌜ ((high : ℕ) → Enters (now (s .entry)) (now (work .entry)) high base x header → Turned (now (s .entry)) (now (work .entry)) high base x (now (work .exit)) r) ⌝ }
 {

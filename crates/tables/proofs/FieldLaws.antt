@@ -10,7 +10,7 @@ use lib.ListN.{length, getD}
 use borrow.Author.Tests.{eqb-true, leb-false, eq-eqb, ne-eqb}
 use Rattle.words.specs.Word.{word}
 use Rattle.format.specs.declared.headers.HeaderRead.the-variants as H
-use Rattle.format.specs.declared.terms.TermRead.the-variants as R
+use Rattle.format.specs.TermRead as R
 use Rattle.format.specs.Limits.{mostRules, mostDefinitions, mostTermFields}
 use Rattle.format.specs.Refusals.{number, lengthWrong}
 use Rattle.format.specs.Results.{Result, gives, refused, andThen, told}

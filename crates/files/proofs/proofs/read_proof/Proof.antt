@@ -7,8 +7,8 @@ use lib.ListN.{length}
 use denote.Ref.{now}
 use borrow.Author.Needs.{needs}
 use Rattle.words.proofs.KeptLaws.{kept-same}
-use Rattle.format.specs.declared.goals.GoalsRead.the-variants as G
-use Rattle.format.specs.declared.terms.TermRead.{TermRead}
+use Rattle.format.specs.GoalsRead as G
+use Rattle.format.specs.TermRead.{TermRead}
 use Rattle.format.specs.Inputs.{ofSize}
 use Rattle.format.specs.Tags.{hiproofKind}
 use Rattle.format.specs.ReadTerms.{readTerm}

@@ -24,7 +24,7 @@ use Rattle.format.proofs.tags.inner_at.Reads as inner-at-reads
 use Rattle.format.proofs.tags.least_at.Reads as least-at-reads
 use Rattle.format.proofs.tags.row_of.Reads as row-of-reads
 use Rattle.format.proofs.waiting.push.Reads as push-reads
-use Rattle.format.proofs.waiting.refused.Reads as refused-reads
+use Rattle.format.proofs.state.refused.Reads as refused-reads
 
 abbrev S : Type 0
 S = tie.Start

@@ -6,13 +6,13 @@ use native.Mathlib.Omega.{arith}
 use denote.Ref.{now}
 use lib.ListN.{length}
 use borrow.Author.Needs.{needs}
-use Rattle.format.specs.Waiting.{endOf}
+use Rattle.format.specs.States.{endOf}
 use Rattle.format.proofs.TurnLaws.{top-inside, ends-at, leave-ends, leave-refused, leave-more}
 use Rattle.format.proofs.waiting.leave.Statement.{statement}
 use Rattle.format.proofs.waiting.leave.Tie as tie
 use Rattle.format.proofs.waiting.leave.Reads as reads
 use Rattle.format.proofs.waiting.leave.Lts as lts
-use Rattle.format.proofs.waiting.refused.Reads as refused-reads
+use Rattle.format.proofs.state.refused.Reads as refused-reads
 use Rattle.words.proofs.load16.Reads as load16-reads
 use Rattle.words.proofs.store16.Reads as store16-reads
 

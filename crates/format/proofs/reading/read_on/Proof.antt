@@ -52,7 +52,7 @@ use Rattle.format.specs.Shapes.{headerShape}
 use Rattle.format.specs.Waiting.{Going, Enters, Turned, Reached, weight}
 use Rattle.format.specs.declared.reader.Reader.{Reader}
 use Rattle.format.specs.declared.headers.HeaderRead.{HeaderRead}
-use Rattle.format.specs.declared.waiting.State.{State}
+use Rattle.format.specs.declared.state.State.{State}
 use Rattle.format.proofs.TurnLaws.{inside, enters, reached-start, reached-next}
 use Rattle.format.proofs.Again.{LentAgain, lends-again, comes-back}
 use Rattle.format.proofs.reader.Reader as T

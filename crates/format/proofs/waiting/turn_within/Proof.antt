@@ -1,17 +1,17 @@
--- `waiting::turn` meets its contract. The invariant: whatever came to the state before the loop comes to this one.
+-- `waiting::turn_within` meets its contract. The invariant: whatever came to the state before the loop comes to this one.
 -- Assumes nothing.
 use mathlib.Core.Path.{_≡_, refl, _∙_}
 use mathlib.Core.List.{List}
 use Prim.Native.Nat.{ℕ}
 use native.Mathlib.Omega.{arith}
 use lib.ListN.{length}
-use Rattle.format.specs.declared.waiting.State.{State}
+use Rattle.format.specs.declared.state.State.{State}
 use Rattle.format.specs.Waiting.{weight, Moved}
 use Rattle.format.proofs.TurnLaws.{moved-both, turned-whole, turned-on}
-use Rattle.format.proofs.waiting.turn.Statement.{statement}
-use Rattle.format.proofs.waiting.turn.Tie as tie
-use Rattle.format.proofs.waiting.turn.Reads as reads
-use Rattle.format.proofs.waiting.turn.Lts as lts
+use Rattle.format.proofs.waiting.turn_within.Statement.{statement}
+use Rattle.format.proofs.waiting.turn_within.Tie as tie
+use Rattle.format.proofs.waiting.turn_within.Reads as reads
+use Rattle.format.proofs.waiting.turn_within.Lts as lts
 use Rattle.format.proofs.waiting.enter.Reads as enter-reads
 use Rattle.format.proofs.waiting.leave.Reads as leave-reads
 
@@ -48,8 +48,8 @@ same-length-2 c = c .before .before .loop .inv .1 ∙ c .before .before .before 
 returns-2 : tie.Need-returns-2 Inv-loop μ-loop
 returns-2 c = λ high b. turned-on _ _ _ _ _ _ _ (c .before .before .loop .inv .0 high _ _ (c .before .before .before .before .before .enter .ensures _ high b)) (c .if1 .left)
 
-pub turn-spec : {M : Type 1} → statement M
-turn-spec =
+pub turn-within-spec : {M : Type 1} → statement M
+turn-within-spec =
     tie.close
     (tie.spec
     Inv-loop

@@ -1,0 +1,311 @@
+// The fields of a file that stand in no term: goal lists, rules, definitions and entries; and what comes behind each, and behind a term.
+ghost use mathlib.Core.Path.{_≡_};
+ghost use Prim.Native.Nat.{_+_, _≤_, _<_};
+ghost use lib.ListN.{length};
+ghost use Rattle.format.specs.Next.{fullTable, fullFlat, lowest};
+ghost use Rattle.format.specs.Reader.{Encloses};
+ghost use Rattle.format.specs.States.{begunTerm, askingList, nextField, nextEntry, tableField, entryTaken, remainingTaken, listTaken, taken, behindTerm, blankState, begunFile, begunTable};
+use crate::headers::HeaderRead;
+use crate::state::BODY;
+use crate::state::ENTRIES;
+use crate::state::FIELDS;
+use crate::state::GAVE;
+use crate::state::JOB_GOALS;
+use crate::state::JOB_TERM;
+use crate::state::MOST_TERM_FIELDS;
+use crate::state::PROOF_TERM;
+use crate::state::READS;
+use crate::state::REFUSED;
+use crate::state::REMAINING;
+use crate::state::ROOTS;
+use crate::state::State;
+use crate::state::refused;
+use crate::tags::DEFINITION;
+use crate::tags::ENTRY;
+use crate::tags::GOAL_LIST;
+use crate::tags::HIPROOF;
+use crate::tags::RULE;
+use crate::tags::TACTIC;
+use words::load16;
+
+// The tag of a rule; the other fields of a table are definitions.
+const RULE_TAG: u8 = 1;
+
+// The tag of a use; the other entries are opens.
+const USE_TAG: u8 = 32;
+
+const MOST_BYTES: usize = 65535;
+
+const MOST_RULES: usize = 4096;
+
+const MOST_DEFINITIONS: usize = 256;
+
+const MOST_USES: usize = 4096;
+
+const MOST_OPENS: usize = 256;
+
+const MOST_GOALS: usize = 256;
+
+// Whether no more fields of a table with the tag at this place may come.
+fn is_full_table(s: &[u8], at: usize, rules: usize, definitions: usize) -> bool
+    requires { ⌜ at < length (now s) ⌝ }
+    ensures { λ r. ⌜ r ≡ fullTable (now (s .entry)) at rules definitions ⌝ }
+{
+    if s[at] == RULE_TAG {
+        MOST_RULES <= rules
+    } else {
+        MOST_DEFINITIONS <= definitions
+    }
+}
+
+// Whether no more entries with the tag at this place may come.
+fn is_full_flat(s: &[u8], at: usize, uses: usize, opens: usize) -> bool
+    requires { ⌜ at < length (now s) ⌝ }
+    ensures { λ r. ⌜ r ≡ fullFlat (now (s .entry)) at uses opens ⌝ }
+{
+    if s[at] == USE_TAG {
+        MOST_USES <= uses
+    } else {
+        MOST_OPENS <= opens
+    }
+}
+
+// Once there is a definition no rule may follow.
+fn lowest_kind(definitions: usize) -> u8
+    ensures { λ r. ⌜ r ≡ lowest definitions ⌝ }
+{
+    if definitions == 0 { RULE } else { DEFINITION }
+}
+
+// A term is read next. Kinds up to high may stand in it.
+fn begin_term(x: State, part: u8, at: usize, end: usize, high: u8) -> State
+    ensures { λ r. ⌜ r ≡ begunTerm x part at end high ⌝ }
+{
+    let mut r = x;
+    r.mode = READS;
+    r.part = part;
+    r.low = HIPROOF;
+    r.high = high;
+    r.full = MOST_TERM_FIELDS <= x.fields;
+    r.at = at;
+    r.end = end;
+    r.top = at;
+    r
+}
+
+// A goal list is read next.
+fn ask_list(x: State, part: u8, at: usize, end: usize) -> State
+    ensures { λ r. ⌜ r ≡ askingList x part at end ⌝ }
+{
+    let mut r = x;
+    r.mode = READS;
+    r.part = part;
+    r.low = GOAL_LIST;
+    r.high = GOAL_LIST;
+    r.full = false;
+    r.at = at;
+    r.end = end;
+    r.top = at;
+    r
+}
+
+// The next field of a table is read at a place, or the file ends there.
+fn next_field(x: State, at: usize, s: &[u8]) -> State
+    ensures { λ r. ⌜ r ≡ nextField (now (s .entry)) x at ⌝ }
+{
+    let end = s.len();
+    let mut r = x;
+    r.mode = GAVE;
+    r.part = FIELDS;
+    r.low = RULE;
+    r.high = DEFINITION;
+    r.full = false;
+    r.at = at;
+    r.end = end;
+    r.top = at;
+    if end <= at {
+        return r;
+    }
+    r.mode = READS;
+    r.low = lowest_kind(x.second);
+    r.full = is_full_table(s, at, x.first, x.second);
+    r
+}
+
+// The next entry is read at a place, or the file ends there.
+fn next_entry(x: State, at: usize, s: &[u8]) -> State
+    ensures { λ r. ⌜ r ≡ nextEntry (now (s .entry)) x at ⌝ }
+{
+    let end = s.len();
+    let mut r = x;
+    r.mode = GAVE;
+    r.part = ENTRIES;
+    r.low = ENTRY;
+    r.high = ENTRY;
+    r.full = false;
+    r.at = at;
+    r.end = end;
+    r.top = at;
+    if end <= at {
+        return r;
+    }
+    r.mode = READS;
+    r.full = is_full_flat(s, at, x.first, x.second);
+    r
+}
+
+// A rule, or a definition, whose body is read next.
+fn table_field(x: State, tag: u8, close: usize, s: &[u8]) -> State
+    requires { ⌜ (x .at ≤ length (now s)) × (x .first ≤ x .at) ⌝ }
+    ensures { λ r. ⌜ r ≡ tableField (now (s .entry)) x tag close ⌝ }
+{
+    let mut r = x;
+    if tag == RULE_TAG {
+        r.first = x.first + 1;
+        r.from = close;
+        return next_field(r, close, s);
+    }
+    r.field = x.at;
+    begin_term(r, BODY, x.at + 5, close, TACTIC)
+}
+
+// A use or an open.
+fn entry(x: State, tag: u8, close: usize, s: &[u8]) -> State
+    requires { ⌜ (x .at ≤ length (now s)) × (x .first ≤ x .at) × (x .second ≤ x .at) ⌝ }
+    ensures { λ r. ⌜ r ≡ entryTaken (now (s .entry)) x tag close ⌝ }
+{
+    let mut r = x;
+    if tag == USE_TAG {
+        r.first = x.first + 1;
+        return next_entry(r, close, s);
+    }
+    r.second = x.second + 1;
+    next_entry(r, close, s)
+}
+
+// The list of those remaining ends a proof file: nothing may be left behind it.
+fn remaining(x: State, count: usize, close: usize) -> State
+    ensures { λ r. ⌜ r ≡ remainingTaken x count close ⌝ }
+{
+    if close != x.end {
+        return refused(x, 4, close);
+    }
+    let mut r = x;
+    r.mode = GAVE;
+    r.at = close;
+    r.top = close;
+    r.second = count;
+    r
+}
+
+// A goal list of so many goals: those remaining, or the first list of a file.
+fn goal_list(x: State, count: usize, close: usize, s: &[u8]) -> State
+    ensures { λ r. ⌜ r ≡ listTaken (now (s .entry)) x count close ⌝ }
+{
+    if MOST_GOALS < count {
+        return refused(x, 5, x.at);
+    }
+    if x.part == REMAINING {
+        return remaining(x, count, close);
+    }
+    let mut r = x;
+    r.goals = count;
+    r.from = close;
+    if x.part == ROOTS {
+        return next_entry(r, close, s);
+    }
+    if x.part == JOB_GOALS {
+        return begin_term(r, JOB_TERM, close, x.end, TACTIC);
+    }
+    begin_term(r, PROOF_TERM, close, x.end, HIPROOF)
+}
+
+// From the header of a field that stands in no term to what is read next.
+pub fn take(x: State, header: HeaderRead, s: &[u8]) -> State
+    requires { ⌜ (x .at ≤ x .end) × (x .end ≤ length (now s)) × (x .first ≤ x .at) × (x .second ≤ x .at) × Encloses (x .at) (x .end) header ⌝ }
+    ensures { λ r. ⌜ r ≡ taken (now (s .entry)) x header ⌝ }
+{
+    match header {
+        HeaderRead::Refused(number, place) => refused(x, number, place),
+        HeaderRead::Field(tag, len) => {
+            let close = x.at + 3 + len;
+            if x.part == FIELDS {
+                return table_field(x, tag, close, s);
+            }
+            if x.part == ENTRIES {
+                return entry(x, tag, close, s);
+            }
+            goal_list(x, len / 2, close, s)
+        }
+    }
+}
+
+// Behind a term that no field encloses: the next definition, those remaining, or the end of the file. Nothing may be left in the definition, and nothing behind the term of a job.
+pub fn behind_term(x: State, s: &[u8]) -> State
+    requires { ⌜ (x .part ≡ 6 → x .field + 2 < length (now s)) × (x .at ≤ length (now s)) × (x .second ≤ x .at) ⌝ }
+    ensures { λ r. ⌜ r ≡ behindTerm (now (s .entry)) x ⌝ }
+{
+    let end = s.len();
+    let mut r = x;
+    if x.part == BODY {
+        if x.at != x.field + 3 + load16(s, x.field + 1) as usize {
+            return refused(x, 4, x.field);
+        }
+        r.second = x.second + 1;
+        return next_field(r, x.at, s);
+    }
+    if x.part == JOB_TERM {
+        if x.at != end {
+            return refused(x, 4, x.at);
+        }
+        return r;
+    }
+    r.rest = x.at;
+    ask_list(r, REMAINING, x.at, end)
+}
+
+// Nothing of a file is read.
+fn blank(part: u8) -> State
+    ensures { λ r. ⌜ r ≡ blankState part ⌝ }
+{
+    State {
+        mode: REFUSED,
+        part,
+        low: 0,
+        high: 0,
+        full: false,
+        at: 0,
+        end: 0,
+        fields: 0,
+        depth: 0,
+        top: 0,
+        goals: 0,
+        first: 0,
+        second: 0,
+        from: 0,
+        rest: 0,
+        field: 0,
+        number: 0,
+        place: 0,
+    }
+}
+
+// A file that begins with a goal list, unless it is too long.
+pub fn begin_file(s: &[u8], part: u8) -> State
+    ensures { λ r. ⌜ r ≡ begunFile (now (s .entry)) part ⌝ }
+{
+    let end = s.len();
+    let x = blank(part);
+    if MOST_BYTES < end {
+        return refused(x, 1, 0);
+    }
+    ask_list(x, part, 0, end)
+}
+
+// A table.
+pub fn begin_table(s: &[u8]) -> State
+    ensures { λ r. ⌜ r ≡ begunTable (now (s .entry)) ⌝ }
+{
+    let x = blank(FIELDS);
+    next_field(x, 0, s)
+}
