@@ -305,6 +305,7 @@ module _ (s w : List ℕ) (high base : ℕ) (x : State) (w′ : List ℕ) (r : S
   turned-whole m z = record {
     moved = v;
     over = λ n. when-gave s w′ high base r (omega arith) ∙ ap (λ (k : ℕ). resumed s w′ high base (r .top) k (Read (r .at) (r .fields))) z ∙ rw (ne-eqb (r .mode) 0 (omega arith));
+    bare = λ n. z;
   }
 
   pub turned-on : (r .mode ≡ 2 → ⊥) → Turned s w high base x w′ r
@@ -312,4 +313,5 @@ module _ (s w : List ℕ) (high base : ℕ) (x : State) (w′ : List ℕ) (r : S
   turned-on m = record {
     moved = v;
     over = λ n. when-refused s w′ high base r (zero-left (r .mode) (v .going .modes) m n) ∙ rw (eq-eqb (r .mode) 0 (zero-left (r .mode) (v .going .modes) m n));
+    bare = λ n. absurd (m n);
   }

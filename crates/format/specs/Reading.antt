@@ -1,7 +1,7 @@
 -- Reading a file: what holds all along, and what one turn of the reading leaves.
 use Prim.Native.Nat.{ℕ, _+_, _≤_, _<_}
 use mathlib.Core.Path.{_≡_}
-use mathlib.Core.Bool.{cond}
+use mathlib.Core.Bool.{false, cond}
 use mathlib.Core.List.{List}
 use lib.Dec.{eqb, leb}
 use lib.ListN.{length}
@@ -9,19 +9,23 @@ use Rattle.words.specs.Kept.{Kept}
 use Rattle.format.specs.declared.headers.HeaderRead.{HeaderRead}
 use Rattle.format.specs.declared.state.State.{State}
 use Rattle.format.specs.Limits.{mostTermFields}
-use Rattle.format.specs.Tags.{hiproofKind}
+use Rattle.format.specs.Tags.{definitionKind, goalListKind, hiproofKind, tacticKind, entryKind}
+use Rattle.format.specs.Next.{fullTable, lowest, fullFlat}
 use Rattle.format.specs.Headers.{headerAt}
 use Rattle.format.specs.Shapes.{headerShape}
 use Rattle.format.specs.States.{endOf, taken, behindTerm}
 use Rattle.format.specs.Waiting.{readingRoom, Going, weight, Turned}
 
--- what holds all along: outside terms nothing waits and the file encloses the field; within one the kinds and the limit are those of terms; a definition whose body is read lies in the file; each field that was counted has bytes
+-- what holds all along: each field that was counted has bytes; outside terms nothing waits and the file encloses the field; a definition whose body is read lies in the file; and what may stand at the place is what the part allows
 pub record Reading (s w : List ℕ) (base : ℕ) (x : State) : Type 0 where
   pub going : Going s w base x
-  pub outside : x .part < 6 → (x .depth ≡ 0) × (x .end ≡ length s)
-  pub within : 6 ≤ x .part → x .mode ≡ 1 → (x .low ≡ hiproofKind) × (x .full ≡ leb mostTermFields (x .fields))
-  pub body : x .part ≡ 6 → endOf s (x .field) ≤ length s
   pub counts : (x .first ≤ x .at) × (x .second ≤ x .at)
+  pub outside : x .part < 6 → (x .depth ≡ 0) × (x .end ≡ length s)
+  pub body : x .part ≡ 6 → (endOf s (x .field) ≤ length s) × (x .second < x .at)
+  pub entries : x .part ≡ 1 → x .mode ≡ 1 → (x .at < length s) × (x .low ≡ entryKind) × (x .high ≡ entryKind) × (x .full ≡ fullFlat s (x .at) (x .first) (x .second))
+  pub fields : x .part ≡ 2 → x .mode ≡ 1 → (x .at < length s) × (x .low ≡ lowest (x .second)) × (x .high ≡ definitionKind) × (x .full ≡ fullTable s (x .at) (x .first) (x .second))
+  pub lists : x .part < 6 → (x .part ≡ 1 → ⊥) → (x .part ≡ 2 → ⊥) → x .mode ≡ 1 → (x .low ≡ goalListKind) × (x .high ≡ goalListKind) × (x .full ≡ false)
+  pub terms : 6 ≤ x .part → x .mode ≡ 1 → (x .low ≡ hiproofKind) × (x .high ≡ cond (eqb (x .part) 8) hiproofKind tacticKind) × (x .full ≡ leb mostTermFields (x .fields))
 
 -- the header of the field to read
 unfoldable pub headerOf : List ℕ → State → HeaderRead

@@ -107,3 +107,4 @@ pub record Enters (s w : List ℕ) (high base : ℕ) (x : State) (h : HeaderRead
 pub record Turned (s w : List ℕ) (high base : ℕ) (x : State) (w′ : List ℕ) (r : State) : Type 0 where
   pub moved : Moved s w high base x w′ r
   pub over : (r .mode ≡ 1 → ⊥) → outcome s w′ high base r ≡ told r
+  pub bare : r .mode ≡ 2 → r .depth ≡ 0
