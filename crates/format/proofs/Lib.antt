@@ -11,6 +11,8 @@ pub mod Lengths
 pub mod TurnLaws
 pub mod GoalsLaws
 pub mod TermTags
+pub mod TableTags
+pub mod StepLaws
 pub mod ReadLaw
 pub mod StandsLaws
 pub mod FieldBytes
