@@ -1,0 +1,63 @@
+-- `parts::behind_term` meets its contract: the tests of the part and of the place say which case of `behindTerm` holds.
+-- Assumes nothing.
+use mathlib.Core.Path.{sym}
+use native.Mathlib.Omega.{arith}
+use borrow.Author.Needs.{needs}
+use borrow.Author.Tests.{eq-eqb, ne-eqb}
+use Rattle.format.specs.Refusals.{number}
+use Rattle.format.specs.States.{behindTerm, endOf}
+use Rattle.format.proofs.parts.behind_term.Statement.{statement}
+use Rattle.format.proofs.parts.behind_term.Tie as tie
+
+add-if2 : tie.Need-add-if2
+add-if2 c = omega (arith, c .before .before .before .before .pre .0 (c .before .if1 .taken))
+
+add-load16 : tie.Need-add-load16
+add-load16 c = omega (arith, c .before .before .before .before .before .pre .0 (c .before .before .if1 .taken))
+
+load16-requires : tie.Need-load16-requires
+load16-requires c κs = omega (arith, c .before .before .before .before .before .pre .0 (c .before .before .if1 .taken))
+
+cast-if2 : tie.Need-cast-if2
+cast-if2 c = search needs
+
+add-if2-2 : tie.Need-add-if2-2
+add-if2-2 c = omega (arith, c .before .before .before .before .before .before .pre .0 (c .before .before .before .if1 .taken))
+
+refused-requires : tie.Need-refused-requires
+refused-requires c κs = search needs
+
+returns : tie.Need-returns
+unfolding behindTerm endOf number
+returns c = rw (eq-eqb _ _ (c .before .before .before .before .before .before .if1 .taken), sym (c .before .before .before .load16 .ensures), ne-eqb _ _ (c .before .if2 .taken)) (c .refused .ensures)
+
+add-r : tie.Need-add-r
+add-r c = search needs
+
+next-field-requires : tie.Need-next-field-requires
+next-field-requires c κs = search needs
+
+returns-2 : tie.Need-returns-2
+unfolding behindTerm endOf
+returns-2 c = rw (eq-eqb _ _ (c .before .before .before .before .before .before .before .if1 .taken), sym (c .before .before .before .before .load16 .ensures), eq-eqb _ _ (c .before .before .if2 .left)) (c .next-field .ensures)
+
+refused-requires-2 : tie.Need-refused-requires-2
+refused-requires-2 c κs = search needs
+
+returns-3 : tie.Need-returns-3
+unfolding behindTerm number
+returns-3 c = rw (ne-eqb _ _ (c .before .before .before .before .before .if1 .left), eq-eqb _ _ (c .before .before .before .if3 .taken), ne-eqb _ _ (c .before .if4 .taken)) (c .refused2 .ensures)
+
+returns-4 : tie.Need-returns-4
+unfolding behindTerm
+returns-4 c = rw (ne-eqb _ _ (c .before .before .before .before .if1 .left), eq-eqb _ _ (c .before .before .if3 .taken), eq-eqb _ _ (c .if4 .left))
+
+ask-list-requires : tie.Need-ask-list-requires
+ask-list-requires c κs = search needs
+
+returns-5 : tie.Need-returns-5
+unfolding behindTerm
+returns-5 c = rw (ne-eqb _ _ (c .before .before .before .if1 .left), ne-eqb _ _ (c .before .if3 .left)) (c .ask-list .ensures)
+
+pub behind-term-spec : {M : Type 1} → statement M
+behind-term-spec = tie.close (tie.spec add-if2 add-load16 load16-requires cast-if2 add-if2-2 refused-requires returns add-r next-field-requires returns-2 refused-requires-2 returns-3 returns-4 ask-list-requires returns-5)
