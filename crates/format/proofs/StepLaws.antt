@@ -314,11 +314,11 @@ module _ (s w : List ℕ) (base : ℕ) (x : State) (r : Reading s w base x) (m :
           go : (b c d e : Bool) → eqb (y .part) 6 ≡ b
               → Good′ (cond b (cond d (nextField s (counted y (y .goals) (y .first) (y .second + 1) (y .from) (y .rest) (y .field)) (y .at)) (refusing y (number lengthWrong) (y .field)))
               (cond c (cond e y (refusing y (number lengthWrong) (y .at))) (askingList (counted y (y .goals) (y .first) (y .second) (y .from) (y .at) (y .field)) 5 (y .at) (length s))))
-          go true c true e p = from-behind _ (fresh-field s w′ base (t .moved .going .room) _ (y .at) (t .bare n) inside-file (counted-less .0) (in-body (eqb-true (y .part) 6 p) .1))
+          go true c true e p = from-behind _ (fresh-field s w′ base (t .moved .going .room) (counted y (y .goals) (y .first) (y .second + 1) (y .from) (y .rest) (y .field)) (y .at) (t .bare n) inside-file (counted-less .0) (in-body (eqb-true (y .part) 6 p) .1))
           go true c false e p = refused-behind _ _
           go false true d true p = (read-reading, t .moved .less)
           go false true d false p = refused-behind _ _
-          go false false d e p = from-behind _ (fresh-list s w′ base (t .moved .going .room) _ (y .at) (t .bare n) inside-file (counted-less .0) (counted-less .1) 5 (omega arith) (λ z. absurd (omega arith)) (λ z. absurd (omega arith)))
+          go false false d e p = from-behind _ (fresh-list s w′ base (t .moved .going .room) (counted y (y .goals) (y .first) (y .second) (y .from) (y .at) (y .field)) (y .at) (t .bare n) inside-file (counted-less .0) (counted-less .1) 5 (omega arith) (λ z. absurd (omega arith)) (λ z. absurd (omega arith)))
 
     settled-good : Good′ (settled s y)
     unfolding settled

@@ -1,11 +1,13 @@
+-- `parts::ask_list` meets its contract: the state is what `askingList` says.
+-- Assumes nothing.
+use mathlib.Core.Path.{refl}
+use Rattle.format.specs.States.{askingList}
 use Rattle.format.proofs.parts.ask_list.Statement.{statement}
 use Rattle.format.proofs.parts.ask_list.Tie as tie
-use Rattle.format.proofs.parts.ask_list.Reads as reads
-use Rattle.format.proofs.parts.ask_list.Lts as lts
 
--- src/parts.rt:97:1
 returns : tie.Need-returns
-returns c = ?
+unfolding askingList
+returns c = refl
 
 pub ask-list-spec : {M : Type 1} → statement M
 ask-list-spec = tie.close (tie.spec returns)

@@ -1,32 +1,28 @@
+-- `parts::begin_file` meets its contract: the test of the length says which case of `begunFile` holds.
+-- Assumes nothing.
 use borrow.Author.Needs.{needs}
+use borrow.Author.Tests.{lt-ltb, le-ltb}
+use Rattle.format.specs.Refusals.{number}
+use Rattle.format.specs.States.{begunFile}
 use Rattle.format.proofs.parts.begin_file.Statement.{statement}
 use Rattle.format.proofs.parts.begin_file.Tie as tie
-use Rattle.format.proofs.parts.begin_file.Reads as reads
-use Rattle.format.proofs.parts.begin_file.Lts as lts
-use Rattle.format.proofs.parts.ask_list.Reads as ask-list-reads
-use Rattle.format.proofs.parts.blank.Reads as blank-reads
-use Rattle.format.proofs.state.refused.Reads as refused-reads
 
--- src/parts.rt:298:9
 blank-requires : tie.Need-blank-requires
 blank-requires c κs = search needs
 
--- src/parts.rt:300:9
 refused-requires : tie.Need-refused-requires
 refused-requires c κs = search needs
 
--- src/parts.rt:300:9
 returns : tie.Need-returns
-returns c = ?
+unfolding begunFile number
+returns c = rw (lt-ltb _ _ (c .before .if1 .taken), c .refused .ensures, c .before .before .blank .ensures)
 
--- src/parts.rt:302:5
 ask-list-requires : tie.Need-ask-list-requires
 ask-list-requires c κs = search needs
 
--- src/parts.rt:294:1
 returns-2 : tie.Need-returns-2
-returns-2 c = ?
+unfolding begunFile
+returns-2 c = rw (le-ltb _ _ (c .before .if1 .left), c .ask-list .ensures, c .before .before .blank .ensures)
 
 pub begin-file-spec : {M : Type 1} → statement M
-begin-file-spec =
-    tie.close (tie.spec blank-requires refused-requires returns ask-list-requires returns-2)
+begin-file-spec = tie.close (tie.spec blank-requires refused-requires returns ask-list-requires returns-2)

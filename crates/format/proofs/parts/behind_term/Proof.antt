@@ -1,89 +1,63 @@
+-- `parts::behind_term` meets its contract: the tests of the part and of the place say which case of `behindTerm` holds.
+-- Assumes nothing.
+use mathlib.Core.Path.{sym}
+use native.Mathlib.Omega.{arith}
 use borrow.Author.Needs.{needs}
+use borrow.Author.Tests.{eq-eqb, ne-eqb}
+use Rattle.format.specs.Refusals.{number}
+use Rattle.format.specs.States.{behindTerm, endOf}
 use Rattle.format.proofs.parts.behind_term.Statement.{statement}
 use Rattle.format.proofs.parts.behind_term.Tie as tie
-use Rattle.format.proofs.parts.behind_term.Reads as reads
-use Rattle.format.proofs.parts.behind_term.Lts as lts
-use Rattle.format.proofs.parts.ask_list.Reads as ask-list-reads
-use Rattle.format.proofs.parts.next_field.Reads as next-field-reads
-use Rattle.format.proofs.state.refused.Reads as refused-reads
-use Rattle.words.proofs.load16.Reads as load16-reads
 
--- src/parts.rt:251:20
 add-if2 : tie.Need-add-if2
-add-if2 c = ?
+add-if2 c = omega (arith, c .before .before .before .before .pre .0 (c .before .if1 .taken))
 
--- src/parts.rt:251:44
 add-load16 : tie.Need-add-load16
-add-load16 c = ?
+add-load16 c = omega (arith, c .before .before .before .before .before .pre .0 (c .before .before .if1 .taken))
 
--- src/parts.rt:251:34
 load16-requires : tie.Need-load16-requires
-load16-requires c κs = ?
+load16-requires c κs = omega (arith, c .before .before .before .before .before .pre .0 (c .before .before .if1 .taken))
 
--- src/parts.rt:251:34
 cast-if2 : tie.Need-cast-if2
 cast-if2 c = search needs
 
--- src/parts.rt:251:20
 add-if2-2 : tie.Need-add-if2-2
-add-if2-2 c = ?
+add-if2-2 c = omega (arith, c .before .before .before .before .before .before .pre .0 (c .before .before .before .if1 .taken))
 
--- src/parts.rt:252:13
 refused-requires : tie.Need-refused-requires
 refused-requires c κs = search needs
 
--- src/parts.rt:252:13
 returns : tie.Need-returns
-returns c = ?
+unfolding behindTerm endOf number
+returns c = rw (eq-eqb _ _ (c .before .before .before .before .before .before .if1 .taken), sym (c .before .before .before .load16 .ensures), ne-eqb _ _ (c .before .if2 .taken)) (c .refused .ensures)
 
--- src/parts.rt:254:20
 add-r : tie.Need-add-r
 add-r c = search needs
 
--- src/parts.rt:255:9
 next-field-requires : tie.Need-next-field-requires
 next-field-requires c κs = search needs
 
--- src/parts.rt:255:9
 returns-2 : tie.Need-returns-2
-returns-2 c = ?
+unfolding behindTerm endOf
+returns-2 c = rw (eq-eqb _ _ (c .before .before .before .before .before .before .before .if1 .taken), sym (c .before .before .before .before .load16 .ensures), eq-eqb _ _ (c .before .before .if2 .left)) (c .next-field .ensures)
 
--- src/parts.rt:259:13
 refused-requires-2 : tie.Need-refused-requires-2
 refused-requires-2 c κs = search needs
 
--- src/parts.rt:259:13
 returns-3 : tie.Need-returns-3
-returns-3 c = ?
+unfolding behindTerm number
+returns-3 c = rw (ne-eqb _ _ (c .before .before .before .before .before .if1 .left), eq-eqb _ _ (c .before .before .before .if3 .taken), ne-eqb _ _ (c .before .if4 .taken)) (c .refused2 .ensures)
 
--- src/parts.rt:261:9
 returns-4 : tie.Need-returns-4
-returns-4 c = ?
+unfolding behindTerm
+returns-4 c = rw (ne-eqb _ _ (c .before .before .before .before .if1 .left), eq-eqb _ _ (c .before .before .if3 .taken), eq-eqb _ _ (c .if4 .left))
 
--- src/parts.rt:264:5
 ask-list-requires : tie.Need-ask-list-requires
 ask-list-requires c κs = search needs
 
--- src/parts.rt:244:1
 returns-5 : tie.Need-returns-5
-returns-5 c = ?
+unfolding behindTerm
+returns-5 c = rw (ne-eqb _ _ (c .before .before .before .if1 .left), ne-eqb _ _ (c .before .if3 .left)) (c .ask-list .ensures)
 
 pub behind-term-spec : {M : Type 1} → statement M
-behind-term-spec =
-    tie.close
-    (tie.spec
-    add-if2
-    add-load16
-    load16-requires
-    cast-if2
-    add-if2-2
-    refused-requires
-    returns
-    add-r
-    next-field-requires
-    returns-2
-    refused-requires-2
-    returns-3
-    returns-4
-    ask-list-requires
-    returns-5)
+behind-term-spec = tie.close (tie.spec add-if2 add-load16 load16-requires cast-if2 add-if2-2 refused-requires returns add-r next-field-requires returns-2 refused-requires-2 returns-3 returns-4 ask-list-requires returns-5)

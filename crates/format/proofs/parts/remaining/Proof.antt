@@ -1,21 +1,22 @@
+-- `parts::remaining` meets its contract: the test of the end says which case of `remainingTaken` holds.
+-- Assumes nothing.
 use borrow.Author.Needs.{needs}
+use borrow.Author.Tests.{eq-eqb, ne-eqb}
+use Rattle.format.specs.Refusals.{number}
+use Rattle.format.specs.States.{remainingTaken}
 use Rattle.format.proofs.parts.remaining.Statement.{statement}
 use Rattle.format.proofs.parts.remaining.Tie as tie
-use Rattle.format.proofs.parts.remaining.Reads as reads
-use Rattle.format.proofs.parts.remaining.Lts as lts
-use Rattle.format.proofs.state.refused.Reads as refused-reads
 
--- src/parts.rt:191:9
 refused-requires : tie.Need-refused-requires
 refused-requires c κs = search needs
 
--- src/parts.rt:191:9
 returns : tie.Need-returns
-returns c = ?
+unfolding remainingTaken number
+returns c = rw (ne-eqb _ _ (c .before .if1 .taken)) (c .refused .ensures)
 
--- src/parts.rt:187:1
 returns-2 : tie.Need-returns-2
-returns-2 c = ?
+unfolding remainingTaken
+returns-2 c = rw (eq-eqb _ _ (c .if1 .left))
 
 pub remaining-spec : {M : Type 1} → statement M
 remaining-spec = tie.close (tie.spec refused-requires returns returns-2)
