@@ -8,7 +8,7 @@ use Prim.Native.Nat.{ℕ, _+_, _*_, _-_, _/_, _≤_, _<_}
 use native.Mathlib.Omega.{arith}
 use lib.Dec.{eqb, leb, ltb}
 use lib.ListN.{length}
-use borrow.Author.Tests.{eqb-true, eqb-false, leb-true, leb-false, ltb-true, ltb-false}
+use borrow.Author.Tests.{eqb-true, leb-false, eq-eqb, ne-eqb}
 use Rattle.words.proofs.KeptLaws.{kept-same}
 use Rattle.format.specs.declared.headers.HeaderRead.{HeaderRead}
 use Rattle.format.specs.declared.headers.HeaderRead.the-variants as H
@@ -22,6 +22,8 @@ use Rattle.format.specs.Next.{fullTable, lowest, fullFlat}
 use Rattle.format.specs.States.{refusing, asking, counted, begunTerm, askingList, nextField, nextEntry, tableField, entryTaken, remainingTaken, listTaken, taken, endOf, behindTerm}
 use Rattle.format.specs.Waiting.{readingRoom, Waits, Going, weight, Enters, Turned}
 use Rattle.format.specs.Reading.{Reading, headerOf, Reads, limited, settled, Turns, field, term, Step}
+use Rattle.format.specs.Reader.{Encloses}
+use Rattle.format.proofs.ReaderLaws.{encloses}
 use Rattle.format.proofs.HeaderLaws.{IsField, is-field, told-field}
 use Rattle.format.proofs.TableTags.{table-tag, lowest-least, two-bytes}
 use Rattle.format.proofs.TurnLaws.{inside}
@@ -139,6 +141,10 @@ refused-reading s w base x k p r = let g = r .going in record {
   lists = λ z i j n. absurd (omega arith);
   terms = λ z n. absurd (omega arith);
 }
+
+pub header-encloses : (s : List ℕ) (x : State) (h : HeaderRead) → h ≡ headerOf s x → Encloses (x .at) (x .end) h
+unfolding headerOf
+header-encloses s x h e = subst (Encloses (x .at) (x .end)) (sym e) (encloses s (x .at) (x .end) (x .low) (x .high) (x .full))
 
 -- a field outside terms
 module _ (s w : List ℕ) (base : ℕ) (x : State) (r : Reading s w base x) (m : x .mode ≡ 1) (o : x .part < 6) where
@@ -314,21 +320,30 @@ module _ (s w : List ℕ) (base : ℕ) (x : State) (r : Reading s w base x) (m :
           go : (b c d e : Bool) → eqb (y .part) 6 ≡ b
               → Good′ (cond b (cond d (nextField s (counted y (y .goals) (y .first) (y .second + 1) (y .from) (y .rest) (y .field)) (y .at)) (refusing y (number lengthWrong) (y .field)))
               (cond c (cond e y (refusing y (number lengthWrong) (y .at))) (askingList (counted y (y .goals) (y .first) (y .second) (y .from) (y .at) (y .field)) 5 (y .at) (length s))))
-          go true c true e p = from-behind _ (fresh-field s w′ base (t .moved .going .room) (counted y (y .goals) (y .first) (y .second + 1) (y .from) (y .rest) (y .field)) (y .at) (t .bare n) inside-file (counted-less .0) (in-body (eqb-true (y .part) 6 p) .1))
+          go true c true e p = from-behind _ (fresh-field s w′ base (t .moved .going .room) (counted y (y .goals) (y .first) (y .second + 1) (y .from) (y .rest) (y .field)) (y .at) (t .bare n) inside-file (counted-less .0) (omega (arith, in-body (eqb-true (y .part) 6 p) .1)))
           go true c false e p = refused-behind _ _
           go false true d true p = (read-reading, t .moved .less)
           go false true d false p = refused-behind _ _
           go false false d e p = from-behind _ (fresh-list s w′ base (t .moved .going .room) (counted y (y .goals) (y .first) (y .second) (y .from) (y .at) (y .field)) (y .at) (t .bare n) inside-file (counted-less .0) (counted-less .1) 5 (omega arith) (λ z. absurd (omega arith)) (λ z. absurd (omega arith)))
 
-    settled-good : Good′ (settled s y)
-    unfolding settled
-    settled-good = go (eqb (y .mode) 2) refl
-      where
-        go : (b : Bool) → eqb (y .mode) 2 ≡ b → Good′ (cond b (behindTerm s y) (limited y))
-        go true e = behind-good (eqb-true (y .mode) 2 e)
-        go false e = going-on (eqb-false (y .mode) 2 e)
+    -- what `behind_term` asks
+    pub asks-behind : (y .part ≡ 6 → y .field + 2 < length s) × (y .at ≤ length s) × (y .second ≤ y .at)
+    unfolding endOf
+    asks-behind = (λ p. omega (arith, in-body p), omega (arith, inside s w′ base y (t .moved .going)), counted-less .1)
 
-    pub step-term : (z : State) → z ≡ settled s y → Step s w base x w′ z
-    step-term z e =
-        let g = subst (λ (u : State). Good′ u) (sym e) settled-good in
+    steps : (z : State) → z ≡ settled s y → Good′ (settled s y) → Step s w base x w′ z
+    steps z e good =
+        let g = subst (λ (u : State). Good′ u) (sym e) good in
         record { reading = g .0; kept = t .moved .kept; less = g .1; turns = term o y t e }
+
+    pub step-behind : y .mode ≡ 2 → (z : State) → z ≡ behindTerm s y → Step s w base x w′ z
+    unfolding settled
+    step-behind n z e =
+        let q : behindTerm s y ≡ settled s y = rw (eq-eqb (y .mode) 2 n) in
+        steps z (e ∙ q) (subst (λ (u : State). Good′ u) q (behind-good n))
+
+    pub step-on : (y .mode ≡ 2 → ⊥) → Step s w base x w′ (limited y)
+    unfolding settled
+    step-on n =
+        let q : limited y ≡ settled s y = rw (ne-eqb (y .mode) 2 n) in
+        steps (limited y) q (subst (λ (u : State). Good′ u) q (going-on n))
