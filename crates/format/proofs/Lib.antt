@@ -13,6 +13,7 @@ pub mod GoalsLaws
 pub mod TermTags
 pub mod TableTags
 pub mod StepLaws
+pub mod StepCases
 pub mod ReadLaw
 pub mod StandsLaws
 pub mod FieldBytes
