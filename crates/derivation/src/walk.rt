@@ -11,7 +11,7 @@ use crate::pending::Pending;
 use crate::pending::Taken;
 use crate::pending::push;
 use crate::pending::take;
-use files::flats::USE;
+use format::tags::USE_TAG;
 use format::values::Goal;
 use format::values::goal_at;
 use format::values::rule_name_at;
@@ -33,7 +33,7 @@ fn carried_goal(flat: &[u8], at: usize) -> Goal
     requires { ⌜ EntryInside (now flat) at ⌝ }
     ensures { λ r. ⌜ r ≡ carriedGoal (now (flat .entry)) at ⌝ }
 {
-    if flat[at] == USE {
+    if flat[at] == USE_TAG {
         return goal_at(flat, at + 5);
     }
     goal_at(flat, at + 3)
@@ -73,7 +73,7 @@ pub fn walk(table: &[u8], rules: usize, flat: &[u8], roots: usize, work: &mut [u
             break 'walk at;
         };
         pending = others;
-        if flat[at] != USE {
+        if flat[at] != USE_TAG {
             at += 5;
             continue;
         }

@@ -1,18 +1,18 @@
 -- Document 01, "Fields" and "Flat derivations": "Flat file: a goal list (the roots), then use and open fields."
 use Prim.Native.Nat.{ℕ, zero, suc, _+_, _*_}
-use mathlib.Core.Bool.{Bool, cond}
+use mathlib.Core.Bool.{cond}
 use mathlib.Core.List.{List, [], _∷_, _++_}
-use lib.Dec.{eqb, leb, ltb}
-use lib.ListN.{length, getD}
+use lib.Dec.{eqb, ltb}
+use lib.ListN.{length}
 use Rattle.words.specs.Word.{word}
 use Rattle.format.specs.declared.values.RuleName.{RuleName}
 use Rattle.format.specs.declared.values.Goal.{Goal}
-use Rattle.format.specs.Limits.{mostUses, mostOpens}
 use Rattle.format.specs.Refusals.{fieldTorn}
 use Rattle.format.specs.Results.{Result, gives, refused, andThen}
 use Rattle.format.specs.Inputs.{ofSize}
 use Rattle.format.specs.Values.{ruleName, goal}
 use Rattle.format.specs.Tags.{entryKind}
+use Rattle.format.specs.Next.{fullFlat}
 use Rattle.format.specs.Headers.{Header, headerAt}
 use Rattle.format.specs.Goals.{ParsedGoals, readGoals}
 use Rattle.format.specs.Encoding.{wordBytes, fieldBytes, goalListBytes}
@@ -25,10 +25,6 @@ pub data Entry : Type 0 where
 pub record Derivation : Type 0 where
   pub roots : List Goal
   pub entries : List Entry
-
--- "4,096 uses, 256 opens": no more fields of the kind that begins here may come
-unfoldable pub full : List ℕ → (at uses opens : ℕ) → Bool
-full s at uses opens = cond (eqb (getD s at 0) 32) (leb mostUses uses) (leb mostOpens opens)
 
 -- an entry in front of those read behind it
 unfoldable pub withEntry : Entry → Result (List Entry) → Result (List Entry)
@@ -45,7 +41,7 @@ entriesOf rec s at u o h =
 unfoldable pub readEntries : (bound : ℕ) → List ℕ → (at uses opens : ℕ) → Result (List Entry)
 readEntries zero s at u o = refused fieldTorn at
 readEntries (suc b) s at u o =
-    cond (ltb at (length s)) (andThen (headerAt s at (length s) entryKind entryKind (full s at u o)) (entriesOf (readEntries b s) s at u o)) (gives [])
+    cond (ltb at (length s)) (andThen (headerAt s at (length s) entryKind entryKind (fullFlat s at u o)) (entriesOf (readEntries b s) s at u o)) (gives [])
 
 -- the derivation, once its roots are read
 unfoldable pub derivationOf : List ℕ → ParsedGoals → Result Derivation

@@ -1,25 +1,23 @@
 -- The answers of the readers in the code: number and place of a refusal, or the parts of what was read, computed from it alone.
-use Prim.Native.Nat.{ℕ, _+_}
-use mathlib.Core.List.{List}
+use Prim.Native.Nat.{ℕ}
+use mathlib.Core.Bool.{cond}
+use lib.Dec.{eqb}
 use lib.ListN.{length}
-use Rattle.format.specs.TermRead.{TermRead}
-use Rattle.format.specs.TermRead as T
+use Rattle.format.specs.declared.state.State.{State}
 use Rattle.format.specs.Results.{Result, told}
-use Rattle.format.specs.Terms.{Term, size, fields}
+use Rattle.format.specs.Terms.{fields}
 use Rattle.files.specs.declared.proofs.ProofParts.{ProofParts}
 use Rattle.files.specs.declared.proofs.ProofRead.{ProofRead}
 use Rattle.files.specs.declared.proofs.ProofRead.the-variants as P
 use Rattle.files.specs.declared.jobs.JobParts.{JobParts}
 use Rattle.files.specs.declared.jobs.JobRead.{JobRead}
 use Rattle.files.specs.declared.jobs.JobRead.the-variants as J
-use Rattle.files.specs.declared.flats.EntriesRead.{EntriesRead}
-use Rattle.files.specs.declared.flats.EntriesRead.the-variants as E
 use Rattle.files.specs.declared.flats.FlatParts.{FlatParts}
 use Rattle.files.specs.declared.flats.FlatRead.{FlatRead}
 use Rattle.files.specs.declared.flats.FlatRead.the-variants as F
 use Rattle.files.specs.Proofs.{Proof, termPlace, remainingPlace}
 use Rattle.files.specs.Jobs.{Job}
-use Rattle.files.specs.Derivations.{Entry, Derivation, entriesPlace}
+use Rattle.files.specs.Derivations.{Derivation, entriesPlace}
 use Rattle.files.specs.Counts.{jobTermPlace, usesIn, opensIn}
 
 -- the parts of a proof: the number of goals, the place of the term, its term fields, the place of the remaining list, and the number of remaining goals
@@ -32,9 +30,9 @@ partsOf p = proofParts (length (p .goals)) (termPlace p) (fields (p .term)) (rem
 unfoldable pub proofShape : Result Proof → ProofRead
 proofShape x = told P.Refused (λ p. P.Read (partsOf p)) x
 
--- of the last term, which begins at this place, the offset behind it and the term fields
-unfoldable pub lastTermShape : (at : ℕ) → Result Term → TermRead
-lastTermShape at x = told T.Refused (λ t. T.Read (at + size t) (fields t)) x
+-- what a state in which nothing is left to read tells of a proof
+unfoldable pub toldProof : State → ProofRead
+toldProof x = cond (eqb (x .mode) 0) (P.Refused (x .number) (x .place)) (P.Read (proofParts (x .goals) (x .from) (x .fields) (x .rest) (x .second)))
 
 -- the parts of a job: the number of goals, the place of the term, and its term fields
 abbrev pub jobParts : (goals term fields : ℕ) → JobParts
@@ -46,9 +44,9 @@ jobPartsOf j = jobParts (length (j .goals)) (jobTermPlace j) (fields (j .term))
 unfoldable pub jobShape : Result Job → JobRead
 jobShape x = told J.Refused (λ j. J.Read (jobPartsOf j)) x
 
--- of entries, behind so many uses and opens, the numbers of uses and opens in all
-unfoldable pub entriesShape : (uses opens : ℕ) → Result (List Entry) → EntriesRead
-entriesShape u o x = told E.Refused (λ es. E.Read (u + usesIn es) (o + opensIn es)) x
+-- the same of a job
+unfoldable pub toldJob : State → JobRead
+toldJob x = cond (eqb (x .mode) 0) (J.Refused (x .number) (x .place)) (J.Read (jobParts (x .goals) (x .from) (x .fields)))
 
 -- the parts of a flat file: the number of roots, the place of the first entry, and the numbers of use and open entries
 abbrev pub flatParts : (roots first uses opens : ℕ) → FlatParts
@@ -59,3 +57,7 @@ flatPartsOf d = flatParts (length (d .roots)) (entriesPlace d) (usesIn (d .entri
 
 unfoldable pub flatShape : Result Derivation → FlatRead
 flatShape x = told F.Refused (λ d. F.Read (flatPartsOf d)) x
+
+-- the same of a flat file
+unfoldable pub toldFlat : State → FlatRead
+toldFlat x = cond (eqb (x .mode) 0) (F.Refused (x .number) (x .place)) (F.Read (flatParts (x .goals) (x .from) (x .first) (x .second)))

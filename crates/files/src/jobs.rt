@@ -3,15 +3,14 @@ ghost use mathlib.Core.Path.{_≡_};
 ghost use Prim.Native.Nat.{_+_, _≤_};
 ghost use lib.ListN.{length};
 ghost use Rattle.words.specs.Kept.{Kept};
-ghost use Rattle.format.specs.Tags.{tacticKind};
 ghost use Rattle.format.specs.Waiting.{readingRoom};
-ghost use Rattle.files.specs.Jobs.{readLastTerm, readJob};
-ghost use Rattle.files.specs.Shapes.{lastTermShape, jobShape};
-use crate::stated::read_stated;
-use format::goals::GoalsRead;
-use format::tags::TACTIC;
-use format::terms::TermRead;
-use format::terms::read_term;
+ghost use Rattle.files.specs.Jobs.{readJob};
+ghost use Rattle.files.specs.Shapes.{jobShape, toldJob};
+use format::parts::begin_file;
+use format::reading::read_on;
+use format::state::JOB_GOALS;
+use format::state::REFUSED;
+use format::state::State;
 
 // The parts of a job: the number of goals, the place of the term, and its term fields.
 pub struct JobParts {
@@ -26,42 +25,27 @@ pub enum JobRead {
     Read(JobParts),
 }
 
-// The term from a place to the end of the file, behind which nothing may be left. Kinds up to high may stand in it. While it is read its fields wait in work, from base on.
-pub fn read_last_term(s: &[u8], at: usize, high: u8, work: &mut [u8], base: usize) -> TermRead
-    requires { ⌜ (at ≤ length (now s)) × (high ≤ tacticKind) × (base + readingRoom ≤ length (now work)) ⌝ }
-    ensures { λ r. ⌜ r ≡ lastTermShape at (readLastTerm (now (s .entry)) high at) ⌝ }
-    ensures { λ _. ⌜ Kept (now (work .entry)) (now (work .exit)) base (base + readingRoom) ⌝ }
+// What was found, once there is no field left to read.
+fn found(x: State) -> JobRead
+    ensures { λ r. ⌜ r ≡ toldJob x ⌝ }
 {
-    let end = s.len();
-    let last = read_term(s, at, end, high, 0, work, base);
-    let TermRead::Read(next, _) = last else {
-        return last;
-    };
-    if next != end {
-        return TermRead::Refused(4, next);
+    if x.mode == REFUSED {
+        return JobRead::Refused(x.number, x.place);
     }
-    last
+    JobRead::Read(JobParts {
+        goals: x.goals,
+        term: x.from,
+        fields: x.fields,
+    })
 }
 
-// A job file.
+// A job file; nothing may be left behind its term. While that is read its fields wait in work, from base on.
 pub fn read_job(s: &[u8], work: &mut [u8], base: usize) -> JobRead
     requires { ⌜ base + readingRoom ≤ length (now work) ⌝ }
     ensures { λ r. ⌜ r ≡ jobShape (readJob (now (s .entry))) ⌝ }
     ensures { λ _. ⌜ Kept (now (work .entry)) (now (work .exit)) base (base + readingRoom) ⌝ }
 {
-    let stated = read_stated(s);
-    match stated {
-        GoalsRead::Refused(number, place) => JobRead::Refused(number, place),
-        GoalsRead::Read(goals, term) => {
-            let tactic = read_last_term(s, term, TACTIC, work, base);
-            match tactic {
-                TermRead::Refused(number, place) => JobRead::Refused(number, place),
-                TermRead::Read(_, fields) => JobRead::Read(JobParts {
-                    goals,
-                    term,
-                    fields,
-                }),
-            }
-        }
-    }
+    let start = begin_file(s, JOB_GOALS);
+    let last = read_on(s, start, work, base);
+    found(last)
 }

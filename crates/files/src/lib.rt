@@ -3,4 +3,3 @@
 pub mod flats;
 pub mod jobs;
 pub mod proofs;
-pub mod stated;

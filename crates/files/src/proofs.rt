@@ -5,13 +5,12 @@ ghost use lib.ListN.{length};
 ghost use Rattle.words.specs.Kept.{Kept};
 ghost use Rattle.format.specs.Waiting.{readingRoom};
 ghost use Rattle.files.specs.Proofs.{readProof};
-ghost use Rattle.files.specs.Shapes.{proofShape};
-use crate::stated::read_stated;
-use format::goals::GoalsRead;
-use format::goals::read_goals;
-use format::tags::HIPROOF;
-use format::terms::TermRead;
-use format::terms::read_term;
+ghost use Rattle.files.specs.Shapes.{proofShape, toldProof};
+use format::parts::begin_file;
+use format::reading::read_on;
+use format::state::PROOF_GOALS;
+use format::state::REFUSED;
+use format::state::State;
 
 // The parts of a proof: the number of goals, the place of the term, its term fields, the place of the remaining list, and the number of remaining goals.
 pub struct ProofParts {
@@ -28,39 +27,29 @@ pub enum ProofRead {
     Read(ProofParts),
 }
 
+// What was found, once there is no field left to read.
+fn found(x: State) -> ProofRead
+    ensures { λ r. ⌜ r ≡ toldProof x ⌝ }
+{
+    if x.mode == REFUSED {
+        return ProofRead::Refused(x.number, x.place);
+    }
+    ProofRead::Read(ProofParts {
+        goals: x.goals,
+        term: x.from,
+        fields: x.fields,
+        rest: x.rest,
+        remaining: x.second,
+    })
+}
+
 // A proof file; nothing may be left behind its last list. While its term is read the fields of it wait in work, from base on.
 pub fn read_proof(s: &[u8], work: &mut [u8], base: usize) -> ProofRead
     requires { ⌜ base + readingRoom ≤ length (now work) ⌝ }
     ensures { λ r. ⌜ r ≡ proofShape (readProof (now (s .entry))) ⌝ }
     ensures { λ _. ⌜ Kept (now (work .entry)) (now (work .exit)) base (base + readingRoom) ⌝ }
 {
-    let end = s.len();
-    let stated = read_stated(s);
-    match stated {
-        GoalsRead::Refused(number, place) => ProofRead::Refused(number, place),
-        GoalsRead::Read(goals, term) => {
-            let hiproof = read_term(s, term, end, HIPROOF, 0, work, base);
-            match hiproof {
-                TermRead::Refused(number, place) => ProofRead::Refused(number, place),
-                TermRead::Read(rest, fields) => {
-                    let list = read_goals(s, rest, end);
-                    match list {
-                        GoalsRead::Refused(number, place) => ProofRead::Refused(number, place),
-                        GoalsRead::Read(remaining, next) => {
-                            if next != end {
-                                return ProofRead::Refused(4, next);
-                            }
-                            ProofRead::Read(ProofParts {
-                                goals,
-                                term,
-                                fields,
-                                rest,
-                                remaining,
-                            })
-                        }
-                    }
-                }
-            }
-        }
-    }
+    let start = begin_file(s, PROOF_GOALS);
+    let last = read_on(s, start, work, base);
+    found(last)
 }

@@ -55,26 +55,32 @@ module _ (s w : List ℕ) (base : ℕ) (room : base + readingRoom ≤ length w) 
       where
         go : (t : Bool) → leb (length s) at ≡ t
             → Fresh at (cond t (asking x 2 2 ruleKind definitionKind false at (length s)) (asking x 1 2 (lowest (x .second)) definitionKind (fullTable s at (x .first) (x .second)) at (length s)))
-        go true e = (record {
-          going = bare-going _ d l (omega arith) refl (omega arith);
-          counts = (a, b);
-          outside = λ z. (d, refl);
-          body = λ z. absurd (omega arith);
-          entries = λ z. absurd (omega arith);
-          fields = λ z n. absurd (omega arith);
-          lists = λ z i j. absurd (j refl);
-          terms = λ z. absurd (omega arith);
-        }, omega (arith, d))
-        go false e = (record {
-          going = bare-going _ d l (omega arith) refl (omega arith);
-          counts = (a, b);
-          outside = λ z. (d, refl);
-          body = λ z. absurd (omega arith);
-          entries = λ z. absurd (omega arith);
-          fields = λ z n. (leb-false (length s) at e, refl, refl, refl);
-          lists = λ z i j. absurd (j refl);
-          terms = λ z. absurd (omega arith);
-        }, omega (arith, d))
+        go true e = (
+          record {
+            going = bare-going _ d l (omega arith) refl (omega arith);
+            counts = (a, b);
+            outside = λ z. (d, refl);
+            body = λ z. absurd (omega arith);
+            entries = λ z. absurd (omega arith);
+            fields = λ z n. absurd (omega arith);
+            lists = λ z i j. absurd (j refl);
+            terms = λ z. absurd (omega arith);
+          },
+          omega (arith, d),
+        )
+        go false e = (
+          record {
+            going = bare-going _ d l (omega arith) refl (omega arith);
+            counts = (a, b);
+            outside = λ z. (d, refl);
+            body = λ z. absurd (omega arith);
+            entries = λ z. absurd (omega arith);
+            fields = λ z n. (leb-false (length s) at e, refl, refl, refl);
+            lists = λ z i j. absurd (j refl);
+            terms = λ z. absurd (omega arith);
+          },
+          omega (arith, d),
+        )
 
     fresh-entry : Fresh at (nextEntry s x at)
     unfolding nextEntry weight
@@ -82,52 +88,64 @@ module _ (s w : List ℕ) (base : ℕ) (room : base + readingRoom ≤ length w) 
       where
         go : (t : Bool) → leb (length s) at ≡ t
             → Fresh at (cond t (asking x 2 1 entryKind entryKind false at (length s)) (asking x 1 1 entryKind entryKind (fullFlat s at (x .first) (x .second)) at (length s)))
-        go true e = (record {
-          going = bare-going _ d l (omega arith) refl (omega arith);
-          counts = (a, b);
-          outside = λ z. (d, refl);
-          body = λ z. absurd (omega arith);
-          entries = λ z n. absurd (omega arith);
-          fields = λ z. absurd (omega arith);
-          lists = λ z i. absurd (i refl);
-          terms = λ z. absurd (omega arith);
-        }, omega (arith, d))
-        go false e = (record {
-          going = bare-going _ d l (omega arith) refl (omega arith);
-          counts = (a, b);
-          outside = λ z. (d, refl);
-          body = λ z. absurd (omega arith);
-          entries = λ z n. (leb-false (length s) at e, refl, refl, refl);
-          fields = λ z. absurd (omega arith);
-          lists = λ z i. absurd (i refl);
-          terms = λ z. absurd (omega arith);
-        }, omega (arith, d))
+        go true e = (
+          record {
+            going = bare-going _ d l (omega arith) refl (omega arith);
+            counts = (a, b);
+            outside = λ z. (d, refl);
+            body = λ z. absurd (omega arith);
+            entries = λ z n. absurd (omega arith);
+            fields = λ z. absurd (omega arith);
+            lists = λ z i. absurd (i refl);
+            terms = λ z. absurd (omega arith);
+          },
+          omega (arith, d),
+        )
+        go false e = (
+          record {
+            going = bare-going _ d l (omega arith) refl (omega arith);
+            counts = (a, b);
+            outside = λ z. (d, refl);
+            body = λ z. absurd (omega arith);
+            entries = λ z n. (leb-false (length s) at e, refl, refl, refl);
+            fields = λ z. absurd (omega arith);
+            lists = λ z i. absurd (i refl);
+            terms = λ z. absurd (omega arith);
+          },
+          omega (arith, d),
+        )
 
     pub fresh-list : (part : ℕ) → part < 6 → (part ≡ 1 → ⊥) → (part ≡ 2 → ⊥) → Fresh at (askingList x part at (length s))
     unfolding askingList weight
-    fresh-list part p i j = (record {
-      going = bare-going _ d l (omega arith) refl (omega arith);
-      counts = (a, b);
-      outside = λ z. (d, refl);
-      body = λ z. absurd (omega (arith, z, p));
-      entries = λ z. absurd (i z);
-      fields = λ z. absurd (j z);
-      lists = λ z u v n. (refl, refl, refl);
-      terms = λ z. absurd (omega (arith, z, p));
-    }, omega (arith, d))
+    fresh-list part p i j = (
+      record {
+        going = bare-going _ d l (omega arith) refl (omega arith);
+        counts = (a, b);
+        outside = λ z. (d, refl);
+        body = λ z. absurd (omega (arith, z, p));
+        entries = λ z. absurd (i z);
+        fields = λ z. absurd (j z);
+        lists = λ z u v n. (refl, refl, refl);
+        terms = λ z. absurd (omega (arith, z, p));
+      },
+      omega (arith, d),
+    )
 
     fresh-term : (part end high : ℕ) → 6 ≤ part → at ≤ end → end ≤ length s → (part ≡ 6 → (endOf s (x .field) ≤ length s) × (x .second < at)) → high ≡ cond (eqb part 8) hiproofKind tacticKind → Fresh at (begunTerm x part at end high)
     unfolding begunTerm weight
-    fresh-term part end high p o e f h = (record {
-      going = bare-going _ d o e refl (omega arith);
-      counts = (a, b);
-      outside = λ z. absurd (omega (arith, z, p));
-      body = f;
-      entries = λ z. absurd (omega (arith, z, p));
-      fields = λ z. absurd (omega (arith, z, p));
-      lists = λ z. absurd (omega (arith, z, p));
-      terms = λ z n. (refl, h, refl);
-    }, omega (arith, d))
+    fresh-term part end high p o e f h = (
+      record {
+        going = bare-going _ d o e refl (omega arith);
+        counts = (a, b);
+        outside = λ z. absurd (omega (arith, z, p));
+        body = f;
+        entries = λ z. absurd (omega (arith, z, p));
+        fields = λ z. absurd (omega (arith, z, p));
+        lists = λ z. absurd (omega (arith, z, p));
+        terms = λ z n. (refl, h, refl);
+      },
+      omega (arith, d),
+    )
 
 -- a refusal
 refused-reading : (s w : List ℕ) (base : ℕ) (x : State) (k p : ℕ) → Reading s w base x → Reading s w base (refusing x k p)
@@ -200,16 +218,19 @@ module _ (s w : List ℕ) (base : ℕ) (x : State) (r : Reading s w base x) (m :
     remaining-good n h = go (eqb close (x .end)) refl
       where
         go : (t : Bool) → eqb close (x .end) ≡ t → Good (cond t (asking (counted x (x .goals) (x .first) n (x .from) (x .rest) (x .field)) 2 (x .part) (x .low) (x .high) (x .full) close (x .end)) (refusing x (number lengthWrong) close))
-        go true e = (record {
-          going = bare-going s w base (r .going .room) _ none-waits (F .contents) (omega (arith, whole-file)) refl (omega arith);
-          counts = (omega (arith, r .counts), h);
-          outside = λ z. (none-waits, whole-file);
-          body = λ z. absurd (omega (arith, z, o));
-          entries = λ z k. absurd (omega arith);
-          fields = λ z k. absurd (omega arith);
-          lists = λ z i j k. absurd (omega arith);
-          terms = λ z k. absurd (omega arith);
-        }, omega (arith, none-waits, m, closes))
+        go true e = (
+          record {
+            going = bare-going s w base (r .going .room) _ none-waits (F .contents) (omega (arith, whole-file)) refl (omega arith);
+            counts = (omega (arith, r .counts), h);
+            outside = λ z. (none-waits, whole-file);
+            body = λ z. absurd (omega (arith, z, o));
+            entries = λ z k. absurd (omega arith);
+            fields = λ z k. absurd (omega arith);
+            lists = λ z i j k. absurd (omega arith);
+            terms = λ z k. absurd (omega arith);
+          },
+          omega (arith, none-waits, m, closes),
+        )
         go false e = refused-good _ _
 
     list-good : (n : ℕ) → n ≤ close → Good (listTaken s x n close)
@@ -276,17 +297,19 @@ module _ (s w : List ℕ) (base : ℕ) (x : State) (r : Reading s w base x) (m :
     going-on n =
         let g = t .moved .going in
         let a = r .terms o m in
-        let h = t .moved .held in
-        (record {
-          going = record { ordered = g .ordered; waits = g .waits; few = g .few; most = g .most; behind = g .behind; near = g .near; room = g .room; modes = g .modes };
-          counts = counted-less;
-          outside = λ z. absurd (omega (arith, z, o, same-part));
-          body = in-body;
-          entries = λ z. absurd (omega (arith, z, o, same-part));
-          fields = λ z. absurd (omega (arith, z, o, same-part));
-          lists = λ z. absurd (omega (arith, z, o, same-part));
-          terms = λ z k. (h .low ∙ a .0, h .high ∙ a .1 ∙ ap (λ (p : ℕ). cond (eqb p 8) hiproofKind tacticKind) (sym same-part), refl);
-        }, t .moved .less)
+        let h = t .moved .held in (
+          record {
+            going = record { ordered = g .ordered; waits = g .waits; few = g .few; most = g .most; behind = g .behind; near = g .near; room = g .room; modes = g .modes };
+            counts = counted-less;
+            outside = λ z. absurd (omega (arith, z, o, same-part));
+            body = in-body;
+            entries = λ z. absurd (omega (arith, z, o, same-part));
+            fields = λ z. absurd (omega (arith, z, o, same-part));
+            lists = λ z. absurd (omega (arith, z, o, same-part));
+            terms = λ z k. (h .low ∙ a .0, h .high ∙ a .1 ∙ ap (λ (p : ℕ). cond (eqb p 8) hiproofKind tacticKind) (sym same-part), refl);
+          },
+          t .moved .less,
+        )
 
     -- the term was read
     module _ (n : y .mode ≡ 2) where

@@ -25,14 +25,10 @@ use crate::tags::ENTRY;
 use crate::tags::GOAL_LIST;
 use crate::tags::HIPROOF;
 use crate::tags::RULE;
+use crate::tags::RULE_TAG;
 use crate::tags::TACTIC;
+use crate::tags::USE_TAG;
 use words::load16;
-
-// The tag of a rule; the other fields of a table are definitions.
-const RULE_TAG: u8 = 1;
-
-// The tag of a use; the other entries are opens.
-const USE_TAG: u8 = 32;
 
 const MOST_BYTES: usize = 65535;
 

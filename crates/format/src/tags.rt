@@ -17,6 +17,12 @@ pub const TACTIC: u8 = 60;
 
 pub const ENTRY: u8 = 70;
 
+// The tag of a rule; the other fields of a table are definitions.
+pub const RULE_TAG: u8 = 1;
+
+// The tag of a use; the other entries of a flat file are opens.
+pub const USE_TAG: u8 = 32;
+
 // Where a tag may stand; 0 for a number that is no tag.
 const KINDS: [u8; 15] = [
     0,

@@ -1,16 +1,16 @@
 -- Document 01, "Fields" and "What the bytes bring about": reading a table, 1, "then field by field in byte order", then 6, 7, 8, 9.
 use Prim.Native.Nat.{ℕ, zero, suc, _+_, _-_, _/_}
-use mathlib.Core.Bool.{Bool, cond}
+use mathlib.Core.Bool.{cond}
 use mathlib.Core.List.{List, [], _∷_}
-use lib.Dec.{eqb, leb, ltb}
-use lib.ListN.{length, getD}
+use lib.Dec.{eqb, ltb}
+use lib.ListN.{length}
 use Rattle.words.specs.Word.{word}
-use Rattle.format.specs.Limits.{mostRules, mostDefinitions}
 use Rattle.format.specs.Refusals.{fieldTorn, lengthWrong}
 use Rattle.format.specs.Results.{Result, gives, refused, andThen}
 use Rattle.format.specs.Inputs.{ofSize}
 use Rattle.format.specs.Values.{ruleName, goal, tacticNo}
-use Rattle.format.specs.Tags.{ruleKind, definitionKind, tacticKind}
+use Rattle.format.specs.Tags.{definitionKind, tacticKind}
+use Rattle.format.specs.Next.{fullTable, lowest}
 use Rattle.format.specs.Headers.{Header, headerAt}
 use Rattle.format.specs.ReadTerms.{ParsedTerm, readTerm}
 use Rattle.format.specs.Goals.{goalsAt}
@@ -21,14 +21,6 @@ use Rattle.tables.specs.Repeats.{wholeTable}
 pub data Field : Type 0 where
   ruleField : Rule → (next : ℕ) → Field
   definitionField : Definition → (next count : ℕ) → Field
-
--- "At most 4,096 rules, 256 definitions": no more fields of the kind that begins here may come
-unfoldable pub full : List ℕ → (at rules definitions : ℕ) → Bool
-full s at rules definitions = cond (eqb (getD s at 0) 1) (leb mostRules rules) (leb mostDefinitions definitions)
-
--- "any rules, then any definitions": the lowest kind that may still stand
-unfoldable pub lowest : (definitions : ℕ) → ℕ
-lowest definitions = cond (eqb definitions 0) ruleKind definitionKind
 
 -- the rule whose field is at a place, with contents of that length
 unfoldable pub ruleOf : List ℕ → (at len : ℕ) → Rule
@@ -49,7 +41,7 @@ fieldOf s at n h =
 
 -- the field at a place, after so many rules, definitions and term fields
 unfoldable pub readField : List ℕ → (at rules definitions count : ℕ) → Result Field
-readField s at r d n = andThen (headerAt s at (length s) (lowest d) definitionKind (full s at r d)) (fieldOf s at n)
+readField s at r d n = andThen (headerAt s at (length s) (lowest d) definitionKind (fullTable s at r d)) (fieldOf s at n)
 
 -- a rule, or a definition, in front of what is read behind it
 unfoldable pub withRule : Rule → Result Table → Result Table

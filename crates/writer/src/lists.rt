@@ -8,7 +8,7 @@ ghost use Rattle.format.specs.Goals.{goalsAt};
 ghost use Rattle.format.specs.Encoding.{goalBytes, goalListBytes};
 ghost use Rattle.writer.specs.Leaves.{Rest, leavesOf};
 use crate::fields::write_header;
-use files::flats::USE;
+use format::tags::USE_TAG;
 use words::load16;
 use words::store16;
 
@@ -33,7 +33,7 @@ fn put_leaves(flat: &[u8], at: usize, out: &mut [u8]) -> usize
     let mut here = at;
     let mut len: usize = 0;
     while here < flat.len() {
-        if flat[here] == USE {
+        if flat[here] == USE_TAG {
             here += 7;
             continue;
         }
