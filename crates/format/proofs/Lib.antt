@@ -9,6 +9,7 @@ pub mod ShapeLaws
 pub mod WaitLaws
 pub mod Lengths
 pub mod TurnLaws
+pub mod ReachLaws
 pub mod GoalsLaws
 pub mod TermTags
 pub mod TableTags
