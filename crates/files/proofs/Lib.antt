@@ -1,4 +1,5 @@
 pub mod ToldLaws
+pub mod ListSteps
 pub mod ProofLaws
 pub mod JobLaws
 pub mod FlatLaws
