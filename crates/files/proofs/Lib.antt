@@ -4,6 +4,7 @@ pub mod ProofLaws
 pub mod JobLaws
 pub mod FlatLaws
 pub mod EntriesLaw
+pub mod FlatReading
 pub mod EntryBytes
 pub mod EntriesStanding
 pub mod Files
