@@ -67,10 +67,10 @@ module _ (s : List ℕ) (at : ℕ) (b : Bool) (tag len : ℕ) (e : headerAt s at
       fixed 33 2 (entry-tag tag (f .above) (f .below) q) refl refl
 
   -- where the next entry begins
-  pub behind-use : tag ≡ 32 → at + 3 + len ≡ at + 7
+  behind-use : tag ≡ 32 → at + 3 + len ≡ at + 7
   behind-use q = omega (arith, is-field s at (length s) entryKind entryKind b tag len e .the-length, use-head q .length-is)
 
-  pub behind-open : (tag ≡ 32 → ⊥) → at + 3 + len ≡ at + 5
+  behind-open : (tag ≡ 32 → ⊥) → at + 3 + len ≡ at + 5
   behind-open q = omega (arith, is-field s at (length s) entryKind entryKind b tag len e .the-length, open-head q .length-is)
 
 -- what the code tells of a file whose entries from some place on come to this: it has so many roots, the first entry stands at a place, and so many uses and opens stand in front

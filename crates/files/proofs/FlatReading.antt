@@ -11,12 +11,12 @@ use borrow.Author.Tests.{eq-eqb, ne-eqb, eqb-true, eqb-false, leb-true}
 use Rattle.format.specs.declared.headers.HeaderRead.{HeaderRead}
 use Rattle.format.specs.declared.headers.HeaderRead.the-variants as H
 use Rattle.format.specs.declared.state.State.{State}
-use Rattle.format.specs.Results.{gives}
 use Rattle.format.specs.Tags.{entryKind}
 use Rattle.format.specs.Next.{fullFlat}
-use Rattle.format.specs.Headers.{header, headerAt}
+use Rattle.format.specs.Headers.{headerAt}
 use Rattle.format.specs.Shapes.{headerShape}
 use Rattle.format.specs.States.{asking, counted, nextEntry, entryTaken, taken, begunFile}
+use Rattle.format.specs.Waiting.{readingRoom}
 use Rattle.format.specs.Reading.{Reading, headerOf, Step, Reaches}
 use Rattle.format.proofs.HeaderLaws.{told-field}
 use Rattle.format.proofs.StepCases.{field-step}
@@ -24,7 +24,7 @@ use Rattle.files.specs.declared.flats.FlatRead.{FlatRead}
 use Rattle.files.specs.declared.flats.FlatRead.the-variants as F
 use Rattle.files.specs.Derivations.{readEntries, readFlat}
 use Rattle.files.specs.Shapes.{flatShape, toldFlat}
-use Rattle.files.proofs.ListSteps.{stated, behindList, ListStep, stops, reads, First, Begins, long, first, begins, first-step, holds-on}
+use Rattle.files.proofs.ListSteps.{stated, ListStep, stops, reads, First, Begins, long, first, begins, begun-reading, first-step, holds-on}
 use Rattle.files.proofs.FlatLaws.{entriesTold, at-end, turn-refused, turn-use, turn-open, roots-refused, roots-read}
 use Rattle.files.proofs.EntriesLaw.{same-bound}
 
@@ -117,8 +117,16 @@ module _ (s : List ℕ) where
   over x n (at-entries m p e) = absurd (n m)
   over x n (all-read m l e) = rw (ne-eqb (x .mode) 0 (λ z. omega (arith, m, z))) (e ∙ at-end (x .goals) (x .from) s (length s) (x .at) (x .first) (x .second) l)
 
+  -- a file that is refused at once
+  pub flat-long : (x : State) → x ≡ begunFile s 0 → x .mode ≡ 0 → toldFlat x ≡ flatShape (readFlat s)
+  flat-long x e m = sym (over x (λ z. omega (arith, m, z)) (subst FlatState (sym e) begun))
+
   -- the whole file
-  pub flat-reaches : (w : List ℕ) (base : ℕ) → Reading s w base (begunFile s 0) → (w′ : List ℕ) (x : State) → Reaches s base w (begunFile s 0) w′ x → (x .mode ≡ 1 → ⊥) → (toldFlat x ≡ flatShape (readFlat s)) × (w′ ≡ w)
-  flat-reaches w base h w′ x r n =
-      let all = holds-on s base (λ v y. (v ≡ w) × FlatState y) (λ v y v′ z i m step p. let t = turn v base y v′ z i m step (p .1) in (t .0 ∙ p .0, t .1)) w (begunFile s 0) h (refl, begun) w′ x r in
-      (sym (over x n (all .1)), all .0)
+  module _ (w : List ℕ) (base : ℕ) (room : base + readingRoom ≤ length w) (x : State) (e : x ≡ begunFile s 0) (n : x .mode ≡ 0 → ⊥) where
+    pub flat-reading : Reading s w base x
+    flat-reading = subst (Reading s w base) (sym e) (begun-reading s 0 w base room (omega arith) (λ z. omega (arith, z)) (λ z. omega (arith, z)) (rw e at n))
+
+    pub flat-told : (w′ : List ℕ) (y : State) → Reaches s base w x w′ y → (y .mode ≡ 1 → ⊥) → (toldFlat y ≡ flatShape (readFlat s)) × (w′ ≡ w)
+    flat-told w′ y r o =
+        let all = holds-on s base (λ v z. (v ≡ w) × FlatState z) (λ v z v′ z′ h m step p. let t = turn v base z v′ z′ h m step (p .1) in (t .0 ∙ p .0, t .1)) w x flat-reading (refl, subst FlatState (sym e) begun) w′ y r in
+        (sym (over y o (all .1)), all .0)
