@@ -97,6 +97,10 @@ module _ (s : List ℕ) (part : ℕ) where
         go true n = absurd (n refl)
         go false n = fresh-list s w base room (blankState part) 0 refl (omega arith) (omega arith) (omega arith) part o i j .0
 
+    -- the same of a state that is known to be the first
+    pub start-reading : (x : State) → x ≡ begunFile s part → (x .mode ≡ 0 → ⊥) → Reading s w base x
+    start-reading x e n = subst (Reading s w base) (sym e) (begun-reading (rw e at n))
+
 -- over the first list of a file
 module _ (s w : List ℕ) (base part : ℕ) (o : part < 6) (i : part ≡ 1 → ⊥) (j : part ≡ 2 → ⊥) where
   pub first-step : (x : State) → Reading s w base x → First s part x → (w′ : List ℕ) (r : State) → Step s w base x w′ r → (w′ ≡ w) × ListStep s x (stated s) r

@@ -1,8 +1,8 @@
 -- Reading a proof file: what is known in each state, that each turn keeps it, and what the last state tells.
 -- Assumes nothing.
-use mathlib.Core.Path.{_≡_, refl, sym, _∙_}
+use mathlib.Core.Path.{_≡_, refl, sym, subst, _∙_}
 use mathlib.Core.Bool.{Bool, true, false, cond}
-use mathlib.Core.List.{List}
+use mathlib.Core.List.{List, []}
 use Prim.Native.Nat.{ℕ}
 use native.Mathlib.Omega.{arith}
 use lib.Dec.{eqb}
@@ -86,5 +86,14 @@ module _ (s : List ℕ) (base : ℕ) where
   tells w x (in-remaining m p a l t) n = absurd (n m)
   tells w x (is-read m e) n = rw (ne-eqb (x .mode) 0 (λ z. omega (arith, m, z))) (sym e)
 
-  pub proof-told : (w w′ : List ℕ) (r : State) → Reading s w base (begunFile s 4) → Reaches s base w (begunFile s 4) w′ r → (r .mode ≡ 1 → ⊥) → toldProof r ≡ proofShape (readProof s)
-  proof-told w w′ r h reaches n = tells w′ r (holds-on s base Known keeps w (begunFile s 4) h (begins-known w (begunFile s 4) (begins s 4)) w′ r reaches) n
+  -- from the first state on
+  module _ (w : List ℕ) (x : State) (e : x ≡ begunFile s 4) where
+    start-known : Known w x
+    start-known = begins-known w x (subst (Begins s 4) (sym e) (begins s 4))
+
+    pub proof-told : Reading s w base x → (w′ : List ℕ) (r : State) → Reaches s base w x w′ r → (r .mode ≡ 1 → ⊥) → toldProof r ≡ proofShape (readProof s)
+    proof-told h w′ r reaches n = tells w′ r (holds-on s base Known keeps w x h start-known w′ r reaches) n
+
+-- a file that is refused at once; where nothing is read, the bytes that wait do not matter
+pub proof-long : (s : List ℕ) (x : State) → x ≡ begunFile s 4 → x .mode ≡ 0 → toldProof x ≡ proofShape (readProof s)
+proof-long s x e m = tells s 0 [] x (start-known s 0 [] x e) (λ z. omega (arith, m, z))
