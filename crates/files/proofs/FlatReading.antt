@@ -24,7 +24,7 @@ use Rattle.files.specs.declared.flats.FlatRead.{FlatRead}
 use Rattle.files.specs.declared.flats.FlatRead.the-variants as F
 use Rattle.files.specs.Derivations.{readEntries, readFlat}
 use Rattle.files.specs.Shapes.{flatShape, toldFlat}
-use Rattle.files.proofs.ListSteps.{stated, ListStep, stops, reads, First, Begins, long, first, begins, begun-reading, first-step, holds-on}
+use Rattle.files.proofs.ListSteps.{stated, ListStep, stops, reads, First, Begins, long, first, begins, start-reading, first-step, holds-on}
 use Rattle.files.proofs.FlatLaws.{entriesTold, at-end, turn-refused, turn-use, turn-open, roots-refused, roots-read}
 use Rattle.files.proofs.EntriesLaw.{same-bound}
 
@@ -124,7 +124,7 @@ module _ (s : List ℕ) where
   -- the whole file
   module _ (w : List ℕ) (base : ℕ) (room : base + readingRoom ≤ length w) (x : State) (e : x ≡ begunFile s 0) (n : x .mode ≡ 0 → ⊥) where
     pub flat-reading : Reading s w base x
-    flat-reading = subst (Reading s w base) (sym e) (begun-reading s 0 w base room (omega arith) (λ z. omega (arith, z)) (λ z. omega (arith, z)) (rw e at n))
+    flat-reading = start-reading s 0 w base room (omega arith) (λ z. omega (arith, z)) (λ z. omega (arith, z)) x e n
 
     pub flat-told : (w′ : List ℕ) (y : State) → Reaches s base w x w′ y → (y .mode ≡ 1 → ⊥) → (toldFlat y ≡ flatShape (readFlat s)) × (w′ ≡ w)
     flat-told w′ y r o =
