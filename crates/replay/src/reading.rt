@@ -57,8 +57,8 @@ fn job_finding(s: &[u8], space: &mut [u8; SPACE]) -> Finding {
     }
 }
 
-fn flat_finding(s: &[u8]) -> Finding {
-    let read = read_flat(s);
+fn flat_finding(s: &[u8], space: &mut [u8; SPACE]) -> Finding {
+    let read = read_flat(s, space, 0);
     match read {
         FlatRead::Refused(number, place) => Finding { number, place },
         FlatRead::Read(_) => Finding {
@@ -74,10 +74,10 @@ fn other_finding(entry: u8, s: &[u8], space: &mut [u8; SPACE]) -> Finding {
         return job_finding(s, space);
     }
     if entry == CHECK_FLAT {
-        return flat_finding(s);
+        return flat_finding(s, space);
     }
     if entry == WRITE_PROOF {
-        return flat_finding(s);
+        return flat_finding(s, space);
     }
     proof_finding(s, space)
 }
