@@ -9,7 +9,8 @@ use native.Mathlib.Nat.{add-zero, add-suc, suc-add}
 use lib.Dec.{T, eqb, ltb, eqb→eq, ltb→lt}
 use lib.ListN.{getD}
 use borrow.Author.Tests.{ne-eqb}
-use Rattle.format.specs.Tags.{Row, row, noKind, anyLength, rows, findRow, rowOf, numberFrom, rowNumber, mostOf, innerOf}
+use Rattle.format.specs.Tags.{Row, row, noKind, anyLength, rows, findRow, rowOf, mostOf, innerOf}
+use Rattle.format.specs.RowNumbers.{numberFrom, rowNumber}
 
 abbrev both : Bool → Bool → Bool
 both true b = b

@@ -4,6 +4,8 @@ pub mod Results
 pub mod Inputs
 pub mod Values
 pub mod Tags
+pub mod RowNumbers
+pub mod Next
 pub mod Headers
 pub mod Terms
 pub mod ReadTerms
@@ -14,7 +16,6 @@ pub mod TermRead
 pub mod GoalsRead
 pub mod Shapes
 pub mod Reader
-pub mod Next
 pub mod States
 pub mod Waiting
 pub mod Reading

@@ -1,5 +1,5 @@
 -- Document 01, "Fields": the table of the fourteen tags.
-use Prim.Native.Nat.{ℕ, suc, _%_}
+use Prim.Native.Nat.{ℕ, _%_}
 use mathlib.Core.Bool.{Bool, true, false, cond}
 use mathlib.Core.List.{List, [], _∷_}
 use lib.Dec.{eqb, ltb}
@@ -69,18 +69,6 @@ findRow (r ∷ rs) t = cond (eqb t (r .tag)) r (findRow rs t)
 
 unfoldable pub rowOf : ℕ → Row
 rowOf t = findRow rows t
-
--- the number of a tag's row, where the first row has the number i; 0 for a number that is no tag
-unfoldable pub numberFrom : (i : ℕ) → List Row → ℕ → ℕ
-numberFrom i [] t = 0
-numberFrom i (r ∷ rs) t = cond (eqb t (r .tag)) i (numberFrom (suc i) rs t)
-
-unfoldable pub rowNumber : ℕ → ℕ
-rowNumber t = numberFrom 1 rows t
-
--- row numbers are below this
-abbrev pub rowNumbers : ℕ
-rowNumbers = 15
 
 -- the columns of the table, by tag
 unfoldable pub kindOf : ℕ → ℕ

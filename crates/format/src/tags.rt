@@ -2,7 +2,8 @@
 // A table is stored anew at each look-up, so tables are short, and who looks up more than once takes the row first.
 ghost use mathlib.Core.Path.{_≡_};
 ghost use Prim.Native.Nat.{ℕ, _<_};
-ghost use Rattle.format.specs.Tags.{rowNumber, rowNumbers, kindOf, leastOf, mostOf, innerOf};
+ghost use Rattle.format.specs.Tags.{kindOf, leastOf, mostOf, innerOf};
+ghost use Rattle.format.specs.RowNumbers.{rowNumber, rowNumbers};
 
 // The kinds. A table has its kinds in rising order; the gaps are for kinds that later requests add.
 pub const RULE: u8 = 10;

@@ -1,46 +1,58 @@
 -- `parts::goal_list` meets its contract: the tests of the count and of the part say which case of `listTaken` holds.
 -- Assumes nothing.
+use mathlib.Core.Path.{_≡_}
+use mathlib.Core.Bool.{true, false}
+use native.Mathlib.Omega.{arith}
+use lib.Dec.{ltb}
 use borrow.Author.Needs.{needs}
 use borrow.Author.Tests.{lt-ltb, le-ltb, eq-eqb, ne-eqb}
+use Rattle.format.specs.Limits.{mostGoals}
 use Rattle.format.specs.Refusals.{number}
 use Rattle.format.specs.States.{listTaken}
 use Rattle.format.proofs.parts.goal_list.Statement.{statement}
 use Rattle.format.proofs.parts.goal_list.Tie as tie
+
+-- what the test of the count shows
+too-many : (c : tie.Then1) → ltb mostGoals (c .before .before .args .count) ≡ true
+too-many c = lt-ltb mostGoals (c .before .before .args .count) (omega (arith, c .if1 .taken))
+
+few : (c : tie.Else1) → ltb mostGoals (c .before .before .args .count) ≡ false
+few c = le-ltb mostGoals (c .before .before .args .count) (omega (arith, c .if1 .left))
 
 refused-requires : tie.Need-refused-requires
 refused-requires c κs = search needs
 
 returns : tie.Need-returns
 unfolding listTaken number
-returns c = rw (lt-ltb _ _ (c .before .if1 .taken)) (c .refused .ensures)
+returns c = rw (too-many (c .before)) (c .refused .ensures)
 
 remaining-requires : tie.Need-remaining-requires
 remaining-requires c κs = search needs
 
 returns-2 : tie.Need-returns-2
 unfolding listTaken
-returns-2 c = rw (le-ltb _ _ (c .before .before .before .if1 .left), eq-eqb _ _ (c .before .if2 .taken)) (c .remaining .ensures)
+returns-2 c = rw (few (c .before .before .before), eq-eqb _ _ (c .before .if2 .taken)) (c .remaining .ensures)
 
 next-entry-requires : tie.Need-next-entry-requires
 next-entry-requires c κs = search needs
 
 returns-3 : tie.Need-returns-3
 unfolding listTaken
-returns-3 c = rw (le-ltb _ _ (c .before .before .before .before .before .if1 .left), ne-eqb _ _ (c .before .before .before .if2 .left), eq-eqb _ _ (c .before .if3 .taken)) (c .next-entry .ensures)
+returns-3 c = rw (few (c .before .before .before .before .before), ne-eqb _ _ (c .before .before .before .if2 .left), eq-eqb _ _ (c .before .if3 .taken)) (c .next-entry .ensures)
 
 begin-term-requires : tie.Need-begin-term-requires
 begin-term-requires c κs = search needs
 
 returns-4 : tie.Need-returns-4
 unfolding listTaken
-returns-4 c = rw (le-ltb _ _ (c .before .before .before .before .before .before .before .if1 .left), ne-eqb _ _ (c .before .before .before .before .before .if2 .left), ne-eqb _ _ (c .before .before .before .if3 .left), eq-eqb _ _ (c .before .if4 .taken)) (c .begin-term .ensures)
+returns-4 c = rw (few (c .before .before .before .before .before .before .before), ne-eqb _ _ (c .before .before .before .before .before .if2 .left), ne-eqb _ _ (c .before .before .before .if3 .left), eq-eqb _ _ (c .before .if4 .taken)) (c .begin-term .ensures)
 
 begin-term-requires-2 : tie.Need-begin-term-requires-2
 begin-term-requires-2 c κs = search needs
 
 returns-5 : tie.Need-returns-5
 unfolding listTaken
-returns-5 c = rw (le-ltb _ _ (c .before .before .before .before .before .before .before .if1 .left), ne-eqb _ _ (c .before .before .before .before .before .if2 .left), ne-eqb _ _ (c .before .before .before .if3 .left), ne-eqb _ _ (c .before .if4 .left)) (c .begin-term2 .ensures)
+returns-5 c = rw (few (c .before .before .before .before .before .before .before), ne-eqb _ _ (c .before .before .before .before .before .if2 .left), ne-eqb _ _ (c .before .before .before .if3 .left), ne-eqb _ _ (c .before .if4 .left)) (c .begin-term2 .ensures)
 
 pub goal-list-spec : {M : Type 1} → statement M
 goal-list-spec = tie.close (tie.spec refused-requires returns remaining-requires returns-2 next-entry-requires returns-3 begin-term-requires returns-4 begin-term-requires-2 returns-5)

@@ -4,7 +4,8 @@ use mathlib.Core.Path.{sym}
 use Prim.Native.Nat.{ℕ, _-_}
 use native.Mathlib.Omega.{arith}
 use borrow.Author.Needs.{needs}
-use Rattle.format.specs.Tags.{rowNumber, rows, numberFrom}
+use Rattle.format.specs.Tags.{rows}
+use Rattle.format.specs.RowNumbers.{rowNumber, numberFrom}
 use Rattle.format.proofs.Rows.{numbered, beyond}
 use Rattle.format.proofs.tags.row_of.Statement.{statement}
 use Rattle.format.proofs.tags.row_of.Tie as tie
