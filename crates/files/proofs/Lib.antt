@@ -1,6 +1,10 @@
 pub mod ToldLaws
+pub mod ListSteps
+pub mod TermSteps
 pub mod ProofLaws
+pub mod ProofSteps
 pub mod JobLaws
+pub mod JobSteps
 pub mod FlatLaws
 pub mod EntriesLaw
 pub mod EntryBytes

@@ -1,4 +1,4 @@
--- Reading a proof file, by what the code tells of its two lists and its term: one law for each return of `read_proof`.
+-- Reading a proof file, by what the code tells of its two lists and its term: one law for each way in which its reading ends.
 -- Assumes nothing.
 use mathlib.Core.Path.{_≡_, ap, _∙_}
 use mathlib.Core.List.{List}

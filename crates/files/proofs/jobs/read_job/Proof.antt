@@ -1,66 +1,40 @@
--- `jobs::read_job` meets its contract: what the goal list and the term are says which case of `readJob` holds.
+-- `jobs::read_job` meets its contract: each turn of the reading keeps what is known of the file, and the last state tells it.
 -- Assumes nothing.
-use mathlib.Core.Path.{sym, _∙_}
+use mathlib.Core.Path.{_∙_}
 use native.Mathlib.Omega.{arith}
-use denote.Ref.{now}
 use borrow.Author.Needs.{needs}
 use Rattle.words.proofs.KeptLaws.{kept-same}
-use Rattle.files.proofs.ToldLaws.{stated-end}
-use Rattle.files.proofs.JobLaws.{stated-refused, tactic-refused, job-read}
+use Rattle.format.proofs.ReachLaws.{reaches-kept}
+use Rattle.files.proofs.ListSteps.{start-reading}
+use Rattle.files.proofs.JobSteps.{job-long, job-told}
 use Rattle.files.proofs.jobs.read_job.Statement.{statement}
 use Rattle.files.proofs.jobs.read_job.Tie as tie
-use Rattle.files.proofs.jobs.read_job.Reads as reads
-use Rattle.files.proofs.jobs.read_job.Lts as lts
-use Rattle.files.proofs.jobs.read_last_term.Reads as read-last-term-reads
-use Rattle.files.proofs.stated.read_stated.Reads as read-stated-reads
 
-read-stated-requires : tie.Need-read-stated-requires
-read-stated-requires c κs = search needs
+begin-file-requires : tie.Need-begin-file-requires
+begin-file-requires c κs = search needs
 
-enum-known-stated : tie.Need-enum-known-stated
-enum-known-stated c = search needs
-
-enum-known-stated-2 : tie.Need-enum-known-stated-2
-enum-known-stated-2 c = search needs
-
-read-last-term-requires : tie.Need-read-last-term-requires
-read-last-term-requires c κs = omega (arith, c .before .before .before .before .before .before .before .pre, stated-end (now (c .before .before .before .before .before .before .before .args .s)) _ _ (sym (c .before .before .before .before .read-stated .ensures) ∙ c .before .before .stated2 .given .1))
-
-enum-known-tactic : tie.Need-enum-known-tactic
-enum-known-tactic c = search needs
-
-enum-known-tactic-2 : tie.Need-enum-known-tactic-2
-enum-known-tactic-2 c = search needs
+found-requires : tie.Need-found-requires
+found-requires c κs = search needs
 
 returns : tie.Need-returns
-returns c = (sym (stated-refused _ _ _ (sym (c .before .before .before .read-stated .ensures) ∙ c .before .stated .given .1)), kept-same _ _ _)
+returns c = (c .found .ensures ∙ job-long _ _ (c .before .before .before .begin-file .ensures) (c .before .if1 .taken), kept-same _ _ _)
+
+read-on-requires : tie.Need-read-on-requires
+read-on-requires c κs =
+    start-reading _ 3 _ _ (c .before .before .before .before .before .before .pre) (omega arith) (λ z. absurd (omega arith)) (λ z. absurd (omega arith)) _ (c .before .before .before .begin-file .ensures) (c .before .if1 .left)
+
+found-requires-2 : tie.Need-found-requires-2
+found-requires-2 c κs = search needs
 
 same-length : tie.Need-same-length
 same-length c = search needs
 
 returns-2 : tie.Need-returns-2
 returns-2 c =
-    let t = c .before .before .before .before .before in
-    (sym (tactic-refused _ _ _ (sym (t .before .before .before .before .before .read-stated .ensures) ∙ t .before .before .before .stated2 .given .1) _ _ (sym (t .read-last-term .ensures .0) ∙ c .before .tactic .given .1)), t .read-last-term .ensures .1)
-
-same-length-2 : tie.Need-same-length-2
-same-length-2 c = search needs
-
-returns-3 : tie.Need-returns-3
-returns-3 c =
-    let t = c .before .before .before .before .before in
-    (sym (job-read _ _ _ (sym (t .before .before .before .before .before .read-stated .ensures) ∙ t .before .before .before .stated2 .given .1) _ _ (sym (t .read-last-term .ensures .0) ∙ c .before .tactic2 .given .1)), t .read-last-term .ensures .1)
+    let r = c .before .before .before in
+    let b = r .before .before .before .before in
+    let h = start-reading _ 3 _ _ (b .before .before .before .pre) (omega arith) (λ z. absurd (omega arith)) (λ z. absurd (omega arith)) _ (b .begin-file .ensures) (r .before .before .if1 .left) in
+    (c .found2 .ensures ∙ job-told _ _ _ _ (b .begin-file .ensures) h _ _ (r .read-on .ensures .0) (r .read-on .ensures .1), reaches-kept _ _ _ _ _ _ (r .read-on .ensures .0))
 
 pub read-job-spec : {M : Type 1} → statement M
-read-job-spec =
-    tie.close
-    (tie.spec
-    read-stated-requires
-    enum-known-stated
-    enum-known-stated-2
-    read-last-term-requires
-    enum-known-tactic
-    enum-known-tactic-2
-    returns
-    same-length returns-2
-    same-length-2 returns-3)
+read-job-spec = tie.close (tie.spec begin-file-requires found-requires returns read-on-requires found-requires-2 same-length returns-2)

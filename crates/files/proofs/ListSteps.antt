@@ -1,0 +1,117 @@
+-- A goal list outside terms: how a file that begins with one begins, and from its header to what is read behind it.
+-- Assumes nothing.
+use mathlib.Core.Path.{_≡_, refl, sym, subst, _∙_}
+use mathlib.Core.Bool.{Bool, true, false, cond}
+use mathlib.Core.List.{List}
+use Prim.Native.Nat.{ℕ, _+_, _/_, _≤_, _<_}
+use native.Mathlib.Omega.{arith}
+use lib.Dec.{eqb, ltb}
+use lib.ListN.{length}
+use borrow.Author.Tests.{ltb-false, le-ltb, ne-eqb}
+use Rattle.format.specs.declared.headers.HeaderRead.{HeaderRead}
+use Rattle.format.specs.declared.headers.HeaderRead.the-variants as H
+use Rattle.format.specs.declared.state.State.{State}
+use Rattle.format.specs.GoalsRead.{GoalsRead}
+use Rattle.format.specs.GoalsRead as G
+use Rattle.format.specs.Limits.{mostBytes, mostGoals}
+use Rattle.format.specs.Refusals.{number, inputTooLong, limitPassed}
+use Rattle.format.specs.Results.{told}
+use Rattle.format.specs.Inputs.{ofSize}
+use Rattle.format.specs.Tags.{goalListKind, hiproofKind, tacticKind}
+use Rattle.format.specs.Headers.{headerAt}
+use Rattle.format.specs.Goals.{readGoals}
+use Rattle.format.specs.Shapes.{headerShape, goalsShape}
+use Rattle.format.specs.States.{refusing, counted, begunTerm, askingList, nextEntry, remainingTaken, listTaken, taken, blankState, begunFile}
+use Rattle.format.specs.Waiting.{readingRoom}
+use Rattle.format.specs.Reading.{Reading, headerOf, Step, Reaches, none, more}
+use Rattle.format.proofs.GoalsLaws.{header-refused, header-read, many-goals, few-goals}
+use Rattle.format.proofs.StepCases.{field-step}
+use Rattle.format.proofs.StepLaws.{fresh-list}
+use Rattle.format.proofs.ReachLaws.{reaches-reading}
+
+-- what is told of the goal list at the beginning of a file
+abbrev pub stated : List ℕ → GoalsRead
+stated s = goalsShape (ofSize s (readGoals s 0 (length s)))
+
+-- what is read behind a list of n goals that ends at close
+abbrev pub behindList : List ℕ → State → (n close : ℕ) → State
+behindList s x n close =
+    cond (eqb (x .part) 5) (remainingTaken x n close)
+    (cond (eqb (x .part) 0) (nextEntry s (counted x n (x .first) (x .second) close (x .rest) (x .field)) close)
+    (cond (eqb (x .part) 3) (begunTerm (counted x n (x .first) (x .second) close (x .rest) (x .field)) 7 close (x .end) tacticKind)
+    (begunTerm (counted x n (x .first) (x .second) close (x .rest) (x .field)) 8 close (x .end) hiproofKind)))
+
+-- from the state x to r over a goal list of which l is told
+pub data ListStep (s : List ℕ) (x : State) (l : GoalsRead) (r : State) : Type 0 where
+  stops : r .mode ≡ 0 → l ≡ G.Refused (r .number) (r .place) → ListStep s x l r
+  reads : (n close : ℕ) → l ≡ G.Read n close → r ≡ behindList s x n close → ListStep s x l r
+
+module _ (s w : List ℕ) (base : ℕ) (x : State) (h : Reading s w base x) (m : x .mode ≡ 1) (o : x .part < 6) (i : x .part ≡ 1 → ⊥) (j : x .part ≡ 2 → ⊥) where
+  -- by the header
+  from-header : (r : HeaderRead) → headerShape (headerAt s (x .at) (length s) goalListKind goalListKind false) ≡ r → ListStep s x (goalsShape (readGoals s (x .at) (length s))) (taken s x r)
+  unfolding taken listTaken readGoals number
+  from-header (H.Refused k p) e = stops refl (header-refused s (x .at) _ k p e)
+  from-header (H.Field tag len) e = rw (ne-eqb (x .part) 2 j, ne-eqb (x .part) 1 i) (go (ltb mostGoals (len / 2)) refl)
+    where
+      go : (b : Bool) → ltb mostGoals (len / 2) ≡ b → ListStep s x (goalsShape (readGoals s (x .at) (length s))) (cond b (refusing x (number limitPassed) (x .at)) (behindList s x (len / 2) (x .at + 3 + len)))
+      go true t = stops refl (header-read s (x .at) _ tag len e ∙ many-goals s (x .at) tag len t)
+      go false t = reads (len / 2) (x .at + 3 + len) (header-read s (x .at) _ tag len e ∙ few-goals s (x .at) tag len (x .at + 3 + len) t refl) refl
+
+  pub list-step : (w′ : List ℕ) (r : State) → Step s w base x w′ r → (w′ ≡ w) × ListStep s x (goalsShape (readGoals s (x .at) (length s))) r
+  unfolding headerOf
+  list-step w′ r step =
+      let f = field-step s w base x w′ r step o in
+      let l = h .lists o i j m in
+      let e : headerShape (headerAt s (x .at) (length s) goalListKind goalListKind false) ≡ headerOf s x = rw (h .outside o .1, l .0, l .1, l .2) in
+      (f .0, subst (ListStep s x (goalsShape (readGoals s (x .at) (length s)))) (sym (f .1)) (from-header (headerOf s x) e))
+
+-- nothing is read of a file that begins with a goal list and is not too long
+pub record First (s : List ℕ) (part : ℕ) (x : State) : Type 0 where
+  pub short : length s ≤ mostBytes
+  pub mode-is : x .mode ≡ 1
+  pub part-is : x .part ≡ part
+  pub at-start : x .at ≡ 0
+  pub none-counted : (x .fields ≡ 0) × (x .first ≡ 0) × (x .second ≡ 0)
+
+-- how such a file begins
+pub data Begins (s : List ℕ) (part : ℕ) (x : State) : Type 0 where
+  long : x .mode ≡ 0 → stated s ≡ G.Refused (x .number) (x .place) → Begins s part x
+  first : First s part x → Begins s part x
+
+module _ (s : List ℕ) (part : ℕ) where
+  pub begins : Begins s part (begunFile s part)
+  unfolding begunFile blankState askingList goalsShape told number
+  begins = go (ltb mostBytes (length s)) refl
+    where
+      go : (b : Bool) → ltb mostBytes (length s) ≡ b → Begins s part (cond b (refusing (blankState part) (number inputTooLong) 0) (askingList (blankState part) part 0 (length s)))
+      go true e = long refl (rw e)
+      go false e = first (record { short = ltb-false mostBytes (length s) e; mode-is = refl; part-is = refl; at-start = refl; none-counted = (refl, refl, refl) })
+
+  -- what `read_on` asks of a file that is not refused for its length
+  module _ (w : List ℕ) (base : ℕ) (room : base + readingRoom ≤ length w) (o : part < 6) (i : part ≡ 1 → ⊥) (j : part ≡ 2 → ⊥) where
+    pub begun-reading : (begunFile s part .mode ≡ 0 → ⊥) → Reading s w base (begunFile s part)
+    unfolding begunFile blankState
+    begun-reading = go (ltb mostBytes (length s))
+      where
+        go : (b : Bool) → let x = cond b (refusing (blankState part) (number inputTooLong) 0) (askingList (blankState part) part 0 (length s)) in (x .mode ≡ 0 → ⊥) → Reading s w base x
+        go true n = absurd (n refl)
+        go false n = fresh-list s w base room (blankState part) 0 refl (omega arith) (omega arith) (omega arith) part o i j .0
+
+    -- the same of a state that is known to be the first
+    pub start-reading : (x : State) → x ≡ begunFile s part → (x .mode ≡ 0 → ⊥) → Reading s w base x
+    start-reading x e n = subst (Reading s w base) (sym e) (begun-reading (rw e at n))
+
+-- over the first list of a file
+module _ (s w : List ℕ) (base part : ℕ) (o : part < 6) (i : part ≡ 1 → ⊥) (j : part ≡ 2 → ⊥) where
+  pub first-step : (x : State) → Reading s w base x → First s part x → (w′ : List ℕ) (r : State) → Step s w base x w′ r → (w′ ≡ w) × ListStep s x (stated s) r
+  first-step x h f w′ r step =
+      let p = f .part-is in
+      let l = list-step s w base x h (f .mode-is) (omega (arith, p, o)) (λ z. i (sym p ∙ z)) (λ z. j (sym p ∙ z)) w′ r step in
+      let e : goalsShape (readGoals s (x .at) (length s)) ≡ stated s = rw (f .at-start, le-ltb mostBytes (length s) (f .short)) in
+      (l .0, subst (λ (t : GoalsRead). ListStep s x t r) e (l .1))
+
+-- what each turn keeps holds at the end of any number of turns
+module _ (s : List ℕ) (base : ℕ) (P : List ℕ → State → Type 0) (keeps : (v : List ℕ) (y : State) (w′ : List ℕ) (r : State) → Reading s v base y → y .mode ≡ 1 → Step s v base y w′ r → P v y → P w′ r) where
+  pub holds-on : (w : List ℕ) (x : State) → Reading s w base x → P w x → (w′ : List ℕ) (y : State) → Reaches s base w x w′ y → P w′ y
+  holds-on w x h p _ _ none = p
+  holds-on w x h p _ _ (more v y w′ r before m step) = keeps v y w′ r (reaches-reading s base w x v y before h) m step (holds-on w x h p v y before)
