@@ -140,3 +140,7 @@ module _ (table flat : List ℕ) where
 -- a derivation that reads, with the parts that the code keeps
 pub read-at : (flat : List ℕ) (parts : FlatParts) (d : Derivation) → readFlat flat ≡ gives d → flatPartsOf d ≡ parts → DerivationAt flat parts d
 read-at flat parts d e q = record { stands = flat-stands flat d e; parts-are = q }
+
+-- bytes that are unchanged hold the same index
+pub still-indexed : (table : List ℕ) (rules : ℕ) (w w′ : List ℕ) → w′ ≡ w → RulesIndexed table rules w indexPlace → RulesIndexed table rules w′ indexPlace
+still-indexed table rules w w′ e = subst (λ (v : List ℕ). RulesIndexed table rules v indexPlace) (sym e)

@@ -13,7 +13,7 @@ use Rattle.files.specs.Shapes.{flatPartsOf}
 use Rattle.files.proofs.Answers.{flat-read, flat-refused}
 use Rattle.files.proofs.RefusedFiles.{Flat-refused}
 use Rattle.derivation.specs.Layout.{indexPlace}
-use Rattle.derivation.proofs.CheckLaws.{refused-table, refused-flat, both-read, read-at}
+use Rattle.derivation.proofs.CheckLaws.{refused-table, refused-flat, both-read, read-at, still-indexed}
 use Rattle.derivation.proofs.check.check_within.Statement.{statement}
 use Rattle.derivation.proofs.check.check_within.Tie as tie
 
@@ -24,11 +24,11 @@ table-refused c = told-refuses _ _ _ (sym (c .before .before .before .before .re
 table-read : (c : tie.After-read2) → Told (now (c .before .before .before .before .before .before .before .before .before .args .table)) (c .before .before .before .before .read-table .last .1 .0) 0 indexPlace (c .read2 .given .0 .0) (c .read2 .given .0 .1 .0) (c .read2 .given .0 .1 .1 .0)
 table-read c = told-indexed _ _ _ _ _ _ _ _ _ (c .before .before .before .before .read-table .ensures) (c .read2 .given .1)
 
-file-refused : (c : tie.After-file) → (k : Cause) × (readFlat (now (c .before .before .before .before .before .before .before .before .before .before .before .before .before .args .flat)) ≡ refused k (c .file .given .0 .1 .0)) × (number k ≡ c .file .given .0 .0)
-file-refused c = flat-refused _ _ _ (sym (c .before .before .read-flat .ensures) ∙ c .file .given .1)
+file-refused : (c : tie.After-file) → (k : Cause) × (readFlat (now (c .before .before .before .before .before .before .before .before .before .before .before .before .before .before .before .before .args .flat)) ≡ refused k (c .file .given .0 .1 .0)) × (number k ≡ c .file .given .0 .0)
+file-refused c = flat-refused _ _ _ (sym (c .before .before .before .before .read-flat .ensures .0) ∙ c .file .given .1)
 
-file-read : (c : tie.After-file2) → (d : Derivation) × (readFlat (now (c .before .before .before .before .before .before .before .before .before .before .before .before .before .args .flat)) ≡ gives d) × (flatPartsOf d ≡ c .file2 .given .0 .0)
-file-read c = flat-read _ _ (sym (c .before .before .read-flat .ensures) ∙ c .file2 .given .1)
+file-read : (c : tie.After-file2) → (d : Derivation) × (readFlat (now (c .before .before .before .before .before .before .before .before .before .before .before .before .before .before .before .before .args .flat)) ≡ gives d) × (flatPartsOf d ≡ c .file2 .given .0 .0)
+file-read c = flat-read _ _ (sym (c .before .before .before .before .read-flat .ensures .0) ∙ c .file2 .given .1)
 
 read-table-requires : tie.Need-read-table-requires
 read-table-requires c κs = (omega arith, omega (arith, c .before .before .before .before .pre))
@@ -43,7 +43,7 @@ enum-known-read-2 : tie.Need-enum-known-read-2
 enum-known-read-2 c = search needs
 
 read-flat-requires : tie.Need-read-flat-requires
-read-flat-requires c κs = search needs
+read-flat-requires c κs = omega (arith, c .before .before .before .before .before .before .before .before .before .before .before .pre, c .before .before .before .before .before .before .read-table .kept .1 .0)
 
 enum-known-file : tie.Need-enum-known-file
 enum-known-file c = search needs
@@ -56,10 +56,11 @@ enum-known-file-2 c = search needs
 
 check-entries-requires : tie.Need-check-entries-requires
 check-entries-requires c κs =
-    let t = table-read (c .before .before .before .before .before .before) in
-    let f = file-read (c .before .before) in (
+    let t = table-read (c .before .before .before .before .before .before .before .before .before) in
+    let f = file-read (c .before .before) in
+    let r = c .before .before .before .before .before .before .read-flat in (
       (t .read .table, t .read .stands),
-      ((f .0, read-at _ _ (f .0) (f .1) (f .2)), ((t .read .facts .size, omega (arith, c .before .before .before .before .before .before .before .before .before .before .before .before .before .before .before .pre, c .before .before .before .before .before .before .before .before .before .before .read-table .kept .1 .0)), t .rules)),
+      ((f .0, read-at _ _ (f .0) (f .1) (f .2)), ((t .read .facts .size, omega (arith, c .before .before .before .before .before .before .before .before .before .before .before .before .before .before .before .before .before .before .pre, c .before .before .before .before .before .before .before .before .before .before .before .before .before .read-table .kept .1 .0, r .kept .1 .0)), still-indexed _ _ _ _ (r .ensures .1) (t .rules))),
     )
 
 same-length : tie.Need-same-length
@@ -73,7 +74,7 @@ same-length-2 c = search needs
 
 returns-2 : tie.Need-returns-2
 returns-2 c =
-    let t = table-read (c .before .before .before .before .before .before) .read in
+    let t = table-read (c .before .before .before .before .before .before .before .before .before) .read in
     let f = file-refused (c .before .before) in
     c .refusal2 .ensures ∙ refused-flat _ _ (t .table) (t .reads) (f .0) _ _ (f .1) (f .2)
 
@@ -82,7 +83,7 @@ same-length-3 c = search needs
 
 returns-3 : tie.Need-returns-3
 returns-3 c =
-    let t = table-read (c .before .before .before .before .before .before .before .before .before) .read in
+    let t = table-read (c .before .before .before .before .before .before .before .before .before .before .before .before) .read in
     let f = file-read (c .before .before .before .before .before) in
     c .before .before .check-entries .ensures .0 (t .table) (f .0) (t .stands) (read-at _ _ (f .0) (f .1) (f .2)) ∙ both-read _ _ (t .table) (t .reads) (f .0) (f .1)
 
