@@ -14,12 +14,13 @@ use Rattle.format.specs.Refusals.{number}
 use Rattle.format.specs.Results.{Result, gives, refused, andThen}
 use Rattle.format.specs.Values.{ruleName, goal}
 use Rattle.format.specs.Tags.{rows, findRow, rowOf, kindOf, leastOf, mostOf, innerOf, entryKind}
+use Rattle.format.specs.Next.{fullFlat}
 use Rattle.format.specs.Headers.{Header, header, headerAt}
 use Rattle.format.specs.Standing.{Head}
 use Rattle.format.proofs.ResultLaws.{and-holds, and-same}
 use Rattle.format.proofs.HeaderLaws.{is-field, field-at}
 use Rattle.format.proofs.RefusedPlace.{Refusal, RefusedWithin, header-place}
-use Rattle.files.specs.Derivations.{Entry, useEntry, openEntry, full, withEntry, entriesOf, readEntries}
+use Rattle.files.specs.Derivations.{Entry, useEntry, openEntry, withEntry, entriesOf, readEntries}
 use Rattle.files.specs.Counts.{usesIn, opensIn}
 use Rattle.files.specs.Standing.{EntriesStand}
 use Rattle.files.proofs.FlatLaws.{use-head, open-head}
@@ -35,8 +36,8 @@ unfoldable EntriesLaw : List ℕ → (at u o : ℕ) → Result (List Entry) → 
 EntriesLaw s at u o (gives es) = Found s at u o es
 EntriesLaw s at u o (refused c p) = Refusal at (length s) c p
 
-not-full : (s : List ℕ) (at u o : ℕ) → full s at u o ≡ false → (getD s at 0 ≡ 32 → u < mostUses) × ((getD s at 0 ≡ 32 → ⊥) → o < mostOpens)
-unfolding full
+not-full : (s : List ℕ) (at u o : ℕ) → fullFlat s at u o ≡ false → (getD s at 0 ≡ 32 → u < mostUses) × ((getD s at 0 ≡ 32 → ⊥) → o < mostOpens)
+unfolding fullFlat
 not-full s at u o e = (λ t. leb-false mostUses u (rw (eq-eqb (getD s at 0) 32 t) at e), λ t. leb-false mostOpens o (rw (ne-eqb (getD s at 0) 32 t) at e))
 
 module _ (s : List ℕ) (at u o : ℕ) where
@@ -51,26 +52,26 @@ module _ (s : List ℕ) (at u o : ℕ) where
   with-open h m (refused c p) l = record { above = omega (arith, l .above); below = l .below; least = l .least; most = l .most }
 
   module _ (rec : ℕ → ℕ → ℕ → Result (List Entry)) (ih : (at u o : ℕ) → at ≤ length s → EntriesLaw s at u o (rec at u o)) where
-    by-tag : (h : Header) → headerAt s at (length s) entryKind entryKind (full s at u o) ≡ gives h → EntriesLaw s at u o (entriesOf rec s at u o h)
+    by-tag : (h : Header) → headerAt s at (length s) entryKind entryKind (fullFlat s at u o) ≡ gives h → EntriesLaw s at u o (entriesOf rec s at u o h)
     unfolding entriesOf
     by-tag h e = go (eqb (h .tag) 32) refl
       where
         room : (getD s at 0 ≡ 32 → u < mostUses) × ((getD s at 0 ≡ 32 → ⊥) → o < mostOpens)
-        room = not-full s at u o (is-field s at (length s) entryKind entryKind (full s at u o) (h .tag) (h .len) e .room)
+        room = not-full s at u o (is-field s at (length s) entryKind entryKind (fullFlat s at u o) (h .tag) (h .len) e .room)
 
         go : (b : Bool) → eqb (h .tag) 32 ≡ b → EntriesLaw s at u o (cond b (withEntry (useEntry (ruleName (word s (at + 3))) (goal (word s (at + 5)))) (rec (at + 7) (u + 1) o)) (withEntry (openEntry (goal (word s (at + 3)))) (rec (at + 5) u (o + 1))))
         go true t =
-            let k = use-head s at (full s at u o) (h .tag) (h .len) e (eqb-true _ _ t) in
+            let k = use-head s at (fullFlat s at u o) (h .tag) (h .len) e (eqb-true _ _ t) in
             with-use k (room .0 (k .tag-is)) _ (ih (at + 7) (u + 1) o (omega (arith, k .inside)))
         go false t =
-            let k = open-head s at (full s at u o) (h .tag) (h .len) e (eqb-false _ _ t) in
+            let k = open-head s at (fullFlat s at u o) (h .tag) (h .len) e (eqb-false _ _ t) in
             with-open k (room .1 (λ q. let z : _≡_ {A = ℕ} 32 33 = sym q ∙ k .tag-is in omega arith)) _ (ih (at + 5) u (o + 1) (omega (arith, k .inside)))
 
-    by-header : at ≤ length s → EntriesLaw s at u o (andThen (headerAt s at (length s) entryKind entryKind (full s at u o)) (entriesOf rec s at u o))
+    by-header : at ≤ length s → EntriesLaw s at u o (andThen (headerAt s at (length s) entryKind entryKind (fullFlat s at u o)) (entriesOf rec s at u o))
     unfolding EntriesLaw RefusedWithin
     by-header l =
         and-holds (EntriesLaw s at u o) _ _ (λ c p e.
-        let r : Refusal at at c p = subst (RefusedWithin at at) e (header-place s at (length s) entryKind entryKind (full s at u o)) in
+        let r : Refusal at at c p = subst (RefusedWithin at at) e (header-place s at (length s) entryKind entryKind (fullFlat s at u o)) in
         record { above = r .above; below = omega (arith, r .below); least = r .least; most = r .most }) by-tag
 
 entries-law : (b : ℕ) (s : List ℕ) (at u o : ℕ) → at ≤ length s → EntriesLaw s at u o (readEntries b s at u o)
@@ -105,20 +106,20 @@ same-bound (suc b) (suc c) s at u o h k = go (ltb at (length s)) refl (λ at′ 
     after ih l h = unfold entriesOf in rw (ih (at + 7) (u + 1) o (omega arith) l, ih (at + 5) u (o + 1) (omega arith) l)
 
     go : (t : Bool) → ltb at (length s) ≡ t → ((at′ u′ o′ : ℕ) → at < at′ → at < length s → readEntries b s at′ u′ o′ ≡ readEntries c s at′ u′ o′)
-        → cond t (andThen (headerAt s at (length s) entryKind entryKind (full s at u o)) (entriesOf (readEntries b s) s at u o)) (gives []) ≡ cond t (andThen (headerAt s at (length s) entryKind entryKind (full s at u o)) (entriesOf (readEntries c s) s at u o)) (gives [])
+        → cond t (andThen (headerAt s at (length s) entryKind entryKind (fullFlat s at u o)) (entriesOf (readEntries b s) s at u o)) (gives []) ≡ cond t (andThen (headerAt s at (length s) entryKind entryKind (fullFlat s at u o)) (entriesOf (readEntries c s) s at u o)) (gives [])
     go true e ih = and-same _ _ _ _ refl (λ h q. after ih (ltb-true at (length s) e) h)
     go false e ih = refl
 
 -- the header of an entry that stands there
 module _ (s : List ℕ) (at u o : ℕ) where
-  use-is : Head s at 32 4 → u < mostUses → headerAt s at (length s) entryKind entryKind (full s at u o) ≡ gives (header 32 4)
-  unfolding full kindOf leastOf mostOf innerOf rowOf rows findRow
-  use-is h m = field-at s at (length s) entryKind entryKind (full s at u o) 32 4 (h .tag-is) (h .length-is) (h .inside) (omega arith) (omega arith) (rw (eq-eqb (getD s at 0) 32 (h .tag-is)) (lt-leb mostUses u m)) (omega arith) (omega arith) (λ z. refl)
+  use-is : Head s at 32 4 → u < mostUses → headerAt s at (length s) entryKind entryKind (fullFlat s at u o) ≡ gives (header 32 4)
+  unfolding fullFlat kindOf leastOf mostOf innerOf rowOf rows findRow
+  use-is h m = field-at s at (length s) entryKind entryKind (fullFlat s at u o) 32 4 (h .tag-is) (h .length-is) (h .inside) (omega arith) (omega arith) (rw (eq-eqb (getD s at 0) 32 (h .tag-is)) (lt-leb mostUses u m)) (omega arith) (omega arith) (λ z. refl)
 
-  open-is : Head s at 33 2 → o < mostOpens → headerAt s at (length s) entryKind entryKind (full s at u o) ≡ gives (header 33 2)
-  unfolding full kindOf leastOf mostOf innerOf rowOf rows findRow
+  open-is : Head s at 33 2 → o < mostOpens → headerAt s at (length s) entryKind entryKind (fullFlat s at u o) ≡ gives (header 33 2)
+  unfolding fullFlat kindOf leastOf mostOf innerOf rowOf rows findRow
   open-is h m =
-      field-at s at (length s) entryKind entryKind (full s at u o) 33 2 (h .tag-is) (h .length-is) (h .inside) (omega arith) (omega arith)
+      field-at s at (length s) entryKind entryKind (fullFlat s at u o) 33 2 (h .tag-is) (h .length-is) (h .inside) (omega arith) (omega arith)
       (rw (ne-eqb (getD s at 0) 32 (λ q. let z : _≡_ {A = ℕ} 32 33 = sym q ∙ h .tag-is in omega arith)) (lt-leb mostOpens o m)) (omega arith) (omega arith) (λ z. refl)
 
 -- entries that stand there, within the limits, are read

@@ -7,6 +7,7 @@ pub mod JobLaws
 pub mod JobSteps
 pub mod FlatLaws
 pub mod EntriesLaw
+pub mod FlatReading
 pub mod EntryBytes
 pub mod EntriesStanding
 pub mod Files

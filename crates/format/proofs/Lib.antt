@@ -14,6 +14,7 @@ pub mod GoalsLaws
 pub mod TermTags
 pub mod TableTags
 pub mod StepLaws
+pub mod BegunTable
 pub mod StepCases
 pub mod ReadLaw
 pub mod StandsLaws

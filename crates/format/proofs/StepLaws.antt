@@ -148,7 +148,7 @@ module _ (s w : List ℕ) (base : ℕ) (room : base + readingRoom ≤ length w) 
     )
 
 -- a refusal
-refused-reading : (s w : List ℕ) (base : ℕ) (x : State) (k p : ℕ) → Reading s w base x → Reading s w base (refusing x k p)
+pub refused-reading : (s w : List ℕ) (base : ℕ) (x : State) (k p : ℕ) → Reading s w base x → Reading s w base (refusing x k p)
 refused-reading s w base x k p r = let g = r .going in record {
   going = record { ordered = g .ordered; waits = g .waits; few = g .few; most = g .most; behind = g .behind; near = λ z. absurd (omega arith); room = g .room; modes = omega arith };
   counts = r .counts;

@@ -12,6 +12,7 @@ use Rattle.format.specs.Limits.{mostRules, mostDefinitions, mostTermFields}
 use Rattle.format.specs.Results.{gives, andThen}
 use Rattle.format.specs.Values.{goal, tacticNo}
 use Rattle.format.specs.Tags.{rows, findRow, rowOf, kindOf, leastOf, mostOf, innerOf, ruleKind, definitionKind, tacticKind}
+use Rattle.format.specs.Next.{fullTable, lowest}
 use Rattle.format.specs.Headers.{header, headerAt}
 use Rattle.format.specs.Terms.{size, fields}
 use Rattle.format.specs.ReadTerms.{parsedTerm, readTerm}
@@ -22,7 +23,7 @@ use Rattle.format.proofs.GoalBytes.{word-value}
 use Rattle.format.proofs.Complete.{complete}
 use Rattle.tables.specs.Tables.{Rule, Definition, Table}
 use Rattle.tables.specs.Repeats.{ruleSize, definitionSize}
-use Rattle.tables.specs.ReadTables.{ruleField, definitionField, full, lowest, ruleOf, definitionOf, fieldOf, readField, withRule, withDefinition, fieldsOf, readFields}
+use Rattle.tables.specs.ReadTables.{ruleField, definitionField, ruleOf, definitionOf, fieldOf, readField, withRule, withDefinition, fieldsOf, readFields}
 use Rattle.tables.specs.Standing.{RuleStands, DefinitionStands, InRow, RulesStand, DefinitionsStand, TableStands}
 use Rattle.tables.specs.Within.{bodyFields}
 use Rattle.tables.proofs.RowLaws as row
@@ -40,8 +41,8 @@ table rs ds = record { rules = rs; definitions = ds }
 
 module _ (s : List ℕ) (bytes : Bytes s) where
   -- the field of a rule
-  rule-header : (at r : ℕ) (x : Rule) → RuleStands s at x → r < mostRules → headerAt s at (length s) (lowest 0) definitionKind (full s at r 0) ≡ gives (header 1 (4 + length (x .premises) * 2))
-  unfolding lowest full kindOf leastOf mostOf innerOf rowOf findRow rows
+  rule-header : (at r : ℕ) (x : Rule) → RuleStands s at x → r < mostRules → headerAt s at (length s) (lowest 0) definitionKind (fullTable s at r 0) ≡ gives (header 1 (4 + length (x .premises) * 2))
+  unfolding lowest fullTable kindOf leastOf mostOf innerOf rowOf findRow rows
   rule-header at r x st m =
       field-at s at (length s) ruleKind definitionKind _ 1 (4 + length (x .premises) * 2) (st .head .tag-is) (st .head .length-is) (st .head .inside)
       (omega arith) (omega arith) (rw (eq-eqb _ _ (st .head .tag-is)) (lt-leb mostRules r m)) (omega arith) (omega (arith, st .few)) (λ e. omega arith)
@@ -60,8 +61,8 @@ module _ (s : List ℕ) (bytes : Bytes s) where
       rw (rule-header at r x st m) (ap₂ (λ (y : Rule) (j : ℕ). gives (ruleField y j)) (rule-is at x st) e)
 
   -- the field of a definition
-  definition-header : (at r d : ℕ) (x : Definition) → DefinitionStands s at x → d < mostDefinitions → headerAt s at (length s) (lowest d) definitionKind (full s at r d) ≡ gives (header 2 (2 + size (x .body)))
-  unfolding full kindOf leastOf mostOf innerOf rowOf findRow rows
+  definition-header : (at r d : ℕ) (x : Definition) → DefinitionStands s at x → d < mostDefinitions → headerAt s at (length s) (lowest d) definitionKind (fullTable s at r d) ≡ gives (header 2 (2 + size (x .body)))
+  unfolding fullTable kindOf leastOf mostOf innerOf rowOf findRow rows
   definition-header at r d x st m =
       field-at s at (length s) (lowest d) definitionKind _ 2 (2 + size (x .body)) (st .head .tag-is) (st .head .length-is) (st .head .inside)
       (lowest-most d) (omega arith) (rw (ne-eqb (getD s at 0) 1 (λ e. omega (arith, st .head .tag-is))) (lt-leb mostDefinitions d m)) (omega arith) (omega (arith, word-value s bytes (at + 1), st .head .length-is)) (λ e. absurd (omega arith))

@@ -1,4 +1,4 @@
--- What a field of a table that was read says, and what the code tells of it: by its header, its tag and, of a definition, its body.
+-- What a field of a table that was read says: by its header, its tag and, of a definition, its body.
 -- Assumes nothing.
 use mathlib.Core.Path.{_≡_, refl, sym, subst, ap, _∙_}
 use mathlib.Core.Bool.{Bool, true, false, cond}
@@ -9,54 +9,26 @@ use lib.Dec.{eqb}
 use lib.ListN.{length, getD}
 use borrow.Author.Tests.{eqb-true, leb-false, eq-eqb, ne-eqb}
 use Rattle.words.specs.Word.{word}
-use Rattle.format.specs.declared.headers.HeaderRead.the-variants as H
-use Rattle.format.specs.TermRead as R
 use Rattle.format.specs.Limits.{mostRules, mostDefinitions, mostTermFields}
-use Rattle.format.specs.Refusals.{number, lengthWrong}
-use Rattle.format.specs.Results.{Result, gives, refused, andThen, told}
+use Rattle.format.specs.Refusals.{lengthWrong}
+use Rattle.format.specs.Results.{gives}
 use Rattle.format.specs.Values.{tacticNo}
 use Rattle.format.specs.Tags.{rows, findRow, rowOf, kindOf, leastOf, mostOf, innerOf, ruleKind, definitionKind, tacticKind}
-use Rattle.format.specs.Headers.{Header, header}
-use Rattle.format.specs.Terms.{Term, size, fields}
-use Rattle.format.specs.ReadTerms.{ParsedTerm, readTerm}
+use Rattle.format.specs.Next.{fullTable, lowest}
+use Rattle.format.specs.Headers.{header}
+use Rattle.format.specs.Terms.{size, fields}
+use Rattle.format.specs.ReadTerms.{ParsedTerm}
 use Rattle.format.specs.Goals.{goalsAt}
 use Rattle.format.specs.Standing.{Head}
-use Rattle.format.specs.Shapes.{headerShape, termShape}
-use Rattle.format.proofs.ResultLaws.{and-gives, kept, same-value, told-refused, told-gives}
-use Rattle.format.proofs.TermTags.{tagsBetween, no-more, _&_, found-tag}
+use Rattle.format.proofs.ResultLaws.{and-gives, kept, same-value}
+use Rattle.format.proofs.TableTags.{TableTag, a-rule, a-definition, table-tag, lowest-least, two-bytes}
 use Rattle.format.proofs.HeaderLaws.{IsField, is-field}
 use Rattle.format.proofs.GoalsLaws.{length-goalsAt}
 use Rattle.format.proofs.ReadLaw.{Law, read-gives}
-use Rattle.tables.specs.declared.fields.FieldRead.the-variants as F
 use Rattle.tables.specs.Tables.{Rule, Definition}
 use Rattle.tables.specs.Repeats.{ruleSize, definitionSize}
-use Rattle.tables.specs.ReadTables.{Field, ruleField, definitionField, full, lowest, ruleOf, definitionOf, fieldOf, readField}
-use Rattle.tables.specs.Shapes.{fieldTold, fieldShape}
+use Rattle.tables.specs.ReadTables.{Field, ruleField, definitionField, ruleOf, definitionOf, fieldOf, readField}
 use Rattle.tables.specs.Standing.{RuleStands, DefinitionStands}
-
--- the tags of a table's fields
-pub data TableTag : ℕ → Type 0 where
-  a-rule : TableTag 1
-  a-definition : TableTag 2
-
-pub table-tag : (t : ℕ) → ruleKind ≤ kindOf t → kindOf t ≤ definitionKind → TableTag t
-unfolding rows tagsBetween
-table-tag = found-tag TableTag ruleKind definitionKind (omega arith) (a-rule & a-definition & no-more)
-
--- what may stand where: a rule only before the first definition
-pub lowest-least : (d : ℕ) → ruleKind ≤ lowest d
-unfolding lowest
-lowest-least d = go (eqb d 0)
-  where
-    go : (b : Bool) → ruleKind ≤ cond b ruleKind definitionKind
-    go true = omega arith
-    go false = omega arith
-
--- contents of a table's field have two bytes of values at least
-pub two-bytes : {t : ℕ} → TableTag t → 2 ≤ leastOf t
-unfolding leastOf rowOf rows findRow
-two-bytes a-rule = omega arith
-two-bytes a-definition = omega arith
 
 no-definition : (d : ℕ) → lowest d ≤ ruleKind → d ≡ 0
 unfolding lowest
@@ -88,17 +60,17 @@ FieldLaw s at r d n (definitionField x next m) = DefinitionRead s at d n x next 
 
 module _ (s : List ℕ) (at r d n : ℕ) where
   abbrev IsF : ℕ → ℕ → Type 0
-  IsF tag len = IsField s at (length s) (lowest d) definitionKind (full s at r d) tag len
+  IsF tag len = IsField s at (length s) (lowest d) definitionKind (fullTable s at r d) tag len
 
   head : (tag len l : ℕ) → IsF tag len → len ≡ l → Head s at tag l
   head tag len l f e = record { tag-is = sym (f .the-tag); length-is = sym (f .the-length) ∙ e; inside = omega (arith, f) }
 
-  rule-room : full s at r d ≡ false → getD s at 0 ≡ 1 → r < mostRules
-  unfolding full
+  rule-room : fullTable s at r d ≡ false → getD s at 0 ≡ 1 → r < mostRules
+  unfolding fullTable
   rule-room e t = leb-false _ _ (rw (eq-eqb (getD s at 0) 1 t) at e)
 
-  definition-room : full s at r d ≡ false → getD s at 0 ≡ 2 → d < mostDefinitions
-  unfolding full
+  definition-room : fullTable s at r d ≡ false → getD s at 0 ≡ 2 → d < mostDefinitions
+  unfolding fullTable
   definition-room e t = leb-false _ _ (rw (ne-eqb (getD s at 0) 1 (λ z. omega arith)) at e)
 
   rule-law : (len : ℕ) → IsF 1 len → RuleRead s at r d (ruleOf s at len) (at + 3 + len)
@@ -148,60 +120,8 @@ module _ (s : List ℕ) (at r d n : ℕ) where
   field-law x e =
       let b = and-gives _ e in
       let h = b .0 in
-      let f = is-field s at (length s) (lowest d) definitionKind (full s at r d) (h .tag) (h .len) (b .1) in
+      let f = is-field s at (length s) (lowest d) definitionKind (fullTable s at r d) (h .tag) (h .len) (b .1) in
       by-tag (h .len) (table-tag (h .tag) (omega (arith, f, lowest-least d)) (f .below)) f x (b .2)
 
   pub behind-value : (tag len : ℕ) → IsF tag len → 2 ≤ len
   behind-value tag len f = omega (arith, f .least, two-bytes (table-tag tag (omega (arith, f, lowest-least d)) (f .below)))
-
--- a field that the code tells as a rule or a definition is one
-pub told-rule : (x : Result Field) (next : ℕ) → fieldShape x ≡ F.Rule next → (r : Rule) × (x ≡ gives (ruleField r next))
-unfolding fieldShape told fieldTold
-told-rule (gives (ruleField r k)) next e = let a : k ≡ next = cc in (r, rw a)
-told-rule (gives (definitionField d k n)) next e = absurd (let z : _≡_ {A = ℕ} 0 1 = cc in omega arith)
-told-rule (refused c p) next e = absurd (let z : _≡_ {A = ℕ} 0 1 = cc in omega arith)
-
-pub told-definition : (x : Result Field) (next n : ℕ) → fieldShape x ≡ F.Definition next n → (d : Definition) × (x ≡ gives (definitionField d next n))
-unfolding fieldShape told fieldTold
-told-definition (gives (ruleField r k)) next n e = absurd (let z : _≡_ {A = ℕ} 0 1 = cc in omega arith)
-told-definition (gives (definitionField d k m)) next n e =
-    let a : k ≡ next = cc in
-    let b : m ≡ n = cc in
-    (d, rw (a, b))
-told-definition (refused c p) next n e = absurd (let z : _≡_ {A = ℕ} 0 1 = cc in omega arith)
-
--- one law for each return of `read_field`: the header refused, a rule, the body refused, the body read
-pub header-refused : (s : List ℕ) (at n : ℕ) (x : Result Header) (k p : ℕ) → headerShape x ≡ H.Refused k p → fieldShape (andThen x (fieldOf s at n)) ≡ F.Refused k p
-unfolding headerShape fieldShape
-header-refused s at n x k p e =
-    told-refused H.Refused (λ h. H.Field (h .tag) (h .len)) F.Refused fieldTold x (fieldOf s at n) k p e
-    (λ c q f. let a : number c ≡ k = cc in let b : q ≡ p = cc in rw (a, b)) (λ a f. let z : _≡_ {A = ℕ} 0 1 = cc in omega arith)
-
-ending : (s : List ℕ) (at next m : ℕ) (v : Term) (b : Bool)
-    → told F.Refused fieldTold (cond b (gives (definitionField (record { tactic = tacticNo (word s (at + 3)); body = v }) next m)) (refused lengthWrong at)) ≡ cond b (F.Definition next m) (F.Refused 4 at)
-unfolding told fieldTold number
-ending s at next m v true = refl
-ending s at next m v false = refl
-
--- the field ends at `close`
-module _ (s : List ℕ) (at n tag len : ℕ) (x : Result Header) (e : x ≡ gives (header tag len)) (close : ℕ) (c : close ≡ at + 3 + len) where
-  pub rule-read : tag ≡ 1 → fieldShape (andThen x (fieldOf s at n)) ≡ F.Rule close
-  unfolding andThen fieldOf fieldShape told fieldTold
-  rule-read t = simp (e, eq-eqb tag 1 t, c)
-
-  module _ (other : tag ≡ 1 → ⊥) where
-    body : fieldShape (andThen x (fieldOf s at n)) ≡ fieldShape (andThen (readTerm (len + 1) s tacticKind (at + 5) close n) (definitionOf s at close))
-    unfolding andThen fieldOf
-    body = simp (e, ne-eqb tag 1 other, c)
-
-    pub body-refused : (k p : ℕ) → termShape (readTerm (len + 1) s tacticKind (at + 5) close n) ≡ R.Refused k p → fieldShape (andThen x (fieldOf s at n)) ≡ F.Refused k p
-    unfolding termShape fieldShape
-    body-refused k p q = body ∙ told-refused R.Refused (λ t. R.Read (t .next) (t .count)) F.Refused fieldTold _ (definitionOf s at close) k p q
-        (λ c j f. let a : number c ≡ k = cc in let b : j ≡ p = cc in rw (a, b)) (λ a f. let z : _≡_ {A = ℕ} 0 1 = cc in omega arith)
-
-    pub body-read : (next m : ℕ) (b : Bool) → eqb next close ≡ b → termShape (readTerm (len + 1) s tacticKind (at + 5) close n) ≡ R.Read next m
-        → fieldShape (andThen x (fieldOf s at n)) ≡ cond b (F.Definition next m) (F.Refused 4 at)
-    unfolding termShape fieldShape definitionOf
-    body-read next m b t q = body ∙ told-gives R.Refused (λ u. R.Read (u .next) (u .count)) F.Refused fieldTold _ (definitionOf s at close) (R.Read next m) _ q
-        (λ k p f. let z : _≡_ {A = ℕ} 0 1 = cc in omega arith)
-        (λ u g f. let i : u .next ≡ next = cc in let j : u .count ≡ m = cc in rw (i, j, t) (ending s at next m (u .term) b))

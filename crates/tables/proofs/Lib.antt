@@ -1,5 +1,7 @@
 pub mod FieldLaws
+pub mod FieldBound
 pub mod TurnLaws
+pub mod StateLaws
 pub mod RowLaws
 pub mod TableLaws
 pub mod LookupLaws
@@ -10,7 +12,6 @@ pub mod WholeLaws
 pub mod PairLaws
 pub mod Clashes
 pub mod Unique
-pub mod FieldBound
 pub mod RefusedTable
 pub mod EncodedTable
 pub mod DecodedTable

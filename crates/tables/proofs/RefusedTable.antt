@@ -13,13 +13,14 @@ use Rattle.format.specs.Limits.{mostBytes}
 use Rattle.format.specs.Refusals.{Cause, number, inputTooLong, fieldTorn, lengthWrong, ruleRepeated, premiseCountDiffers, tacticRedefined, labelRepeated}
 use Rattle.format.specs.Results.{Result, gives, refused, andThen}
 use Rattle.format.specs.Tags.{definitionKind, tacticKind}
+use Rattle.format.specs.Next.{fullTable, lowest}
 use Rattle.format.specs.Headers.{Header, headerAt}
 use Rattle.format.specs.ReadTerms.{ParsedTerm}
 use Rattle.format.proofs.HeaderLaws.{is-field}
 use Rattle.format.proofs.RefusedPlace.{RefusedWithin, further, steps, header-place, term-place}
 use Rattle.tables.specs.Tables.{Table}
 use Rattle.tables.specs.Repeats.{clashesAny, firstClash, rulesSize, refuseAt, wholeTable}
-use Rattle.tables.specs.ReadTables.{Field, ruleField, definitionField, full, lowest, definitionOf, fieldOf, readField, withRule, withDefinition, fieldsOf, readFields, readTable}
+use Rattle.tables.specs.ReadTables.{Field, ruleField, definitionField, definitionOf, fieldOf, readField, withRule, withDefinition, fieldsOf, readFields, readTable}
 use Rattle.tables.specs.Standing.{DefinitionStands, InRow, TableStands}
 use Rattle.tables.specs.Search.{stepAt, Room, clashAt, Headers, places}
 use Rattle.tables.specs.Facts.{TableRefusal}
@@ -48,10 +49,10 @@ module _ (s : List ℕ) where
   unfolding definitionOf number
   definition-place at end to t l = either at to (eqb (t .next) end) _ _ (no-refusal at to _) (at-own Field at at to lengthWrong (omega arith) l (omega arith) (omega arith))
 
-  after-header : (at r d n : ℕ) → at ≤ length s → (h : Header) → headerAt s at (length s) (lowest d) definitionKind (full s at r d) ≡ gives h → RefusedWithin at (length s) (fieldOf s at n h)
+  after-header : (at r d n : ℕ) → at ≤ length s → (h : Header) → headerAt s at (length s) (lowest d) definitionKind (fullTable s at r d) ≡ gives h → RefusedWithin at (length s) (fieldOf s at n h)
   unfolding fieldOf
   after-header at r d n l h e =
-      let f = is-field s at (length s) (lowest d) definitionKind (full s at r d) (h .tag) (h .len) e in
+      let f = is-field s at (length s) (lowest d) definitionKind (fullTable s at r d) (h .tag) (h .len) e in
       let v = behind-value s at r d n (h .tag) (h .len) f in
       let end = at + 3 + h .len in
       either at (length s) (eqb (h .tag) 1) _ _ (no-refusal at (length s) _)
@@ -60,7 +61,7 @@ module _ (s : List ℕ) where
 
   field-place : (at r d n : ℕ) → at ≤ length s → RefusedWithin at (length s) (readField s at r d n)
   unfolding readField
-  field-place at r d n l = steps at (length s) _ _ (further at at (length s) at (omega arith) l _ (header-place s at (length s) (lowest d) definitionKind (full s at r d))) (after-header at r d n l)
+  field-place at r d n l = steps at (length s) _ _ (further at at (length s) at (omega arith) l _ (header-place s at (length s) (lowest d) definitionKind (fullTable s at r d))) (after-header at r d n l)
 
   rest-place : (rec : ℕ → ℕ → ℕ → ℕ → Result Table) → ((at r d n : ℕ) → at ≤ length s → RefusedWithin 0 (length s) (rec at r d n))
       → (at r d n : ℕ) (x : Field) → FieldLaw s at r d n x → RefusedWithin 0 (length s) (fieldsOf rec r d n x)

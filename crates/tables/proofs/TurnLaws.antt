@@ -1,34 +1,52 @@
--- A turn of the loop over a table's fields: what the fields from a place on read as, by what the code tells of the first of them.
+-- The fields of a table from a place on, as the code tells them: by the header of the first, and where it is a definition by what its body comes to.
 -- Assumes nothing.
-use mathlib.Core.Path.{_≡_, refl, ap, _∙_}
+use mathlib.Core.Path.{_≡_, refl, sym, ap, _∙_}
+use mathlib.Core.Bool.{Bool, true, false, cond}
 use mathlib.Core.List.{List}
-use Prim.Native.Nat.{ℕ, zero, suc, _+_, _-_, _≤_, _<_}
+use Prim.Native.Nat.{ℕ, suc, _+_, _≤_, _<_}
 use native.Mathlib.Omega.{arith}
+use lib.Dec.{eqb}
 use lib.ListN.{length}
-use borrow.Author.Tests.{lt-ltb, le-ltb}
-use Rattle.format.specs.Refusals.{number}
+use borrow.Author.Tests.{lt-ltb, le-ltb, eq-eqb, ne-eqb, eqb-true}
+use Rattle.words.specs.Word.{word}
+use Rattle.format.specs.declared.headers.HeaderRead.the-variants as H
+use Rattle.format.specs.TermRead.{TermRead, Refused, Read}
+use Rattle.format.specs.Refusals.{number, lengthWrong}
 use Rattle.format.specs.Results.{Result, gives, refused, andThen, told}
-use Rattle.format.proofs.ResultLaws.{told-refused}
-use Rattle.tables.specs.declared.fields.FieldRead.the-variants as F
+use Rattle.format.specs.Values.{tacticNo}
+use Rattle.format.specs.Tags.{definitionKind, tacticKind}
+use Rattle.format.specs.Next.{fullTable, lowest}
+use Rattle.format.specs.Headers.{Header, header, headerAt}
+use Rattle.format.specs.ReadTerms.{ParsedTerm, readTerm}
+use Rattle.format.specs.Shapes.{headerShape, termShape}
+use Rattle.format.specs.States.{endOf}
+use Rattle.format.specs.Waiting.{reads}
+use Rattle.format.proofs.HeaderLaws.{IsField, is-field, told-field}
+use Rattle.format.proofs.ShapeLaws.{reads-any}
 use Rattle.tables.specs.declared.fields.TableRead.{TableRead}
 use Rattle.tables.specs.declared.fields.TableRead.the-variants as R
 use Rattle.tables.specs.Tables.{Rule, Definition, Table}
-use Rattle.tables.specs.Repeats.{ruleSize, definitionSize, rulesSize}
-use Rattle.tables.specs.ReadTables.{Field, ruleField, definitionField, readField, withRule, withDefinition, fieldsOf, readFields}
-use Rattle.tables.specs.Shapes.{fieldTold, fieldShape, tableShape}
-use Rattle.tables.proofs.FieldLaws.{RuleRead, DefinitionRead, FieldLaw, field-law, told-rule, told-definition}
+use Rattle.tables.specs.Repeats.{ruleSize, rulesSize}
+use Rattle.tables.specs.ReadTables.{Field, ruleField, definitionField, ruleOf, definitionOf, fieldOf, readField, withRule, withDefinition, fieldsOf, readFields}
+use Rattle.tables.specs.Shapes.{tableShape}
+use Rattle.tables.proofs.FieldLaws.{RuleRead, FieldLaw, field-law}
+use Rattle.tables.proofs.FieldBound.{same-bound}
 
 -- what the code tells of a table once so many rules and definitions are read and the rules so far end at a place
 unfoldable pub tableFrom : (rules definitions first : ℕ) → Result Table → TableRead
 tableFrom r d first x = told R.Refused (λ T. R.Read (r + length (T .rules)) (d + length (T .definitions)) (first + rulesSize (T .rules))) x
 
+-- the same of the fields from a place on, after so many term fields, at a bound that is enough for every field of the file
+unfoldable pub tableAt : List ℕ → (rules definitions first at count : ℕ) → TableRead
+tableAt s r d first at n = tableFrom r d first (readFields (suc (length s)) s at r d n)
+
+-- the same from the body of the definition at `field` on, by what the body comes to: nothing is left behind that
+unfoldable pub behindBody : List ℕ → (field rules definitions first : ℕ) → TermRead → TableRead
+behindBody s field r d first (Refused k p) = R.Refused k p
+behindBody s field r d first (Read next n) = cond (eqb next (endOf s field)) (tableAt s r (d + 1) first next n) (R.Refused (number lengthWrong) field)
+
 same-read : {a b c i j k : ℕ} → a ≡ i → b ≡ j → c ≡ k → R.Read a b c ≡ R.Read i j k
 same-read p q r = rw (p, q, r)
-
-pub from-start : (x : Result Table) → tableShape x ≡ tableFrom 0 0 0 x
-unfolding tableShape tableFrom told
-from-start (gives T) = same-read (omega arith) (omega arith) (omega arith)
-from-start (refused c p) = refl
 
 with-rule : (r d first : ℕ) (x : Rule) (y : Result Table) → tableFrom r d first (withRule x y) ≡ tableFrom (r + 1) d (first + ruleSize x) y
 unfolding tableFrom told withRule andThen rulesSize
@@ -40,59 +58,92 @@ unfolding tableFrom told withDefinition andThen
 with-definition r d first x (gives T) = same-read refl (omega arith) refl
 with-definition r d first x (refused c p) = refl
 
-module _ (s : List ℕ) (at r d n : ℕ) where
-  -- a rule or a definition that the code tells
-  pub the-rule : (next : ℕ) → fieldShape (readField s at r d n) ≡ F.Rule next → (x : Rule) × (readField s at r d n ≡ gives (ruleField x next)) × RuleRead s at r d x next
-  unfolding FieldLaw
-  the-rule next e = let t = told-rule _ next e in (t .0, t .1, field-law s at r d n _ (t .1))
+-- the whole file
+told-whole : (x : Result Table) → tableShape x ≡ tableFrom 0 0 0 x
+unfolding tableShape tableFrom told
+told-whole (gives T) = same-read (omega arith) (omega arith) (omega arith)
+told-whole (refused c p) = refl
 
-  pub the-definition : (next m : ℕ) → fieldShape (readField s at r d n) ≡ F.Definition next m → (x : Definition) × (readField s at r d n ≡ gives (definitionField x next m)) × DefinitionRead s at d n x next m
-  unfolding FieldLaw
-  the-definition next m e = let t = told-definition _ next m e in (t .0, t .1, field-law s at r d n _ (t .1))
+pub from-start : (s : List ℕ) → tableShape (readFields (length s + 1) s 0 0 0 0) ≡ tableAt s 0 0 0 0 0
+unfolding tableAt
+from-start s = told-whole _ ∙ ap (tableFrom 0 0 0) (same-bound s (length s + 1) (suc (length s)) 0 0 0 0 (omega arith) (omega arith))
 
-  -- the next field lies ahead, within the file
-  pub rule-ahead : (next : ℕ) → fieldShape (readField s at r d n) ≡ F.Rule next → (at < next) × (next ≤ length s)
-  unfolding ruleSize
-  rule-ahead next e = let t = the-rule next e in (omega (arith, t .2 .next-is), t .2 .within)
+-- no field is left
+pub at-end : (s : List ℕ) (r d first at n : ℕ) → length s ≤ at → tableAt s r d first at n ≡ R.Read r d first
+unfolding tableAt readFields tableFrom told rulesSize
+at-end s r d first at n e = rw (le-ltb at (length s) e) (same-read (omega arith) (omega arith) (omega arith))
 
-  pub definition-ahead : (next m : ℕ) → fieldShape (readField s at r d n) ≡ F.Definition next m → (at < next) × (next ≤ length s)
-  unfolding definitionSize
-  definition-ahead next m e = let t = the-definition next m e in (omega (arith, t .2 .next-is), t .2 .within)
+module _ (s : List ℕ) (r d first at n : ℕ) (l : at < length s) where
+  abbrev here : Result Header
+  here = headerAt s at (length s) (lowest d) definitionKind (fullTable s at r d)
 
-  step : (f : ℕ) → at < length s → readFields (suc f) s at r d n ≡ andThen (readField s at r d n) (fieldsOf (readFields f s) r d n)
-  unfolding readFields
-  step f l = rw (lt-ltb at (length s) l)
+  -- what follows a field, at a bound that is one less
+  abbrev rest : Field → Result Table
+  rest = fieldsOf (readFields (length s) s) r d n
 
-  module _ (first : ℕ) where
-    pub at-end : (f : ℕ) → length s ≤ at → length s - at < f → tableFrom r d first (readFields f s at r d n) ≡ R.Read r d first
-    unfolding readFields tableFrom told rulesSize
-    at-end zero e h = absurd (omega arith)
-    at-end (suc f) e h = rw (le-ltb at (length s) e) (same-read (omega arith) (omega arith) (omega arith))
+  step : tableAt s r d first at n ≡ tableFrom r d first (andThen (readField s at r d n) rest)
+  unfolding tableAt readFields
+  step = rw (lt-ltb at (length s) l)
 
-    pub turn-refused : (f k p : ℕ) → at < length s → length s - at < f → fieldShape (readField s at r d n) ≡ F.Refused k p → tableFrom r d first (readFields f s at r d n) ≡ R.Refused k p
-    unfolding tableFrom fieldShape fieldTold
-    turn-refused zero k p l h e = absurd (omega arith)
-    turn-refused (suc f) k p l h e = rw (step f l)
-        (told-refused F.Refused fieldTold R.Refused _ _ _ k p e (λ c q g. let a : number c ≡ k = cc in let b : q ≡ p = cc in rw (a, b)) (no-refusal k p))
-      where
-        no-refusal : (k p : ℕ) (x : Field) → fieldTold x ≡ F.Refused k p → ⊥
-        no-refusal k p (ruleField x next) g = let z : _≡_ {A = ℕ} 0 1 = cc in omega arith
-        no-refusal k p (definitionField x next m) g = let z : _≡_ {A = ℕ} 0 1 = cc in omega arith
+  -- a bound that is one less is enough behind a field
+  one-less : (next i j m : ℕ) → at < next → readFields (length s) s next i j m ≡ readFields (suc (length s)) s next i j m
+  one-less next i j m h = same-bound s (length s) (suc (length s)) next i j m (omega arith) (omega arith)
 
-    -- at any bound that is enough here, one that is enough at the next field
-    pub turn-rule : (f next : ℕ) → at < length s → length s - at < f → (d ≡ 0 → first ≡ at) → fieldShape (readField s at r d n) ≡ F.Rule next
-        → (g : ℕ) × (length s - next < g) × (tableFrom r d first (readFields f s at r d n) ≡ tableFrom (r + 1) d next (readFields g s next (r + 1) d n))
-    unfolding andThen fieldsOf
-    turn-rule zero next l h a e = absurd (omega arith)
-    turn-rule (suc f) next l h a e =
-        let t = the-rule next e in
-        let q : first + ruleSize (t .0) ≡ next = omega (arith, a (t .2 .first-come), t .2 .next-is) in
-        (f, omega (arith, rule-ahead next e), rw (step f l, t .1) (with-rule r d first (t .0) _ ∙ ap (λ (j : ℕ). tableFrom (r + 1) d j (readFields f s next (r + 1) d n)) q))
+  -- the header is refused
+  pub turn-refused : (k p : ℕ) → headerShape here ≡ H.Refused k p → tableAt s r d first at n ≡ R.Refused k p
+  unfolding readField headerShape tableFrom told andThen
+  turn-refused k p e = step ∙ go here e
+    where
+      go : (x : Result Header) → headerShape x ≡ H.Refused k p → tableFrom r d first (andThen (andThen x (fieldOf s at n)) rest) ≡ R.Refused k p
+      go (gives h) e = absurd (let z : _≡_ {A = ℕ} 0 1 = cc in omega arith)
+      go (refused c q) e = let a : number c ≡ k = cc in let b : q ≡ p = cc in rw (a, b)
 
-    pub turn-definition : (f next m : ℕ) → at < length s → length s - at < f → fieldShape (readField s at r d n) ≡ F.Definition next m
-        → (g : ℕ) × (length s - next < g) × (tableFrom r d first (readFields f s at r d n) ≡ tableFrom r (d + 1) first (readFields g s next r (d + 1) m))
-    unfolding andThen fieldsOf
-    turn-definition zero next m l h e = absurd (omega arith)
-    turn-definition (suc f) next m l h e =
-        let t = the-definition next m e in
-        (f, omega (arith, definition-ahead next m e), rw (step f l, t .1) (with-definition r d first (t .0) _))
+  module _ (tag len : ℕ) (e : headerShape here ≡ H.Field tag len) where
+    header-is : here ≡ gives (header tag len)
+    header-is = told-field here tag len e
+
+    field-is : IsField s at (length s) (lowest d) definitionKind (fullTable s at r d) tag len
+    field-is = is-field s at (length s) (lowest d) definitionKind (fullTable s at r d) tag len header-is
+
+    -- a rule; until a definition comes the rules end at the place
+    module _ (t : tag ≡ 1) where
+      the-field : readField s at r d n ≡ gives (ruleField (ruleOf s at len) (at + 3 + len))
+      unfolding readField andThen fieldOf
+      the-field = simp (header-is, eq-eqb tag 1 t)
+
+      the-rule : RuleRead s at r d (ruleOf s at len) (at + 3 + len)
+      unfolding FieldLaw
+      the-rule = field-law s at r d n _ the-field
+
+      pub turn-rule : (d ≡ 0 → first ≡ at) → tableAt s r d first at n ≡ tableAt s (r + 1) d (at + 3 + len) (at + 3 + len) n
+      unfolding tableAt andThen fieldsOf
+      turn-rule a =
+          let close = at + 3 + len in
+          let q : first + ruleSize (ruleOf s at len) ≡ close = omega (arith, a (the-rule .first-come), the-rule .next-is) in
+          step ∙ ap (λ (x : Result Field). tableFrom r d first (andThen x rest)) the-field
+          ∙ with-rule r d first (ruleOf s at len) _
+          ∙ ap (λ (j : ℕ). tableFrom (r + 1) d j (readFields (length s) s close (r + 1) d n)) q
+          ∙ ap (tableFrom (r + 1) d close) (one-less close (r + 1) d n (omega arith))
+
+    -- a definition, whose body is read next
+    module _ (t : tag ≡ 1 → ⊥) where
+      behind : (x : Result ParsedTerm) → tableFrom r d first (andThen (andThen x (definitionOf s at (at + 3 + len))) rest) ≡ behindBody s at r d first (termShape x)
+      unfolding andThen definitionOf fieldsOf tableAt tableFrom told termShape behindBody endOf
+      behind (refused c p) = refl
+      behind (gives u) = rw (← field-is .the-length) (go (eqb (u .next) (at + 3 + len)) refl)
+        where
+          go : (b : Bool) → eqb (u .next) (at + 3 + len) ≡ b
+              → tableFrom r d first (andThen (cond b (gives (definitionField (record { tactic = tacticNo (word s (at + 3)); body = u .term }) (u .next) (u .count))) (refused lengthWrong at)) rest)
+              ≡ cond b (tableAt s r (d + 1) first (u .next) (u .count)) (R.Refused (number lengthWrong) at)
+          go true q = with-definition r d first _ _ ∙ ap (tableFrom r (d + 1) first) (one-less (u .next) r (d + 1) (u .count) (omega (arith, eqb-true (u .next) (at + 3 + len) q)))
+          go false q = refl
+
+      the-body : readField s at r d n ≡ andThen (readTerm (len + 1) s tacticKind (at + 5) (at + 3 + len) n) (definitionOf s at (at + 3 + len))
+      unfolding readField andThen fieldOf
+      the-body = simp (header-is, ne-eqb tag 1 t)
+
+      pub turn-definition : tableAt s r d first at n ≡ behindBody s at r d first (reads s tacticKind (at + 5) (at + 3 + len) n)
+      turn-definition =
+          step ∙ ap (λ (x : Result Field). tableFrom r d first (andThen x rest)) the-body
+          ∙ behind (readTerm (len + 1) s tacticKind (at + 5) (at + 3 + len) n)
+          ∙ ap (behindBody s at r d first) (sym (reads-any s tacticKind (len + 1) (at + 5) (at + 3 + len) n (field-is .contents) (omega arith)))
