@@ -97,7 +97,7 @@ fn write_within(table: &[u8], flat: &[u8], work: &mut [u8], out: &mut [u8]) -> A
     match read {
         TableRead::Refused(number, place) => refusal(number, 1, place, 0),
         TableRead::Read(_, _, rules) => {
-            let file = read_flat(flat);
+            let file = read_flat(flat, work, 0);
             match file {
                 FlatRead::Refused(number, place) => refusal(number, 2, place, 0),
                 FlatRead::Read(parts) => write_entries(table, rules, flat, parts, work, out),

@@ -13,7 +13,7 @@ ghost use Rattle.derivation.specs.Layout.{indexPlace};
 ghost use Rattle.writer.specs.Plan.{planSize, Noted, Planned};
 ghost use Rattle.writer.specs.Leaves.{Rest};
 use derivation::layout::INDEX;
-use files::flats::USE;
+use format::tags::USE_TAG;
 use format::values::RuleName;
 use format::values::goal_at;
 use format::values::rule_name_at;
@@ -79,7 +79,7 @@ pub fn plan_entries(
     let mut at = from;
     let mut to: usize = 0;
     while at < flat.len() {
-        if flat[at] != USE {
+        if flat[at] != USE_TAG {
             plan_entry(plan, to, RuleName(0), OPEN);
             at += 5;
             to += 3;

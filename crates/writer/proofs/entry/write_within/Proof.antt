@@ -14,7 +14,7 @@ use Rattle.files.proofs.Answers.{flat-read, flat-refused}
 use Rattle.files.proofs.RefusedFiles.{Flat-refused}
 use Rattle.entries.specs.LentSpace.{Written}
 use Rattle.derivation.specs.Layout.{indexPlace}
-use Rattle.derivation.proofs.CheckLaws.{read-at}
+use Rattle.derivation.proofs.CheckLaws.{read-at, still-indexed}
 use Rattle.writer.proofs.EntryLaws.{refused-table, refused-flat, both-read}
 use Rattle.writer.proofs.entry.write_within.Statement.{statement}
 use Rattle.writer.proofs.entry.write_within.Tie as tie
@@ -26,11 +26,11 @@ table-refused c = told-refuses _ _ _ (sym (c .before .before .before .before .re
 table-read : (c : tie.After-read2) → Told (now (c .before .before .before .before .before .before .before .before .before .before .args .table)) (c .before .before .before .before .read-table .last .1 .0) 0 indexPlace (c .read2 .given .0 .0) (c .read2 .given .0 .1 .0) (c .read2 .given .0 .1 .1 .0)
 table-read c = told-indexed _ _ _ _ _ _ _ _ _ (c .before .before .before .before .read-table .ensures) (c .read2 .given .1)
 
-file-refused : (c : tie.After-file) → (k : Cause) × (readFlat (now (c .before .before .before .before .before .before .before .before .before .before .before .before .before .before .args .flat)) ≡ refused k (c .file .given .0 .1 .0)) × (number k ≡ c .file .given .0 .0)
-file-refused c = flat-refused _ _ _ (sym (c .before .before .read-flat .ensures) ∙ c .file .given .1)
+file-refused : (c : tie.After-file) → (k : Cause) × (readFlat (now (c .before .before .before .before .before .before .before .before .before .before .before .before .before .before .before .before .before .args .flat)) ≡ refused k (c .file .given .0 .1 .0)) × (number k ≡ c .file .given .0 .0)
+file-refused c = flat-refused _ _ _ (sym (c .before .before .before .before .read-flat .ensures .0) ∙ c .file .given .1)
 
-file-read : (c : tie.After-file2) → (d : Derivation) × (readFlat (now (c .before .before .before .before .before .before .before .before .before .before .before .before .before .before .args .flat)) ≡ gives d) × (flatPartsOf d ≡ c .file2 .given .0 .0)
-file-read c = flat-read _ _ (sym (c .before .before .read-flat .ensures) ∙ c .file2 .given .1)
+file-read : (c : tie.After-file2) → (d : Derivation) × (readFlat (now (c .before .before .before .before .before .before .before .before .before .before .before .before .before .before .before .before .before .args .flat)) ≡ gives d) × (flatPartsOf d ≡ c .file2 .given .0 .0)
+file-read c = flat-read _ _ (sym (c .before .before .before .before .read-flat .ensures .0) ∙ c .file2 .given .1)
 
 read-table-requires : tie.Need-read-table-requires
 read-table-requires c κs = (omega arith, omega (arith, c .before .before .before .before .before .pre))
@@ -45,7 +45,7 @@ enum-known-read-2 : tie.Need-enum-known-read-2
 enum-known-read-2 c = search needs
 
 read-flat-requires : tie.Need-read-flat-requires
-read-flat-requires c κs = search needs
+read-flat-requires c κs = omega (arith, c .before .before .before .before .before .before .before .before .before .before .before .before .pre, c .before .before .before .before .before .before .read-table .kept .1 .0)
 
 enum-known-file : tie.Need-enum-known-file
 enum-known-file c = search needs
@@ -58,11 +58,12 @@ enum-known-file-2 c = search needs
 
 write-entries-requires : tie.Need-write-entries-requires
 write-entries-requires c κs =
-    let t = table-read (c .before .before .before .before .before .before .before) in
+    let t = table-read (c .before .before .before .before .before .before .before .before .before .before) in
     let f = file-read (c .before .before .before) in
-    let same = c .before .before .before .before .before .before .before .before .before .before .before .read-table .kept .1 .0 in (
+    let r = c .before .before .before .before .before .before .before .read-flat in
+    let same = c .before .before .before .before .before .before .before .before .before .before .before .before .before .before .read-table .kept .1 .0 in (
       (t .read .table, t .read .stands),
-      ((f .0, read-at _ _ (f .0) (f .1) (f .2)), ((t .read .facts .size, omega (arith, c .before .before .before .before .before .before .before .before .before .before .before .before .before .before .before .before .before .pre, same)), t .rules)),
+      ((f .0, read-at _ _ (f .0) (f .1) (f .2)), ((t .read .facts .size, omega (arith, c .before .before .before .before .before .before .before .before .before .before .before .before .before .before .before .before .before .before .before .before .pre, same, r .kept .1 .0)), still-indexed _ _ _ _ (r .ensures .1) (t .rules))),
     )
 
 same-length : tie.Need-same-length
@@ -79,9 +80,9 @@ same-length-2 c = search needs
 
 returns-2 : tie.Need-returns-2
 returns-2 c =
-    let t = table-read (c .before .before .before .before .before .before) .read in
+    let t = table-read (c .before .before .before .before .before .before .before .before .before) .read in
     let f = file-refused (c .before .before) in
-    let e = refused-flat _ _ (now (c .before .before .before .before .before .before .before .before .before .before .before .before .before .before .before .before .args .out)) (t .table) (t .reads) (f .0) _ _ (f .1) (f .2) in
+    let e = refused-flat _ _ (now (c .before .before .before .before .before .before .before .before .before .before .before .before .before .before .before .before .before .before .before .args .out)) (t .table) (t .reads) (f .0) _ _ (f .1) (f .2) in
     (c .refusal2 .ensures ∙ ap (λ (x : Written). x .answer) e, ap (λ (x : Written). x .out) e)
 
 same-length-3 : tie.Need-same-length-3
@@ -92,11 +93,11 @@ same-length-4 c = search needs
 
 returns-3 : tie.Need-returns-3
 returns-3 c =
-    let t = table-read (c .before .before .before .before .before .before .before .before .before .before .before .before) .read in
+    let t = table-read (c .before .before .before .before .before .before .before .before .before .before .before .before .before .before .before) .read in
     let f = file-read (c .before .before .before .before .before .before .before .before) in
     let at = read-at _ _ (f .0) (f .1) (f .2) in
     let w = c .before .before .before .before .write-entries .ensures in
-    let e = both-read _ _ (now (c .before .before .before .before .before .before .before .before .before .before .before .before .before .before .before .before .before .before .before .before .before .before .args .out)) (t .table) (t .reads) (f .0) (f .1) in
+    let e = both-read _ _ (now (c .before .before .before .before .before .before .before .before .before .before .before .before .before .before .before .before .before .before .before .before .before .before .before .before .before .args .out)) (t .table) (t .reads) (f .0) (f .1) in
     (w .0 (t .table) (f .0) (t .stands) at ∙ ap (λ (x : Written). x .answer) e, w .1 (t .table) (f .0) (t .stands) at ∙ ap (λ (x : Written). x .out) e)
 
 pub write-within-spec : {M : Type 1} → statement M
