@@ -49,7 +49,7 @@ module _ (s w : List ℕ) (base : ℕ) (room : base + readingRoom ≤ length w) 
 
   -- the next field of a table, the next entry, a goal list, a term
   module _ (x : State) (at : ℕ) (d : x .depth ≡ 0) (l : at ≤ length s) (a : x .first ≤ at) (b : x .second ≤ at) where
-    fresh-field : Fresh at (nextField s x at)
+    pub fresh-field : Fresh at (nextField s x at)
     unfolding nextField weight
     fresh-field = go (leb (length s) at) refl
       where
