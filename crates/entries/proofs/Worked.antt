@@ -17,13 +17,13 @@ use Rattle.format.specs.ReadTerms.{leaf, pair, closed, contents, termOf, readTe
 use Rattle.format.specs.Refusals.{number}
 use Rattle.format.specs.Results.{andThen}
 use Rattle.format.specs.Tags.{rows, findRow, rowOf, kindOf, leastOf, mostOf, innerOf, lengthFits}
+use Rattle.format.specs.Next.{fullTable, lowest, fullFlat}
 use Rattle.format.specs.Terms.{size, fields}
 use Rattle.tables.specs.Lookup.{findRuleIn, findRule, findBodyIn, findBody, matches}
-use Rattle.tables.specs.ReadTables.{full, lowest, ruleOf, definitionOf, fieldOf, readField, withRule, withDefinition, fieldsOf, readFields, readTable}
+use Rattle.tables.specs.ReadTables.{ruleOf, definitionOf, fieldOf, readField, withRule, withDefinition, fieldsOf, readFields, readTable}
 use Rattle.tables.specs.Repeats.{ruleSize, definitionSize, rulesSize, placedRules, placedTactics, placedLabels, labelsOf, clashesAny, firstClash, repeatsRule, recountsRule, repeatsTactic, repeatsLabel, refuseAt, wholeTable}
 use Rattle.tables.specs.Search.{searchedTag, stepAt, besides, clashAt, places, clashTold}
 use Rattle.files.specs.Counts.{jobTermPlace}
-use Rattle.files.specs.Derivations as DerivationsM
 use Rattle.files.specs.Derivations.{withEntry, entriesOf, readEntries, derivationOf, readFlat, entryBytes, entriesBytes, flatBytes, entriesPlace}
 use Rattle.files.specs.Jobs.{lastTermOf, readLastTerm, jobOf, readJob, jobBytes}
 use Rattle.files.specs.Proofs.{remainingOf, hiproofOf, proofOf, readProof, proofBytes, termPlace, remainingPlace}
@@ -44,7 +44,7 @@ use Rattle.entries.specs.Run.{runEnd, runResult, runOutcome, runTactic}
 use Rattle.entries.specs.Worked.{beside, sideBySide, sideBySideOr, starredLines, edgeLines}
 
 pub starred : AllHold starredLines
-unfolding word termBytes goalBytes goalsAt goalsOf readGoals headerAt leaf pair closed contents termOf readTerm number andThen rows findRow rowOf kindOf leastOf mostOf innerOf lengthFits size fields findRuleIn findRule findBodyIn findBody matches full lowest ruleOf definitionOf fieldOf readField withRule withDefinition fieldsOf readFields readTable ruleSize definitionSize rulesSize placedRules placedTactics placedLabels labelsOf clashesAny firstClash repeatsRule recountsRule repeatsTactic repeatsLabel refuseAt wholeTable searchedTag stepAt besides clashAt places clashTold jobTermPlace DerivationsM.full withEntry entriesOf readEntries derivationOf readFlat entryBytes entriesBytes flatBytes entriesPlace lastTermOf readLastTerm jobOf readJob jobBytes remainingOf hiproofOf proofOf readProof proofBytes termPlace remainingPlace taken flatWalk forest inputArity atomics dropLabels Unlabelled unwind begin stepFrom step run start arityIn arityAfter tacticArity onOneGoal onNoGoal premisesOr tooLong joined walk treeTerms written sameGoals remainingAre checked onProof proofCounts forestFile check flatten nonePending right flatCounts checkFlatOutcome writtenProof writtenFile writeOutcome checkFlat writeProof checkIn writeOut writeIn Holds digits acceptedLine refusedLine printedLine runEnd runResult runOutcome runTactic beside sideBySide sideBySideOr starredLines edgeLines
+unfolding word termBytes goalBytes goalsAt goalsOf readGoals headerAt leaf pair closed contents termOf readTerm number andThen rows findRow rowOf kindOf leastOf mostOf innerOf lengthFits size fields findRuleIn findRule findBodyIn findBody matches fullTable lowest ruleOf definitionOf fieldOf readField withRule withDefinition fieldsOf readFields readTable ruleSize definitionSize rulesSize placedRules placedTactics placedLabels labelsOf clashesAny firstClash repeatsRule recountsRule repeatsTactic repeatsLabel refuseAt wholeTable searchedTag stepAt besides clashAt places clashTold jobTermPlace fullFlat withEntry entriesOf readEntries derivationOf readFlat entryBytes entriesBytes flatBytes entriesPlace lastTermOf readLastTerm jobOf readJob jobBytes remainingOf hiproofOf proofOf readProof proofBytes termPlace remainingPlace taken flatWalk forest inputArity atomics dropLabels Unlabelled unwind begin stepFrom step run start arityIn arityAfter tacticArity onOneGoal onNoGoal premisesOr tooLong joined walk treeTerms written sameGoals remainingAre checked onProof proofCounts forestFile check flatten nonePending right flatCounts checkFlatOutcome writtenProof writtenFile writeOutcome checkFlat writeProof checkIn writeOut writeIn Holds digits acceptedLine refusedLine printedLine runEnd runResult runOutcome runTactic beside sideBySide sideBySideOr starredLines edgeLines
 starred = refl & refl & refl & refl & refl & refl & refl & refl & refl & refl & refl & refl & no-more
 
 -- a table of more bytes than a file may have is refused unread
@@ -53,7 +53,7 @@ unfolding onProof readTable
 too-long s p h = rw (lt-ltb mostBytes (length s) h)
 
 pub edges : AllHold edgeLines
-unfolding word termBytes goalBytes goalsAt goalsOf readGoals headerAt leaf pair closed contents termOf readTerm number andThen rows findRow rowOf kindOf leastOf mostOf innerOf lengthFits size fields findRuleIn findRule findBodyIn findBody matches full lowest ruleOf definitionOf fieldOf readField withRule withDefinition fieldsOf readFields readTable ruleSize definitionSize rulesSize placedRules placedTactics placedLabels labelsOf clashesAny firstClash repeatsRule recountsRule repeatsTactic repeatsLabel refuseAt wholeTable searchedTag stepAt besides clashAt places clashTold jobTermPlace DerivationsM.full withEntry entriesOf readEntries derivationOf readFlat entryBytes entriesBytes flatBytes entriesPlace lastTermOf readLastTerm jobOf readJob jobBytes remainingOf hiproofOf proofOf readProof proofBytes termPlace remainingPlace taken flatWalk forest inputArity atomics dropLabels Unlabelled unwind begin stepFrom step run start arityIn arityAfter tacticArity onOneGoal onNoGoal premisesOr tooLong joined walk treeTerms written sameGoals remainingAre checked onProof proofCounts forestFile check flatten nonePending right flatCounts checkFlatOutcome writtenProof writtenFile writeOutcome checkFlat writeProof checkIn writeOut writeIn Holds digits acceptedLine refusedLine printedLine runEnd runResult runOutcome runTactic beside sideBySide sideBySideOr starredLines edgeLines
+unfolding word termBytes goalBytes goalsAt goalsOf readGoals headerAt leaf pair closed contents termOf readTerm number andThen rows findRow rowOf kindOf leastOf mostOf innerOf lengthFits size fields findRuleIn findRule findBodyIn findBody matches fullTable lowest ruleOf definitionOf fieldOf readField withRule withDefinition fieldsOf readFields readTable ruleSize definitionSize rulesSize placedRules placedTactics placedLabels labelsOf clashesAny firstClash repeatsRule recountsRule repeatsTactic repeatsLabel refuseAt wholeTable searchedTag stepAt besides clashAt places clashTold jobTermPlace fullFlat withEntry entriesOf readEntries derivationOf readFlat entryBytes entriesBytes flatBytes entriesPlace lastTermOf readLastTerm jobOf readJob jobBytes remainingOf hiproofOf proofOf readProof proofBytes termPlace remainingPlace taken flatWalk forest inputArity atomics dropLabels Unlabelled unwind begin stepFrom step run start arityIn arityAfter tacticArity onOneGoal onNoGoal premisesOr tooLong joined walk treeTerms written sameGoals remainingAre checked onProof proofCounts forestFile check flatten nonePending right flatCounts checkFlatOutcome writtenProof writtenFile writeOutcome checkFlat writeProof checkIn writeOut writeIn Holds digits acceptedLine refusedLine printedLine runEnd runResult runOutcome runTactic beside sideBySide sideBySideOr starredLines edgeLines
 edges =
     refl & refl & refl & refl
     & too-long (replicate 65536 0) [] (rw length-replicate (omega arith))

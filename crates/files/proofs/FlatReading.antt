@@ -117,14 +117,10 @@ module _ (s : List ℕ) where
   over x n (at-entries m p e) = absurd (n m)
   over x n (all-read m l e) = rw (ne-eqb (x .mode) 0 (λ z. omega (arith, m, z))) (e ∙ at-end (x .goals) (x .from) s (length s) (x .at) (x .first) (x .second) l)
 
-  -- a file that is refused at once
-  pub flat-long : (x : State) → x ≡ begunFile s 0 → x .mode ≡ 0 → toldFlat x ≡ flatShape (readFlat s)
-  flat-long x e m = sym (over x (λ z. omega (arith, m, z)) (subst FlatState (sym e) begun))
-
   -- the whole file
-  module _ (w : List ℕ) (base : ℕ) (room : base + readingRoom ≤ length w) (x : State) (e : x ≡ begunFile s 0) (n : x .mode ≡ 0 → ⊥) where
+  module _ (w : List ℕ) (base : ℕ) (room : base + readingRoom ≤ length w) (x : State) (e : x ≡ begunFile s 0) where
     pub flat-reading : Reading s w base x
-    flat-reading = start-reading s 0 w base room (omega arith) (λ z. omega (arith, z)) (λ z. omega (arith, z)) x e n
+    flat-reading = start-reading s 0 w base room (omega arith) (λ z. omega (arith, z)) (λ z. omega (arith, z)) x e
 
     pub flat-told : (w′ : List ℕ) (y : State) → Reaches s base w x w′ y → (y .mode ≡ 1 → ⊥) → (toldFlat y ≡ flatShape (readFlat s)) × (w′ ≡ w)
     flat-told w′ y r o =

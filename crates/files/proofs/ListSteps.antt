@@ -26,7 +26,7 @@ use Rattle.format.specs.Waiting.{readingRoom}
 use Rattle.format.specs.Reading.{Reading, headerOf, Step, Reaches, none, more}
 use Rattle.format.proofs.GoalsLaws.{header-refused, header-read, many-goals, few-goals}
 use Rattle.format.proofs.StepCases.{field-step}
-use Rattle.format.proofs.StepLaws.{fresh-list}
+use Rattle.format.proofs.StepLaws.{fresh-list, refused-reading}
 use Rattle.format.proofs.ReachLaws.{reaches-reading}
 
 -- what is told of the goal list at the beginning of a file
@@ -83,23 +83,25 @@ module _ (s : List ℕ) (part : ℕ) where
   unfolding begunFile blankState askingList goalsShape told number
   begins = go (ltb mostBytes (length s)) refl
     where
-      go : (b : Bool) → ltb mostBytes (length s) ≡ b → Begins s part (cond b (refusing (blankState part) (number inputTooLong) 0) (askingList (blankState part) part 0 (length s)))
+      go : (b : Bool) → ltb mostBytes (length s) ≡ b → Begins s part (cond b (refusing (askingList (blankState part) part 0 (length s)) (number inputTooLong) 0) (askingList (blankState part) part 0 (length s)))
       go true e = long refl (rw e)
       go false e = first (record { short = ltb-false mostBytes (length s) e; mode-is = refl; part-is = refl; at-start = refl; none-counted = (refl, refl, refl) })
 
-  -- what `read_on` asks of a file that is not refused for its length
+  -- what `read_on` asks
   module _ (w : List ℕ) (base : ℕ) (room : base + readingRoom ≤ length w) (o : part < 6) (i : part ≡ 1 → ⊥) (j : part ≡ 2 → ⊥) where
-    pub begun-reading : (begunFile s part .mode ≡ 0 → ⊥) → Reading s w base (begunFile s part)
+    begun-reading : Reading s w base (begunFile s part)
     unfolding begunFile blankState
     begun-reading = go (ltb mostBytes (length s))
       where
-        go : (b : Bool) → let x = cond b (refusing (blankState part) (number inputTooLong) 0) (askingList (blankState part) part 0 (length s)) in (x .mode ≡ 0 → ⊥) → Reading s w base x
-        go true n = absurd (n refl)
-        go false n = fresh-list s w base room (blankState part) 0 refl (omega arith) (omega arith) (omega arith) part o i j .0
+        asked : Reading s w base (askingList (blankState part) part 0 (length s))
+        asked = fresh-list s w base room (blankState part) 0 refl (omega arith) (omega arith) (omega arith) part o i j .0
 
-    -- the same of a state that is known to be the first
-    pub start-reading : (x : State) → x ≡ begunFile s part → (x .mode ≡ 0 → ⊥) → Reading s w base x
-    start-reading x e n = subst (Reading s w base) (sym e) (begun-reading (rw e at n))
+        go : (b : Bool) → Reading s w base (cond b (refusing (askingList (blankState part) part 0 (length s)) (number inputTooLong) 0) (askingList (blankState part) part 0 (length s)))
+        go true = refused-reading s w base _ _ _ asked
+        go false = asked
+
+    pub start-reading : (x : State) → x ≡ begunFile s part → Reading s w base x
+    start-reading x e = subst (Reading s w base) (sym e) begun-reading
 
 -- over the first list of a file
 module _ (s w : List ℕ) (base part : ℕ) (o : part < 6) (i : part ≡ 1 → ⊥) (j : part ≡ 2 → ⊥) where

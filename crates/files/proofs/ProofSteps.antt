@@ -2,7 +2,7 @@
 -- Assumes nothing.
 use mathlib.Core.Path.{_≡_, refl, sym, subst, _∙_}
 use mathlib.Core.Bool.{Bool, true, false, cond}
-use mathlib.Core.List.{List, []}
+use mathlib.Core.List.{List}
 use Prim.Native.Nat.{ℕ}
 use native.Mathlib.Omega.{arith}
 use lib.Dec.{eqb}
@@ -93,7 +93,3 @@ module _ (s : List ℕ) (base : ℕ) where
 
     pub proof-told : Reading s w base x → (w′ : List ℕ) (r : State) → Reaches s base w x w′ r → (r .mode ≡ 1 → ⊥) → toldProof r ≡ proofShape (readProof s)
     proof-told h w′ r reaches n = tells w′ r (holds-on s base Known keeps w x h start-known w′ r reaches) n
-
--- a file that is refused at once; where nothing is read, the bytes that wait do not matter
-pub proof-long : (s : List ℕ) (x : State) → x ≡ begunFile s 4 → x .mode ≡ 0 → toldProof x ≡ proofShape (readProof s)
-proof-long s x e m = tells s 0 [] x (start-known s 0 [] x e) (λ z. omega (arith, m, z))

@@ -47,9 +47,6 @@ pub fn read_flat(s: &[u8], work: &mut [u8], base: usize) -> FlatRead
     ensures { λ _. ⌜ now (work .exit) ≡ now (work .entry) ⌝ }
 {
     let start = begin_file(s, ROOTS);
-    if start.mode == REFUSED {
-        return found(start);
-    }
     let last = read_on(s, start, work, base);
     found(last)
 }

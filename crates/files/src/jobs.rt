@@ -46,9 +46,6 @@ pub fn read_job(s: &[u8], work: &mut [u8], base: usize) -> JobRead
     ensures { λ _. ⌜ Kept (now (work .entry)) (now (work .exit)) base (base + readingRoom) ⌝ }
 {
     let start = begin_file(s, JOB_GOALS);
-    if start.mode == REFUSED {
-        return found(start);
-    }
     let last = read_on(s, start, work, base);
     found(last)
 }

@@ -50,9 +50,6 @@ pub fn read_proof(s: &[u8], work: &mut [u8], base: usize) -> ProofRead
     ensures { λ _. ⌜ Kept (now (work .entry)) (now (work .exit)) base (base + readingRoom) ⌝ }
 {
     let start = begin_file(s, PROOF_GOALS);
-    if start.mode == REFUSED {
-        return found(start);
-    }
     let last = read_on(s, start, work, base);
     found(last)
 }

@@ -49,7 +49,7 @@ module _ (s w : List ℕ) (base : ℕ) (room : base + readingRoom ≤ length w) 
 
   -- the next field of a table, the next entry, a goal list, a term
   module _ (x : State) (at : ℕ) (d : x .depth ≡ 0) (l : at ≤ length s) (a : x .first ≤ at) (b : x .second ≤ at) where
-    fresh-field : Fresh at (nextField s x at)
+    pub fresh-field : Fresh at (nextField s x at)
     unfolding nextField weight
     fresh-field = go (leb (length s) at) refl
       where
@@ -148,7 +148,7 @@ module _ (s w : List ℕ) (base : ℕ) (room : base + readingRoom ≤ length w) 
     )
 
 -- a refusal
-refused-reading : (s w : List ℕ) (base : ℕ) (x : State) (k p : ℕ) → Reading s w base x → Reading s w base (refusing x k p)
+pub refused-reading : (s w : List ℕ) (base : ℕ) (x : State) (k p : ℕ) → Reading s w base x → Reading s w base (refusing x k p)
 refused-reading s w base x k p r = let g = r .going in record {
   going = record { ordered = g .ordered; waits = g .waits; few = g .few; most = g .most; behind = g .behind; near = λ z. absurd (omega arith); room = g .room; modes = omega arith };
   counts = r .counts;

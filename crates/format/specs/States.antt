@@ -100,7 +100,9 @@ blankState part = record { mode = 0; part = part; low = 0; high = 0; full = fals
 
 -- a file that begins with a goal list, unless it is too long
 unfoldable pub begunFile : List ℕ → (part : ℕ) → State
-begunFile s part = cond (ltb mostBytes (length s)) (refusing (blankState part) (number inputTooLong) 0) (askingList (blankState part) part 0 (length s))
+begunFile s part =
+    let x = askingList (blankState part) part 0 (length s) in
+    cond (ltb mostBytes (length s)) (refusing x (number inputTooLong) 0) x
 
 -- a table
 unfoldable pub begunTable : List ℕ → State

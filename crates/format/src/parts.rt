@@ -291,11 +291,12 @@ pub fn begin_file(s: &[u8], part: u8) -> State
     ensures { λ r. ⌜ r ≡ begunFile (now (s .entry)) part ⌝ }
 {
     let end = s.len();
-    let x = blank(part);
+    let none = blank(part);
+    let x = ask_list(none, part, 0, end);
     if MOST_BYTES < end {
         return refused(x, 1, 0);
     }
-    ask_list(x, part, 0, end)
+    x
 }
 
 // A table.

@@ -18,9 +18,8 @@ use Rattle.tables.specs.Repeats.{clashesAny, firstClash}
 use Rattle.tables.specs.Search.{clashAt, Headers, places, clashTold}
 use Rattle.tables.proofs.SearchLaws.{silent, same-value, for-length, for-value, none-clashes}
 use Rattle.index.specs.Layout.{seenRoom}
-use Rattle.index.specs.Blank.{Blank}
 use Rattle.index.specs.Keys.{Tagged}
-use Rattle.index.specs.Seen.{half, putHalf, seenAt, putSeen, markOf, Marked, Noted, Seen, Meets, Repeats}
+use Rattle.index.specs.Seen.{half, putHalf, seenAt, putSeen, markOf, Marked, Noted, ValueOf, Seen, Meets, Readies, Repeats}
 use Rattle.index.proofs.TurnLaws.{headers-one}
 use Rattle.index.proofs.KeyLaws.{never, key-says, clash-says, any-clash, no-clash}
 
@@ -144,18 +143,18 @@ module _ (number : ℕ) (s : List ℕ) (p q : ℕ) (tp : Tagged number s p) (tq 
 
 -- what the table says of one field more
 module _ (number : ℕ) (s w : List ℕ) (base at : ℕ) where
-  abbrev With : List ℕ → List ℕ → Type 0
-  With v seen = Seen number s (seen ++ (at ∷ [])) v base
+  abbrev With : List ℕ → List ℕ → List ℕ → Type 0
+  With v all seen = Seen number s all (seen ++ (at ∷ [])) v base
 
   -- a table with the marks of those seen has that of one more, where each value seen then is that of a field
-  one-more : (v seen : List ℕ)
+  one-more : (v all seen : List ℕ)
       → ((p : ℕ) → List·Memᴰ p seen → Tagged number s p → Noted number s v base p)
       → (Tagged number s at → Noted number s v base at)
-      → ((u : ℕ) → u < 65536 → 0 < seenAt v base u → ((p : ℕ) × List·Memᴰ p seen × Tagged number s p × (word s (p + 3) ≡ u)) ⊎ (Tagged number s at × (word s (at + 3) ≡ u)))
-      → With v seen
-  one-more v seen old new only = record {
+      → ((u : ℕ) → ValueOf number s all u → u < 65536 → 0 < seenAt v base u → ValueOf number s seen u ⊎ (Tagged number s at × (word s (at + 3) ≡ u)))
+      → With v all seen
+  one-more v all seen old new only = record {
     held = λ p m t. holds p t (List·Memᴰ·append-cases seen m);
-    only = λ u l h. finds u (only u l h);
+    only = λ u a l h. finds u (only u a l h);
   }
     where
       holds : (p : ℕ) → Tagged number s p → List·Memᴰ p seen ⊎ List·Memᴰ p (at ∷ []) → Noted number s v base p
@@ -164,15 +163,15 @@ module _ (number : ℕ) (s w : List ℕ) (base at : ℕ) where
           let e = List·Memᴰ·eq-of-singleton m in
           subst (λ (x : ℕ). Noted number s v base x) (sym e) (new (subst (λ (x : ℕ). Tagged number s x) e t))
 
-      finds : (u : ℕ) → ((p : ℕ) × List·Memᴰ p seen × Tagged number s p × (word s (p + 3) ≡ u)) ⊎ (Tagged number s at × (word s (at + 3) ≡ u)) → (p : ℕ) × List·Memᴰ p (seen ++ (at ∷ [])) × Tagged number s p × (word s (p + 3) ≡ u)
+      finds : (u : ℕ) → ValueOf number s seen u ⊎ (Tagged number s at × (word s (at + 3) ≡ u)) → ValueOf number s (seen ++ (at ∷ [])) u
       finds u (inl x) = (x .0, Memᴰ·append-left (at ∷ []) (x .1), x .2, x .3)
       finds u (inr x) = (at, Memᴰ·append-right seen (List·Memᴰ·head refl), x .0, x .1)
 
   -- a field of another tag
   pub passed : (Tagged number s at → ⊥) → Meets number s w w base at false
   passed h = record {
-    told = λ seen x. none-clashes (clashAt number s) at (λ q. silent number s at h q .0) seen;
-    entered = λ seen x e. one-more w seen (x .held) (λ t. absurd (h t)) (λ u l k. inl (x .only u l k));
+    told = λ all seen m x. none-clashes (clashAt number s) at (λ q. silent number s at h q .0) seen;
+    entered = λ all seen x e. one-more w all seen (x .held) (λ t. absurd (h t)) (λ u a l k. inl (x .only u a l k));
     kept = kept-same w base (base + seenRoom);
   }
 
@@ -181,7 +180,7 @@ module _ (number : ℕ) (s w : List ℕ) (base at : ℕ) where
     there = seenAt w base (word s (at + 3))
 
     -- a field seen that clashes has the same value, so its mark is there
-    module _ (seen : List ℕ) (x : Seen number s seen w base) where
+    module _ (all seen : List ℕ) (x : Seen number s all seen w base) where
       same-there : (q : ℕ) → List·Memᴰ q seen → clashAt number s at q ≡ true → Tagged number s q × (word s (at + 3) ≡ word s (q + 3)) × Marked number s q × (there ≡ markOf number s q)
       same-there q m c =
           let t = clash-says number s at q c in
@@ -192,13 +191,13 @@ module _ (number : ℕ) (s w : List ℕ) (base at : ℕ) where
       none-seen : there ≡ 0 → clashesAny (clashAt number s) at seen ≡ false
       none-seen z = no-clash (clashAt number s) at seen (λ q m c. let h = same-there q m c in omega (arith, h .2 .some, h .3))
 
-      nine-seen : number ≡ 9 → 0 < there → clashesAny (clashAt number s) at seen ≡ true
-      nine-seen e h = let q = x .only (word s (at + 3)) small h in any-clash (clashAt number s) at seen (q .0) (q .1) (nine number s at (q .0) tag (q .2) (sym (q .3)) e)
+      nine-seen : List·Memᴰ at all → number ≡ 9 → 0 < there → clashesAny (clashAt number s) at seen ≡ true
+      nine-seen m e h = let q = x .only (word s (at + 3)) (at, m, tag, refl) small h in any-clash (clashAt number s) at seen (q .0) (q .1) (nine number s at (q .0) tag (q .2) (sym (q .3)) e)
 
       module _ (not-9 : number ≡ 9 → ⊥) where
-        other-seen : 0 < there → (there ≡ markOf number s at → ⊥) → clashesAny (clashAt number s) at seen ≡ true
-        other-seen h ne =
-            let q = x .only (word s (at + 3)) small h in
+        other-seen : List·Memᴰ at all → 0 < there → (there ≡ markOf number s at → ⊥) → clashesAny (clashAt number s) at seen ≡ true
+        other-seen m h ne =
+            let q = x .only (word s (at + 3)) (at, m, tag, refl) small h in
             let k = x .held (q .0) (q .1) (q .2) in
             any-clash (clashAt number s) at seen (q .0) (q .1) (seven number s at (q .0) tag (q .2) (sym (q .3)) own (k .own) not-9 ∙ ap not (ne-eqb _ _ (λ e. ne (ap (seenAt w base) (sym (q .3)) ∙ k .there ∙ sym e))))
 
@@ -210,13 +209,13 @@ module _ (number : ℕ) (s w : List ℕ) (base at : ℕ) where
       seen-is : earlier ≡ there
       seen-is = earlier-is ∙ ap (seenAt w base) value-is
 
-      known : (seen : List ℕ) → Seen number s seen w base → there ≡ markOf number s at → With w seen
-      known seen x e = one-more w seen (x .held) (λ t. record { own = own; small = small; there = e }) (λ u l k. inl (x .only u l k))
+      known : (all seen : List ℕ) → Seen number s all seen w base → there ≡ markOf number s at → With w all seen
+      known all seen x e = one-more w all seen (x .held) (λ t. record { own = own; small = small; there = e }) (λ u a l k. inl (x .only u a l k))
 
       pub again : (number ≡ 9) → (earlier ≡ 0 → ⊥) → Meets number s w w base at true
       again e h = record {
-        told = λ seen x. nine-seen seen x e (omega (arith, seen-is));
-        entered = λ seen x q. never true refl q;
+        told = λ all seen m x. nine-seen all seen x m e (omega (arith, seen-is));
+        entered = λ all seen x q. never true refl q;
         kept = kept-same w base (base + seenRoom);
       }
 
@@ -227,13 +226,13 @@ module _ (number : ℕ) (s w : List ℕ) (base at : ℕ) where
           go true e =
               let q = sym seen-is ∙ eqb-true earlier mark e ∙ mark-is in
               record {
-                told = λ seen x. same-seen seen x not-9 q;
-                entered = λ seen x _. known seen x q;
+                told = λ all seen m x. same-seen all seen x not-9 q;
+                entered = λ all seen x _. known all seen x q;
                 kept = kept-same w base (base + seenRoom);
               }
           go false e = record {
-            told = λ seen x. other-seen seen x not-9 (omega (arith, seen-is)) (λ q. eqb-false earlier mark e (seen-is ∙ q ∙ sym mark-is));
-            entered = λ seen x q. never true refl q;
+            told = λ all seen m x. other-seen all seen x not-9 m (omega (arith, seen-is)) (λ q. eqb-false earlier mark e (seen-is ∙ q ∙ sym mark-is));
+            entered = λ all seen x q. never true refl q;
             kept = kept-same w base (base + seenRoom);
           }
 
@@ -241,33 +240,33 @@ module _ (number : ℕ) (s w : List ℕ) (base at : ℕ) where
         abbrev put : List ℕ
         put = putSeen w base (word s (at + 3)) (markOf number s at)
 
-        entered : (seen : List ℕ) → Seen number s seen w base → there ≡ 0 → With put seen
-        entered seen x z = one-more put seen
+        entered : (all seen : List ℕ) → Seen number s all seen w base → there ≡ 0 → With put all seen
+        entered all seen x z = one-more put all seen
             (λ p m t. let k = x .held p m t in record {
               own = k .own;
               small = k .small;
               there = other z (word s (p + 3)) (k .small) (λ e. let o = sym (k .there) ∙ ap (seenAt w base) e ∙ z in omega (arith, k .own .some, o)) ∙ k .there;
             })
             (λ t. record { own = own; small = small; there = seen-back w base (word s (at + 3)) (markOf number s at) (own .fits) z room })
-            (λ u l h. go u l h (eqb u (word s (at + 3))) refl)
+            (λ u a l h. go u a l h (eqb u (word s (at + 3))) refl)
           where
             other : there ≡ 0 → (u : ℕ) → u < 65536 → u ≢ word s (at + 3) → seenAt put base u ≡ seenAt w base u
             other z u l = seen-other w base (word s (at + 3)) (markOf number s at) (own .fits) z room u l small
 
-            go : (u : ℕ) → u < 65536 → 0 < seenAt put base u → (b : Bool) → eqb u (word s (at + 3)) ≡ b → ((p : ℕ) × List·Memᴰ p seen × Tagged number s p × (word s (p + 3) ≡ u)) ⊎ (Tagged number s at × (word s (at + 3) ≡ u))
-            go u l h true e = inr (tag, sym (eqb-true u (word s (at + 3)) e))
-            go u l h false e = inl (x .only u l (subst (λ (k : ℕ). 0 < k) (other z u l (eqb-false u (word s (at + 3)) e)) h))
+            go : (u : ℕ) → ValueOf number s all u → u < 65536 → 0 < seenAt put base u → (b : Bool) → eqb u (word s (at + 3)) ≡ b → ValueOf number s seen u ⊎ (Tagged number s at × (word s (at + 3) ≡ u))
+            go u a l h true e = inr (tag, sym (eqb-true u (word s (at + 3)) e))
+            go u a l h false e = inl (x .only u a l (subst (λ (k : ℕ). 0 < k) (other z u l (eqb-false u (word s (at + 3)) e)) h))
 
         pub marked : earlier ≡ 0 → (w′ : List ℕ) → w′ ≡ putSeen w base value mark → Meets number s w w′ base at false
         marked z w′ told =
             subst (λ (v : List ℕ). Meets number s w v base at false) (sym (told ∙ ap (λ (v : ℕ). putSeen w base v mark) value-is ∙ ap (putSeen w base (word s (at + 3))) mark-is))
             (record {
-              told = λ seen x. none-seen seen x (sym seen-is ∙ z);
-              entered = λ seen x _. entered seen x (sym seen-is ∙ z);
+              told = λ all seen m x. none-seen all seen x (sym seen-is ∙ z);
+              entered = λ all seen x _. entered all seen x (sym seen-is ∙ z);
               kept = kept-seen w base (word s (at + 3)) (markOf number s at);
             })
 
--- nothing was seen in a table that was cleared
+-- nothing was seen where the bytes of all fields are 0
 zero-half : (v : ℕ) → half 0 v ≡ 0
 unfolding half
 zero-half v = go (ltb v seenRoom)
@@ -276,19 +275,21 @@ zero-half v = go (ltb v seenRoom)
     go true = refl
     go false = refl
 
-pub seen-nothing : (number : ℕ) (s w w′ : List ℕ) (base : ℕ) → Blank w w′ base seenRoom → Seen number s [] w′ base
+pub seen-nothing : (number : ℕ) (s w w′ : List ℕ) (base from to : ℕ) → Readies number s w w′ base from to → (ps : List ℕ) → Headers number s from ps to → Seen number s ps [] w′ base
 unfolding seenAt
-seen-nothing number s w w′ base b = record {
+seen-nothing number s w w′ base from to b ps h = record {
   held = λ p m t. absurd (List·Memᴰ·not-nil m);
-  only = λ v l h. absurd (none v l h);
+  only = λ v a l k. absurd (none v a k);
 }
   where
-    none : (v : ℕ) → v < 65536 → 0 < half (getD w′ (base + v % seenRoom) 0) v → ⊥
-    none v l h = let z = ap (λ (x : ℕ). half x v) (b .zeros (base + v % seenRoom) (omega arith) (omega arith)) ∙ zero-half v in omega (arith, z)
+    none : (v : ℕ) → ValueOf number s ps v → 0 < half (getD w′ (base + v % seenRoom) 0) v → ⊥
+    none v a k =
+        let z = ap (λ (u : ℕ). half (getD w′ (base + u % seenRoom) 0) v) (sym (a .3)) ∙ ap (λ (x : ℕ). half x v) (b .zeros ps h (a .0) (a .1) (a .2)) ∙ zero-half v in
+        omega (arith, z)
 
 -- the search is over
 pub over : (number : ℕ) (s w w₁ w′ : List ℕ) (base from to : ℕ) (r : Clash) (ps : List ℕ) → Headers number s from ps to → firstClash (clashAt number s) [] (places ps) ≡ clashTold r
-    → Blank w w₁ base seenRoom → Kept w₁ w′ base (base + seenRoom) → Repeats number s w w′ base from to r
+    → Readies number s w w₁ base from to → Kept w₁ w′ base (base + seenRoom) → Repeats number s w w′ base from to r
 over number s w w₁ w′ base from to r ps h e b k = record {
   first = λ qs g. subst (λ (l : List ℕ). firstClash (clashAt number s) [] (places l) ≡ clashTold r) (headers-one number s ps qs from to h g) e;
   kept = kept-both w w₁ w′ _ _ _ _ base (base + seenRoom) (b .kept) k (omega arith) (omega arith) (omega arith) (omega arith);

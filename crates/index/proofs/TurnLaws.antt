@@ -2,7 +2,7 @@
 -- Assumes nothing.
 use mathlib.Core.Path.{_≡_, refl, sym, subst, ap, _∙_}
 use mathlib.Core.Bool.{true, false}
-use mathlib.Core.List.{List, [], _∷_, _++_, append-nil, append-assoc}
+use mathlib.Core.List.{List, [], _∷_, _++_, append-nil, append-assoc, List·Memᴰ, List·Memᴰ·head, Memᴰ·append-right}
 use Prim.Native.Nat.{ℕ, _+_, _≤_, _<_}
 use native.Mathlib.Omega.{arith}
 use lib.ListN.{length, length-append}
@@ -64,7 +64,7 @@ module _ (number : ℕ) (s : List ℕ) (Each : ℕ → Type 0) (to : ℕ) (ps : 
         goes-on = λ c. rw (e, c);
       }
 
-  nothing-left : (at : ℕ) (left : List ℕ) → Headers number s at left to → to ≤ at → left ≡ []
+  pub nothing-left : (at : ℕ) (left : List ℕ) → Headers number s at left to → to ≤ at → left ≡ []
   unfolding InRow
   nothing-left at [] a h = refl
   nothing-left at (p ∷ left) a h = absurd (omega (arith, step-positive number s p, row.row-le (λ at p. (p ≡ at) × Room s at) (stepAt number s) left _ to (a .1)))
@@ -79,6 +79,9 @@ module _ (number : ℕ) (s : List ℕ) (Each : ℕ → Type 0) (to : ℕ) (ps : 
 
       pub own : Each at
       own = here .own
+
+      pub member : List·Memᴰ at ps
+      member = subst (List·Memᴰ at) (t .whole) (Memᴰ·append-right (t .seen) (subst (List·Memᴰ at) (sym (here .is)) (List·Memᴰ·head refl)))
 
       pub room-left : length (t .seen) < length ps
       room-left = omega (arith, length-append (t .seen) (t .left), ap length (t .whole), ap length (here .is))

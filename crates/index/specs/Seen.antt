@@ -48,15 +48,34 @@ pub record Noted (number : ℕ) (s w : List ℕ) (base at : ℕ) : Type 0 where
   pub small : word s (at + 3) < 65536
   pub there : seenAt w base (word s (at + 3)) ≡ markOf number s at
 
--- the table of the fields seen: the mark of each is there, and where there is a mark a field of that value was seen
-pub record Seen (number : ℕ) (s seen w : List ℕ) (base : ℕ) : Type 0 where
+-- the value of one of these fields
+abbrev pub ValueOf : (number : ℕ) → List ℕ → List ℕ → (value : ℕ) → Type 0
+ValueOf number s ps v = (p : ℕ) × List·Memᴰ p ps × (getD s p 0 ≡ searchedTag number) × (word s (p + 3) ≡ v)
+
+-- the table of the fields seen: the mark of each is there, and where there is a mark for the value of any of the fields, one of that value was seen
+pub record Seen (number : ℕ) (s all seen w : List ℕ) (base : ℕ) : Type 0 where
   pub held : (p : ℕ) → List·Memᴰ p seen → getD s p 0 ≡ searchedTag number → Noted number s w base p
-  pub only : (v : ℕ) → v < 65536 → 0 < seenAt w base v → (p : ℕ) × List·Memᴰ p seen × (getD s p 0 ≡ searchedTag number) × (word s (p + 3) ≡ v)
+  pub only : (v : ℕ) → ValueOf number s all v → v < 65536 → 0 < seenAt w base v → ValueOf number s seen v
 
 -- one field more: whether it clashes with one seen; if not, it is in the table
 pub record Meets (number : ℕ) (s w w′ : List ℕ) (base at : ℕ) (r : Bool) : Type 0 where
-  pub told : (seen : List ℕ) → Seen number s seen w base → clashesAny (clashAt number s) at seen ≡ r
-  pub entered : (seen : List ℕ) → Seen number s seen w base → r ≡ false → Seen number s (seen ++ (at ∷ [])) w′ base
+  pub told : (all seen : List ℕ) → List·Memᴰ at all → Seen number s all seen w base → clashesAny (clashAt number s) at seen ≡ r
+  pub entered : (all seen : List ℕ) → Seen number s all seen w base → r ≡ false → Seen number s all (seen ++ (at ∷ [])) w′ base
+  pub kept : Kept w w′ base (base + seenRoom)
+
+-- the byte of a field's value
+abbrev pub byteOf : List ℕ → List ℕ → (base at : ℕ) → ℕ
+byteOf s w base at = getD w (base + word s (at + 3) % seenRoom) 0
+
+-- one byte more is 0, that of the field at a place
+pub record Forgets (number : ℕ) (s w w′ : List ℕ) (base at : ℕ) : Type 0 where
+  pub gone : getD s at 0 ≡ searchedTag number → byteOf s w′ base at ≡ 0
+  pub zeros : (i : ℕ) → getD w i 0 ≡ 0 → getD w′ i 0 ≡ 0
+  pub kept : Kept w w′ base (base + seenRoom)
+
+-- the bytes of the fields from a place to another are 0
+pub record Readies (number : ℕ) (s w w′ : List ℕ) (base from to : ℕ) : Type 0 where
+  pub zeros : (ps : List ℕ) → Headers number s from ps to → (p : ℕ) → List·Memᴰ p ps → getD s p 0 ≡ searchedTag number → byteOf s w′ base p ≡ 0
   pub kept : Kept w w′ base (base + seenRoom)
 
 -- the search: the first clash, and what is left alone

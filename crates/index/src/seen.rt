@@ -7,8 +7,8 @@ ghost use Rattle.tables.specs.Search.{Room, Headers};
 ghost use Rattle.tables.specs.Within.{Every};
 ghost use Rattle.index.specs.Layout.{seenRoom};
 ghost use Rattle.index.specs.Seen.{seenAt, putSeen, markOf, Marked, Markable, Meets, Repeats};
-use crate::blank::clear_part;
 use crate::layout::SEEN_ROOM;
+use crate::ready::make_ready;
 use tables::repeats::Clash;
 use tables::repeats::searched;
 use tables::repeats::step;
@@ -84,7 +84,7 @@ pub fn first_repeat(
     requires { ⌜ ((ps : List ℕ) × Headers number (now s) from ps to × Every (Markable number (now s)) ps) × (base + seenRoom ≤ length (now w)) ⌝ }
     ensures { λ r. ⌜ Repeats number (now (s .entry)) (now (w .entry)) (now (w .exit)) base from to r ⌝ }
 {
-    clear_part(w, base, SEEN_ROOM);
+    make_ready(s, w, base, from, to, number);
     let mut at = from;
     while at < to {
         if meets(s, w, base, at, number) {
