@@ -24,6 +24,6 @@ module _ (s : List ℕ) (base : ℕ) (w : List ℕ) (x : State) where
       kept-both w v w′ base (base + readingRoom) base (base + readingRoom) base (base + readingRoom) (reaches-kept v y before) (step .kept) (omega arith) (omega arith) (omega arith) (omega arith)
 
 -- what is known before a turn, from the header that was read
-pub reads-at : (s w : List ℕ) (base : ℕ) (x : State) (h : HeaderRead) → Reading s w base x → x .mode ≡ 1 → h ≡ headerShape (headerAt s (x .at) (x .end) (x .low) (x .high) (x .full)) → Reads s w base x h
+pub reads-at : (s w : List ℕ) (base : ℕ) (x : State) (h : HeaderRead) → Reading s w base x → x .mode ≡ 1 → h ≡ headerShape (headerAt s (x .at) (x .end) (lowOf x) (highOf (x .part)) (fullOf s x)) → Reads s w base x h
 unfolding headerOf
 reads-at s w base x h reading mode header = record { reading = reading; mode-is = mode; header-is = header }

@@ -10,46 +10,48 @@ use Rattle.format.specs.declared.headers.HeaderRead.the-variants.{Refuse
 use Rattle.format.specs.declared.state.State.{State}
 use Rattle.format.specs.Limits.{mostBytes, mostGoals, mostTermFields}
 use Rattle.format.specs.Refusals.{number, inputTooLong, limitPassed, lengthWrong}
-use Rattle.format.specs.Tags.{ruleKind, definitionKind, goalListKind, hiproofKind, tacticKind, entryKind}
+use Rattle.format.specs.Tags.{definitionKind, goalListKind, hiproofKind, tacticKind, entryKind}
 use Rattle.format.specs.Next.{fullTable, lowest, fullFlat}
 
 -- a refusal
 abbrev pub refusing : State → (number place : ℕ) → State
-refusing x k p = record { mode = 0; part = x .part; low = x .low; high = x .high; full = x .full; at = x .at; end = x .end; fields = x .fields; depth = x .depth; top = x .top; goals = x .goals; first = x .first; second = x .second; from = x .from; rest = x .rest; field = x .field; number = k; place = p }
+refusing x k p = record { mode = 0; part = x .part; at = x .at; end = x .end; fields = x .fields; depth = x .depth; top = x .top; goals = x .goals; first = x .first; second = x .second; from = x .from; rest = x .rest; field = x .field; number = k; place = p }
 
--- a part of a file at a place, with what may stand there
-abbrev pub asking : State → (mode part low high : ℕ) → Bool → (at end : ℕ) → State
-asking x m part low high full at end = record { mode = m; part = part; low = low; high = high; full = full; at = at; end = end; fields = x .fields; depth = x .depth; top = at; goals = x .goals; first = x .first; second = x .second; from = x .from; rest = x .rest; field = x .field; number = x .number; place = x .place }
+-- a part of a file at a place
+abbrev pub asking : State → (mode part at end : ℕ) → State
+asking x m part at end = record { mode = m; part = part; at = at; end = end; fields = x .fields; depth = x .depth; top = at; goals = x .goals; first = x .first; second = x .second; from = x .from; rest = x .rest; field = x .field; number = x .number; place = x .place }
 
 -- with other counts, behind what comes first
 abbrev pub counted : State → (goals first second from rest field : ℕ) → State
-counted x g a b f r d = record { mode = x .mode; part = x .part; low = x .low; high = x .high; full = x .full; at = x .at; end = x .end; fields = x .fields; depth = x .depth; top = x .top; goals = g; first = a; second = b; from = f; rest = r; field = d; number = x .number; place = x .place }
+counted x g a b f r d = record { mode = x .mode; part = x .part; at = x .at; end = x .end; fields = x .fields; depth = x .depth; top = x .top; goals = g; first = a; second = b; from = f; rest = r; field = d; number = x .number; place = x .place }
 
--- a term is read next; kinds up to high may stand in it
-unfoldable pub begunTerm : State → (part at end high : ℕ) → State
-begunTerm x part at end high = asking x 1 part hiproofKind high (leb mostTermFields (x .fields)) at end
+-- the lowest and the highest kind that may stand where a state is
+unfoldable pub lowOf : State → ℕ
+lowOf x = cond (ltb (x .part) 6) (cond (eqb (x .part) 2) (lowest (x .second)) (cond (eqb (x .part) 1) entryKind goalListKind)) hiproofKind
 
--- a goal list is read next
-unfoldable pub askingList : State → (part at end : ℕ) → State
-askingList x part at end = asking x 1 part goalListKind goalListKind false at end
+unfoldable pub highOf : (part : ℕ) → ℕ
+highOf part = cond (ltb part 6) (cond (eqb part 2) definitionKind (cond (eqb part 1) entryKind goalListKind)) (cond (eqb part 8) hiproofKind tacticKind)
+
+-- no more fields of the kind that begins there may come
+unfoldable pub fullOf : List ℕ → State → Bool
+fullOf s x =
+    cond (ltb (x .part) 6)
+    (cond (eqb (x .part) 2) (fullTable s (x .at) (x .first) (x .second)) (cond (eqb (x .part) 1) (fullFlat s (x .at) (x .first) (x .second)) false))
+    (leb mostTermFields (x .fields))
 
 -- the next field of a table is read at a place, or the file ends there
 unfoldable pub nextField : List ℕ → State → (at : ℕ) → State
-nextField s x at =
-    cond (leb (length s) at) (asking x 2 2 ruleKind definitionKind false at (length s))
-    (asking x 1 2 (lowest (x .second)) definitionKind (fullTable s at (x .first) (x .second)) at (length s))
+nextField s x at = cond (leb (length s) at) (asking x 2 2 at (length s)) (asking x 1 2 at (length s))
 
 -- the next entry is read at a place, or the file ends there
 unfoldable pub nextEntry : List ℕ → State → (at : ℕ) → State
-nextEntry s x at =
-    cond (leb (length s) at) (asking x 2 1 entryKind entryKind false at (length s))
-    (asking x 1 1 entryKind entryKind (fullFlat s at (x .first) (x .second)) at (length s))
+nextEntry s x at = cond (leb (length s) at) (asking x 2 1 at (length s)) (asking x 1 1 at (length s))
 
 -- behind a rule, or in the body of a definition
 unfoldable pub tableField : List ℕ → State → (tag close : ℕ) → State
 tableField s x tag close =
     cond (eqb tag 1) (nextField s (counted x (x .goals) (x .first + 1) (x .second) close (x .rest) (x .field)) close)
-    (begunTerm (counted x (x .goals) (x .first) (x .second) (x .from) (x .rest) (x .at)) 6 (x .at + 5) close tacticKind)
+    (asking (counted x (x .goals) (x .first) (x .second) (x .from) (x .rest) (x .at)) 1 6 (x .at + 5) close)
 
 -- behind a use or an open
 unfoldable pub entryTaken : List ℕ → State → (tag close : ℕ) → State
@@ -60,7 +62,7 @@ entryTaken s x tag close =
 -- the list of those remaining ends a proof file: nothing may be left behind it
 unfoldable pub remainingTaken : State → (count close : ℕ) → State
 remainingTaken x n close =
-    cond (eqb close (x .end)) (asking (counted x (x .goals) (x .first) n (x .from) (x .rest) (x .field)) 2 (x .part) (x .low) (x .high) (x .full) close (x .end))
+    cond (eqb close (x .end)) (asking (counted x (x .goals) (x .first) n (x .from) (x .rest) (x .field)) 2 (x .part) close (x .end))
     (refusing x (number lengthWrong) close)
 
 -- behind a goal list
@@ -70,8 +72,8 @@ listTaken s x n close =
     cond (ltb mostGoals n) (refusing x (number limitPassed) (x .at))
     (cond (eqb (x .part) 5) (remainingTaken x n close)
     (cond (eqb (x .part) 0) (nextEntry s y close)
-    (cond (eqb (x .part) 3) (begunTerm y 7 close (x .end) tacticKind)
-    (begunTerm y 8 close (x .end) hiproofKind))))
+    (cond (eqb (x .part) 3) (asking y 1 7 close (x .end))
+    (asking y 1 8 close (x .end)))))
 
 -- from the header of a field outside terms to what is read next
 unfoldable pub taken : List ℕ → State → HeaderRead → State
@@ -92,16 +94,16 @@ behindTerm s x =
     (cond (eqb (x .at) (endOf s (x .field))) (nextField s (counted x (x .goals) (x .first) (x .second + 1) (x .from) (x .rest) (x .field)) (x .at)) (refusing x (number lengthWrong) (x .field)))
     (cond (eqb (x .part) 7)
     (cond (eqb (x .at) (length s)) x (refusing x (number lengthWrong) (x .at)))
-    (askingList (counted x (x .goals) (x .first) (x .second) (x .from) (x .at) (x .field)) 5 (x .at) (length s)))
+    (asking (counted x (x .goals) (x .first) (x .second) (x .from) (x .at) (x .field)) 1 5 (x .at) (length s)))
 
 -- nothing of a file is read
 unfoldable pub blankState : (part : ℕ) → State
-blankState part = record { mode = 0; part = part; low = 0; high = 0; full = false; at = 0; end = 0; fields = 0; depth = 0; top = 0; goals = 0; first = 0; second = 0; from = 0; rest = 0; field = 0; number = 0; place = 0 }
+blankState part = record { mode = 0; part = part; at = 0; end = 0; fields = 0; depth = 0; top = 0; goals = 0; first = 0; second = 0; from = 0; rest = 0; field = 0; number = 0; place = 0 }
 
 -- a file that begins with a goal list, unless it is too long
 unfoldable pub begunFile : List ℕ → (part : ℕ) → State
 begunFile s part =
-    let x = askingList (blankState part) part 0 (length s) in
+    let x = asking (blankState part) 1 part 0 (length s) in
     cond (ltb mostBytes (length s)) (refusing x (number inputTooLong) 0) x
 
 -- a table

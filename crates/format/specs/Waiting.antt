@@ -77,11 +77,9 @@ pub record Going (s w : List ℕ) (base : ℕ) (x : State) : Type 0 where
 unfoldable pub weight : List ℕ → State → ℕ
 weight s x = (length s - x .at) * 2 + x .depth + x .mode
 
--- what stays while a term is read: the part of the file, what may stand in the term, and what was counted before it
+-- what stays while a term is read: the part of the file, and what was counted before the term
 pub record Held (x r : State) : Type 0 where
   pub part : r .part ≡ x .part
-  pub low : r .low ≡ x .low
-  pub high : r .high ≡ x .high
   pub goals : r .goals ≡ x .goals
   pub first : r .first ≡ x .first
   pub second : r .second ≡ x .second

@@ -2,9 +2,9 @@
 ghost use mathlib.Core.Path.{_≡_};
 ghost use Prim.Native.Nat.{_+_, _≤_, _<_};
 ghost use lib.ListN.{length};
-ghost use Rattle.format.specs.Next.{fullTable, fullFlat, lowest};
+ghost use Rattle.format.specs.Next.{fullTable, fullFlat};
 ghost use Rattle.format.specs.Reader.{Encloses};
-ghost use Rattle.format.specs.States.{begunTerm, askingList, nextField, nextEntry, tableField, entryTaken, remainingTaken, listTaken, taken, behindTerm, blankState, begunFile, begunTable};
+ghost use Rattle.format.specs.States.{lowOf, highOf, fullOf, asking, nextField, nextEntry, tableField, entryTaken, remainingTaken, listTaken, taken, behindTerm, blankState, begunFile, begunTable};
 use crate::headers::HeaderRead;
 use crate::state::BODY;
 use crate::state::ENTRIES;
@@ -66,39 +66,68 @@ fn is_full_flat(s: &[u8], at: usize, uses: usize, opens: usize) -> bool
     }
 }
 
-// Once there is a definition no rule may follow.
-fn lowest_kind(definitions: usize) -> u8
-    ensures { λ r. ⌜ r ≡ lowest definitions ⌝ }
+// The lowest kind that may stand where a state is; once there is a definition no rule may follow.
+pub fn low_of(x: State) -> u8
+    ensures { λ r. ⌜ r ≡ lowOf x ⌝ }
 {
-    if definitions == 0 { RULE } else { DEFINITION }
+    if x.part < BODY {
+        if x.part == FIELDS {
+            if x.second == 0 {
+                return RULE;
+            }
+            return DEFINITION;
+        }
+        if x.part == ENTRIES {
+            return ENTRY;
+        }
+        return GOAL_LIST;
+    }
+    HIPROOF
 }
 
-// A term is read next. Kinds up to high may stand in it.
-fn begin_term(x: State, part: u8, at: usize, end: usize, high: u8) -> State
-    ensures { λ r. ⌜ r ≡ begunTerm x part at end high ⌝ }
+// The highest kind that may stand there.
+pub fn high_of(x: State) -> u8
+    ensures { λ r. ⌜ r ≡ highOf (x .part) ⌝ }
+{
+    if x.part < BODY {
+        if x.part == FIELDS {
+            return DEFINITION;
+        }
+        if x.part == ENTRIES {
+            return ENTRY;
+        }
+        return GOAL_LIST;
+    }
+    if x.part == PROOF_TERM {
+        return HIPROOF;
+    }
+    TACTIC
+}
+
+// Whether no more fields of the kind that begins there may come.
+pub fn is_full(x: State, s: &[u8]) -> bool
+    requires { ⌜ (x .part ≡ 1 → x .at < length (now s)) × (x .part ≡ 2 → x .at < length (now s)) ⌝ }
+    ensures { λ r. ⌜ r ≡ fullOf (now (s .entry)) x ⌝ }
+{
+    if x.part < BODY {
+        if x.part == FIELDS {
+            return is_full_table(s, x.at, x.first, x.second);
+        }
+        if x.part == ENTRIES {
+            return is_full_flat(s, x.at, x.first, x.second);
+        }
+        return false;
+    }
+    MOST_TERM_FIELDS <= x.fields
+}
+
+// A goal list or a term is read next.
+fn begin(x: State, part: u8, at: usize, end: usize) -> State
+    ensures { λ r. ⌜ r ≡ asking x 1 part at end ⌝ }
 {
     let mut r = x;
     r.mode = READS;
     r.part = part;
-    r.low = HIPROOF;
-    r.high = high;
-    r.full = MOST_TERM_FIELDS <= x.fields;
-    r.at = at;
-    r.end = end;
-    r.top = at;
-    r
-}
-
-// A goal list is read next.
-fn ask_list(x: State, part: u8, at: usize, end: usize) -> State
-    ensures { λ r. ⌜ r ≡ askingList x part at end ⌝ }
-{
-    let mut r = x;
-    r.mode = READS;
-    r.part = part;
-    r.low = GOAL_LIST;
-    r.high = GOAL_LIST;
-    r.full = false;
     r.at = at;
     r.end = end;
     r.top = at;
@@ -113,9 +142,6 @@ fn next_field(x: State, at: usize, s: &[u8]) -> State
     let mut r = x;
     r.mode = GAVE;
     r.part = FIELDS;
-    r.low = RULE;
-    r.high = DEFINITION;
-    r.full = false;
     r.at = at;
     r.end = end;
     r.top = at;
@@ -123,8 +149,6 @@ fn next_field(x: State, at: usize, s: &[u8]) -> State
         return r;
     }
     r.mode = READS;
-    r.low = lowest_kind(x.second);
-    r.full = is_full_table(s, at, x.first, x.second);
     r
 }
 
@@ -136,9 +160,6 @@ fn next_entry(x: State, at: usize, s: &[u8]) -> State
     let mut r = x;
     r.mode = GAVE;
     r.part = ENTRIES;
-    r.low = ENTRY;
-    r.high = ENTRY;
-    r.full = false;
     r.at = at;
     r.end = end;
     r.top = at;
@@ -146,7 +167,6 @@ fn next_entry(x: State, at: usize, s: &[u8]) -> State
         return r;
     }
     r.mode = READS;
-    r.full = is_full_flat(s, at, x.first, x.second);
     r
 }
 
@@ -162,7 +182,7 @@ fn table_field(x: State, tag: u8, close: usize, s: &[u8]) -> State
         return next_field(r, close, s);
     }
     r.field = x.at;
-    begin_term(r, BODY, x.at + 5, close, TACTIC)
+    begin(r, BODY, x.at + 5, close)
 }
 
 // A use or an open.
@@ -211,9 +231,9 @@ fn goal_list(x: State, count: usize, close: usize, s: &[u8]) -> State
         return next_entry(r, close, s);
     }
     if x.part == JOB_GOALS {
-        return begin_term(r, JOB_TERM, close, x.end, TACTIC);
+        return begin(r, JOB_TERM, close, x.end);
     }
-    begin_term(r, PROOF_TERM, close, x.end, HIPROOF)
+    begin(r, PROOF_TERM, close, x.end)
 }
 
 // From the header of a field that stands in no term to what is read next.
@@ -257,7 +277,7 @@ pub fn behind_term(x: State, s: &[u8]) -> State
         return r;
     }
     r.rest = x.at;
-    ask_list(r, REMAINING, x.at, end)
+    begin(r, REMAINING, x.at, end)
 }
 
 // Nothing of a file is read.
@@ -267,9 +287,6 @@ fn blank(part: u8) -> State
     State {
         mode: REFUSED,
         part,
-        low: 0,
-        high: 0,
-        full: false,
         at: 0,
         end: 0,
         fields: 0,
@@ -292,7 +309,7 @@ pub fn begin_file(s: &[u8], part: u8) -> State
 {
     let end = s.len();
     let none = blank(part);
-    let x = ask_list(none, part, 0, end);
+    let x = begin(none, part, 0, end);
     if MOST_BYTES < end {
         return refused(x, 1, 0);
     }

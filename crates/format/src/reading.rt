@@ -3,13 +3,15 @@ ghost use mathlib.Core.Path.{_≡_};
 ghost use Rattle.format.specs.Reading.{Reading, Reads, Step, Reaches};
 use crate::headers::HeaderRead;
 use crate::parts::behind_term;
+use crate::parts::high_of;
+use crate::parts::is_full;
+use crate::parts::low_of;
 use crate::parts::take;
 use crate::reader::header_of;
 use crate::reader::new;
 use crate::reader::to;
 use crate::state::BODY;
 use crate::state::GAVE;
-use crate::state::MOST_TERM_FIELDS;
 use crate::state::READS;
 use crate::state::State;
 use crate::waiting::turn_within;
@@ -22,11 +24,10 @@ fn turn(x: State, header: HeaderRead, s: &[u8], work: &mut [u8], base: usize) ->
     if x.part < BODY {
         return take(x, header, s);
     }
-    let mut r = turn_within(x, header, s, work, base);
+    let r = turn_within(x, header, s, work, base);
     if r.mode == GAVE {
         return behind_term(r, s);
     }
-    r.full = MOST_TERM_FIELDS <= r.fields;
     r
 }
 
@@ -38,7 +39,10 @@ pub fn read_on(file: &[u8], start: State, work: &mut [u8], base: usize) -> State
     let mut reader = new(file, start.at, start.end);
     let mut x = start;
     while x.mode == READS {
-        let header = header_of(reader, x.low, x.high, x.full);
+        let low = low_of(x);
+        let high = high_of(x);
+        let full = is_full(x, file);
+        let header = header_of(reader, low, high, full);
         x = turn(x, header, file, work, base);
         reader = to(reader, x.at, x.end);
     }

@@ -34,10 +34,6 @@ pub const MOST_TERM_FIELDS: usize = 4096;
 pub struct State {
     pub mode: u8,
     pub part: u8,
-    // Which kinds may stand at the place, and whether no more of them may come.
-    pub low: u8,
-    pub high: u8,
-    pub full: bool,
     // The place of the field to read or behind the term that was read, and the end of what encloses it.
     pub at: usize,
     pub end: usize,

@@ -7,8 +7,8 @@ ghost use Rattle.format.specs.Waiting.{putWaiting, Going, Moved, Enters,
 use crate::headers::HeaderRead;
 use crate::state::GAVE;
 use crate::state::READS;
+use crate::state::REFUSED;
 use crate::state::State;
-use crate::state::refused;
 use crate::tags::inner_at;
 use crate::tags::least_at;
 use crate::tags::row_of;
@@ -29,10 +29,15 @@ fn enter(x: State, header: HeaderRead, work: &mut [u8], base: usize) -> State
     requires { ⌜ ((s : List ℕ) × (high : ℕ) × Enters s (now work) high base x header) ⌝ }
     ensures { λ r. ⌜ ((s : List ℕ) (high : ℕ) → Enters s (now (work .entry)) high base x header → Moved s (now (work .entry)) high base x (now (work .exit)) r) ⌝ }
 {
+    let mut r = x;
     match header {
-        HeaderRead::Refused(number, place) => refused(x, number, place),
+        HeaderRead::Refused(number, place) => {
+            r.mode = REFUSED;
+            r.number = number;
+            r.place = place;
+            r
+        }
         HeaderRead::Field(tag, len) => {
-            let mut r = x;
             let at = x.at;
             let close = at + 3 + len;
             r.end = close;
@@ -66,17 +71,21 @@ fn leave(x: State, s: &[u8], work: &mut [u8], base: usize) -> State
     let around = top - load16(work, low) as usize;
     let left = load16(work, low + 2);
     let end = top + 3 + load16(s, top + 1) as usize;
-    r.end = end;
     if left == 0 {
         if x.at == end {
+            r.end = end;
             r.depth = below;
             r.top = around;
             return r;
         }
-        return refused(x, 4, top);
+        r.mode = REFUSED;
+        r.number = 4;
+        r.place = top;
+        return r;
     }
     store16(work, low + 2, 0);
     r.mode = READS;
+    r.end = end;
     r
 }
 
