@@ -13,6 +13,7 @@ pub mod ReachLaws
 pub mod GoalsLaws
 pub mod TermTags
 pub mod TableTags
+pub mod AskLaws
 pub mod StepLaws
 pub mod BegunTable
 pub mod StepCases

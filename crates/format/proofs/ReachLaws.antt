@@ -10,6 +10,7 @@ use Rattle.format.specs.declared.headers.HeaderRead.{HeaderRead}
 use Rattle.format.specs.declared.state.State.{State}
 use Rattle.format.specs.Headers.{headerAt}
 use Rattle.format.specs.Shapes.{headerShape}
+use Rattle.format.specs.States.{lowOf, highOf, fullOf}
 use Rattle.format.specs.Waiting.{readingRoom}
 use Rattle.format.specs.Reading.{Reading, headerOf, Reads, Reaches, none, more}
 

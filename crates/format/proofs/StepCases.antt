@@ -10,16 +10,16 @@ use lib.ListN.{length}
 use borrow.Author.Tests.{eq-eqb, ne-eqb, eqb-true, eqb-false}
 use Rattle.format.specs.declared.state.State.{State}
 use Rattle.format.specs.TermRead.{TermRead, Refused, Read}
-use Rattle.format.specs.States.{taken, behindTerm}
+use Rattle.format.specs.States.{highOf, taken, behindTerm}
 use Rattle.format.specs.Waiting.{told, outcome, Held, Turned}
-use Rattle.format.specs.Reading.{Reading, headerOf, limited, settled, Turns, field, term, Step}
+use Rattle.format.specs.Reading.{Reading, headerOf, settled, Turns, field, term, Step}
 use Rattle.format.proofs.TurnLaws.{inside}
 
 -- what a turn within a term leaves: the rest of the term, a refusal, or what follows the term
 pub data TermStep (s w : List ℕ) (base : ℕ) (x : State) (w′ : List ℕ) (r : State) : Type 0 where
-  goes : r .mode ≡ 1 → Held x r → outcome s w′ (x .high) base r ≡ outcome s w (x .high) base x → TermStep s w base x w′ r
-  stops : r .mode ≡ 0 → Held x r → outcome s w (x .high) base x ≡ Refused (r .number) (r .place) → TermStep s w base x w′ r
-  ends : (y : State) → y .mode ≡ 2 → Held x y → outcome s w (x .high) base x ≡ Read (y .at) (y .fields) → y .at ≤ length s → r ≡ behindTerm s y → TermStep s w base x w′ r
+  goes : r .mode ≡ 1 → Held x r → outcome s w′ (highOf (x .part)) base r ≡ outcome s w (highOf (x .part)) base x → TermStep s w base x w′ r
+  stops : r .mode ≡ 0 → Held x r → outcome s w (highOf (x .part)) base x ≡ Refused (r .number) (r .place) → TermStep s w base x w′ r
+  ends : (y : State) → y .mode ≡ 2 → Held x y → outcome s w (highOf (x .part)) base x ≡ Read (y .at) (y .fields) → y .at ≤ length s → r ≡ behindTerm s y → TermStep s w base x w′ r
 
 module _ (s w : List ℕ) (base : ℕ) (x : State) (w′ : List ℕ) (r : State) where
   pub field-step : Step s w base x w′ r → x .part < 6 → (w′ ≡ w) × (r ≡ taken s x (headerOf s x))
@@ -29,28 +29,21 @@ module _ (s w : List ℕ) (base : ℕ) (x : State) (w′ : List ℕ) (r : State)
       go (field o v e) = (v, e)
       go (term o y t e) = absurd (omega arith)
 
-limited-held : (x y : State) → Held x y → Held x (limited y)
-limited-held x y h = record { part = h .part; low = h .low; high = h .high; goals = h .goals; first = h .first; second = h .second; from = h .from; field = h .field }
-
-limited-same : (s w : List ℕ) (high base : ℕ) (y : State) → outcome s w high base (limited y) ≡ outcome s w high base y
-unfolding outcome
-limited-same s w high base y = refl
-
-module _ (s w : List ℕ) (base : ℕ) (x : State) (w′ : List ℕ) (y : State) (t : Turned s w (x .high) base x w′ y) where
-  was-read : y .mode ≡ 2 → outcome s w (x .high) base x ≡ Read (y .at) (y .fields)
+module _ (s w : List ℕ) (base : ℕ) (x : State) (w′ : List ℕ) (y : State) (t : Turned s w (highOf (x .part)) base x w′ y) where
+  was-read : y .mode ≡ 2 → outcome s w (highOf (x .part)) base x ≡ Read (y .at) (y .fields)
   unfolding told
   was-read e = sym (t .moved .same) ∙ t .over (λ z. omega (arith, e, z)) ∙ rw (ne-eqb (y .mode) 0 (λ z. omega (arith, e, z)))
 
-  was-refused : y .mode ≡ 0 → outcome s w (x .high) base x ≡ Refused (y .number) (y .place)
+  was-refused : y .mode ≡ 0 → outcome s w (highOf (x .part)) base x ≡ Refused (y .number) (y .place)
   unfolding told
   was-refused e = sym (t .moved .same) ∙ t .over (λ z. omega (arith, e, z)) ∙ rw (eq-eqb (y .mode) 0 e)
 
-  by-mode : (b c : Bool) → eqb (y .mode) 2 ≡ b → eqb (y .mode) 1 ≡ c → TermStep s w base x w′ (cond b (behindTerm s y) (limited y))
+  by-mode : (b c : Bool) → eqb (y .mode) 2 ≡ b → eqb (y .mode) 1 ≡ c → TermStep s w base x w′ (cond b (behindTerm s y) y)
   by-mode true c p q = let e = eqb-true (y .mode) 2 p in ends y e (t .moved .held) (was-read e) (omega (arith, inside s w′ base y (t .moved .going))) refl
-  by-mode false true p q = goes (eqb-true (y .mode) 1 q) (limited-held x y (t .moved .held)) (limited-same s w′ (x .high) base y ∙ t .moved .same)
+  by-mode false true p q = goes (eqb-true (y .mode) 1 q) (t .moved .held) (t .moved .same)
   by-mode false false p q =
       let e : y .mode ≡ 0 = omega (arith, t .moved .going .modes, eqb-false (y .mode) 2 p, eqb-false (y .mode) 1 q) in
-      stops e (limited-held x y (t .moved .held)) (was-refused e)
+      stops e (t .moved .held) (was-refused e)
 
   pub settled-step : TermStep s w base x w′ (settled s y)
   unfolding settled

@@ -18,15 +18,15 @@ use Rattle.format.specs.Refusals.{number, lengthWrong, limitPassed}
 use Rattle.format.specs.Tags.{ruleKind, definitionKind, hiproofKind, tacticKind, entryKind}
 use Rattle.format.specs.Shapes.{headerShape}
 use Rattle.format.specs.Headers.{headerAt}
-use Rattle.format.specs.Next.{fullTable, lowest, fullFlat}
-use Rattle.format.specs.States.{refusing, asking, counted, begunTerm, askingList, nextField, nextEntry, tableField, entryTaken, remainingTaken, listTaken, taken, endOf, behindTerm}
+use Rattle.format.specs.States.{lowOf, highOf, fullOf, refusing, asking, counted, nextField, nextEntry, tableField, entryTaken, remainingTaken, listTaken, taken, endOf, behindTerm}
 use Rattle.format.specs.Waiting.{readingRoom, Waits, Going, weight, Enters, Turned}
-use Rattle.format.specs.Reading.{Reading, headerOf, Reads, limited, settled, Turns, field, term, Step}
+use Rattle.format.specs.Reading.{Reading, headerOf, settled, field, term, Step}
 use Rattle.format.specs.Reader.{Encloses}
 use Rattle.format.proofs.ReaderLaws.{encloses}
 use Rattle.format.proofs.HeaderLaws.{IsField, is-field, told-field}
 use Rattle.format.proofs.TableTags.{table-tag, lowest-least, two-bytes}
 use Rattle.format.proofs.TurnLaws.{inside}
+use Rattle.format.proofs.AskLaws.{asks-field, asks-term}
 
 module _ (s w : List ℕ) (base : ℕ) (room : base + readingRoom ≤ length w) where
   -- where nothing waits
@@ -48,104 +48,43 @@ module _ (s w : List ℕ) (base : ℕ) (room : base + readingRoom ≤ length w) 
   Fresh at r = Reading s w base r × (weight s r ≤ (length s - at) * 2 + 2)
 
   -- the next field of a table, the next entry, a goal list, a term
-  module _ (x : State) (at : ℕ) (d : x .depth ≡ 0) (l : at ≤ length s) (a : x .first ≤ at) (b : x .second ≤ at) where
-    pub fresh-field : Fresh at (nextField s x at)
-    unfolding nextField weight
-    fresh-field = go (leb (length s) at) refl
-      where
-        go : (t : Bool) → leb (length s) at ≡ t
-            → Fresh at (cond t (asking x 2 2 ruleKind definitionKind false at (length s)) (asking x 1 2 (lowest (x .second)) definitionKind (fullTable s at (x .first) (x .second)) at (length s)))
-        go true e = (
-          record {
-            going = bare-going _ d l (omega arith) refl (omega arith);
-            counts = (a, b);
-            outside = λ z. (d, refl);
-            body = λ z. absurd (omega arith);
-            entries = λ z. absurd (omega arith);
-            fields = λ z n. absurd (omega arith);
-            lists = λ z i j. absurd (j refl);
-            terms = λ z. absurd (omega arith);
-          },
-          omega (arith, d),
-        )
-        go false e = (
-          record {
-            going = bare-going _ d l (omega arith) refl (omega arith);
-            counts = (a, b);
-            outside = λ z. (d, refl);
-            body = λ z. absurd (omega arith);
-            entries = λ z. absurd (omega arith);
-            fields = λ z n. (leb-false (length s) at e, refl, refl, refl);
-            lists = λ z i j. absurd (j refl);
-            terms = λ z. absurd (omega arith);
-          },
-          omega (arith, d),
-        )
-
-    fresh-entry : Fresh at (nextEntry s x at)
-    unfolding nextEntry weight
-    fresh-entry = go (leb (length s) at) refl
-      where
-        go : (t : Bool) → leb (length s) at ≡ t
-            → Fresh at (cond t (asking x 2 1 entryKind entryKind false at (length s)) (asking x 1 1 entryKind entryKind (fullFlat s at (x .first) (x .second)) at (length s)))
-        go true e = (
-          record {
-            going = bare-going _ d l (omega arith) refl (omega arith);
-            counts = (a, b);
-            outside = λ z. (d, refl);
-            body = λ z. absurd (omega arith);
-            entries = λ z n. absurd (omega arith);
-            fields = λ z. absurd (omega arith);
-            lists = λ z i. absurd (i refl);
-            terms = λ z. absurd (omega arith);
-          },
-          omega (arith, d),
-        )
-        go false e = (
-          record {
-            going = bare-going _ d l (omega arith) refl (omega arith);
-            counts = (a, b);
-            outside = λ z. (d, refl);
-            body = λ z. absurd (omega arith);
-            entries = λ z n. (leb-false (length s) at e, refl, refl, refl);
-            fields = λ z. absurd (omega arith);
-            lists = λ z i. absurd (i refl);
-            terms = λ z. absurd (omega arith);
-          },
-          omega (arith, d),
-        )
-
-    pub fresh-list : (part : ℕ) → part < 6 → (part ≡ 1 → ⊥) → (part ≡ 2 → ⊥) → Fresh at (askingList x part at (length s))
-    unfolding askingList weight
-    fresh-list part p i j = (
+  module _ (x : State) (at : ℕ) (d : x .depth ≡ 0) (a : x .first ≤ at) (b : x .second ≤ at) where
+    fresh : (mode part end : ℕ) → mode ≤ 2 → at ≤ end → end ≤ length s → (part < 6 → end ≡ length s) → (part ≡ 6 → (endOf s (x .field) ≤ length s) × (x .second < at))
+        → (part ≡ 1 → mode ≡ 1 → at < length s) → (part ≡ 2 → mode ≡ 1 → at < length s) → Fresh at (asking x mode part at end)
+    unfolding weight
+    fresh mode part end m o e whole f in-entries in-fields = (
       record {
-        going = bare-going _ d l (omega arith) refl (omega arith);
+        going = bare-going _ d o e refl m;
         counts = (a, b);
-        outside = λ z. (d, refl);
-        body = λ z. absurd (omega (arith, z, p));
-        entries = λ z. absurd (i z);
-        fields = λ z. absurd (j z);
-        lists = λ z u v n. (refl, refl, refl);
-        terms = λ z. absurd (omega (arith, z, p));
-      },
-      omega (arith, d),
-    )
-
-    fresh-term : (part end high : ℕ) → 6 ≤ part → at ≤ end → end ≤ length s → (part ≡ 6 → (endOf s (x .field) ≤ length s) × (x .second < at)) → high ≡ cond (eqb part 8) hiproofKind tacticKind → Fresh at (begunTerm x part at end high)
-    unfolding begunTerm weight
-    fresh-term part end high p o e f h = (
-      record {
-        going = bare-going _ d o e refl (omega arith);
-        counts = (a, b);
-        outside = λ z. absurd (omega (arith, z, p));
+        outside = λ z. (d, whole z);
         body = f;
-        entries = λ z. absurd (omega (arith, z, p));
-        fields = λ z. absurd (omega (arith, z, p));
-        lists = λ z. absurd (omega (arith, z, p));
-        terms = λ z n. (refl, h, refl);
+        entries = in-entries;
+        fields = in-fields;
       },
-      omega (arith, d),
+      omega (arith, d, m),
     )
+
+    pub fresh-field : at ≤ length s → Fresh at (nextField s x at)
+    unfolding nextField
+    fresh-field l = go (leb (length s) at) refl
+      where
+        go : (t : Bool) → leb (length s) at ≡ t → Fresh at (cond t (asking x 2 2 at (length s)) (asking x 1 2 at (length s)))
+        go true e = fresh 2 2 (length s) (omega arith) l (omega arith) (λ z. refl) (λ z. absurd (omega arith)) (λ z. absurd (omega arith)) (λ z n. absurd (omega arith))
+        go false e = fresh 1 2 (length s) (omega arith) l (omega arith) (λ z. refl) (λ z. absurd (omega arith)) (λ z. absurd (omega arith)) (λ z n. leb-false (length s) at e)
+
+    fresh-entry : at ≤ length s → Fresh at (nextEntry s x at)
+    unfolding nextEntry
+    fresh-entry l = go (leb (length s) at) refl
+      where
+        go : (t : Bool) → leb (length s) at ≡ t → Fresh at (cond t (asking x 2 1 at (length s)) (asking x 1 1 at (length s)))
+        go true e = fresh 2 1 (length s) (omega arith) l (omega arith) (λ z. refl) (λ z. absurd (omega arith)) (λ z n. absurd (omega arith)) (λ z. absurd (omega arith))
+        go false e = fresh 1 1 (length s) (omega arith) l (omega arith) (λ z. refl) (λ z. absurd (omega arith)) (λ z n. leb-false (length s) at e) (λ z. absurd (omega arith))
+
+    pub fresh-list : (part : ℕ) → part < 6 → (part ≡ 1 → ⊥) → (part ≡ 2 → ⊥) → at ≤ length s → Fresh at (asking x 1 part at (length s))
+    fresh-list part p i j l = fresh 1 part (length s) (omega arith) l (omega arith) (λ z. refl) (λ z. absurd (omega (arith, z, p))) (λ z. absurd (i z)) (λ z. absurd (j z))
+
+    fresh-term : (part end : ℕ) → 6 ≤ part → at ≤ end → end ≤ length s → (part ≡ 6 → (endOf s (x .field) ≤ length s) × (x .second < at)) → Fresh at (asking x 1 part at end)
+    fresh-term part end p o e f = fresh 1 part end (omega arith) o e (λ z. absurd (omega (arith, z, p))) f (λ z. absurd (omega (arith, z, p))) (λ z. absurd (omega (arith, z, p)))
 
 -- a refusal
 pub refused-reading : (s w : List ℕ) (base : ℕ) (x : State) (k p : ℕ) → Reading s w base x → Reading s w base (refusing x k p)
@@ -156,13 +95,11 @@ refused-reading s w base x k p r = let g = r .going in record {
   body = r .body;
   entries = λ z n. absurd (omega arith);
   fields = λ z n. absurd (omega arith);
-  lists = λ z i j n. absurd (omega arith);
-  terms = λ z n. absurd (omega arith);
 }
 
 pub header-encloses : (s : List ℕ) (x : State) (h : HeaderRead) → h ≡ headerOf s x → Encloses (x .at) (x .end) h
 unfolding headerOf
-header-encloses s x h e = subst (Encloses (x .at) (x .end)) (sym e) (encloses s (x .at) (x .end) (x .low) (x .high) (x .full))
+header-encloses s x h e = subst (Encloses (x .at) (x .end)) (sym e) (encloses s (x .at) (x .end) (lowOf x) (highOf (x .part)) (fullOf s x))
 
 -- a field outside terms
 module _ (s w : List ℕ) (base : ℕ) (x : State) (r : Reading s w base x) (m : x .mode ≡ 1) (o : x .part < 6) where
@@ -184,7 +121,7 @@ module _ (s w : List ℕ) (base : ℕ) (x : State) (r : Reading s w base x) (m :
   unfolding weight
   refused-good k p = (refused-reading s w base x k p r, omega (arith, m))
 
-  module _ (tag len : ℕ) (F : IsField s (x .at) (x .end) (x .low) (x .high) (x .full) tag len) where
+  module _ (tag len : ℕ) (F : IsField s (x .at) (x .end) (lowOf x) (highOf (x .part)) (fullOf s x) tag len) where
     abbrev close : ℕ
     close = x .at + 3 + len
 
@@ -196,28 +133,27 @@ module _ (s w : List ℕ) (base : ℕ) (x : State) (r : Reading s w base x) (m :
     field-good p = go (eqb tag 1)
       where
         two : 2 ≤ len
-        two = let f = r .fields p m in omega (arith, F .least, two-bytes (table-tag tag (omega (arith, F .above, f .1, lowest-least (x .second))) (omega (arith, F .below, f .2))))
+        two = let f = asks-field s x p in omega (arith, F .least, two-bytes (table-tag tag (omega (arith, F .above, f .0, lowest-least (x .second))) (omega (arith, F .below, f .1))))
 
-        go : (t : Bool) → Good (cond t (nextField s (counted x (x .goals) (x .first + 1) (x .second) close (x .rest) (x .field)) close) (begunTerm (counted x (x .goals) (x .first) (x .second) (x .from) (x .rest) (x .at)) 6 (x .at + 5) close tacticKind))
-        go true = from-fresh close _ (omega arith) closes (fresh-field s w base (r .going .room) _ close none-waits closes (omega (arith, r .counts)) (omega (arith, r .counts)))
+        go : (t : Bool) → Good (cond t (nextField s (counted x (x .goals) (x .first + 1) (x .second) close (x .rest) (x .field)) close) (asking (counted x (x .goals) (x .first) (x .second) (x .from) (x .rest) (x .at)) 1 6 (x .at + 5) close))
+        go true = from-fresh close _ (omega arith) closes (fresh-field s w base (r .going .room) (counted x (x .goals) (x .first + 1) (x .second) close (x .rest) (x .field)) close none-waits (omega (arith, r .counts)) (omega (arith, r .counts)) closes)
         go false =
             from-fresh (x .at + 5) _ (omega arith) (omega (arith, two, closes))
-            (fresh-term s w base (r .going .room) _ (x .at + 5) none-waits (omega (arith, two, closes)) (omega (arith, r .counts)) (omega (arith, r .counts)) 6 close tacticKind (omega arith) (omega (arith, two)) closes
-            (λ z. (omega (arith, F .the-length, closes), omega (arith, r .counts))) refl)
+            (fresh-term s w base (r .going .room) (counted x (x .goals) (x .first) (x .second) (x .from) (x .rest) (x .at)) (x .at + 5) none-waits (omega (arith, r .counts)) (omega (arith, r .counts)) 6 close (omega arith) (omega (arith, two)) closes (λ z. (omega (arith, F .the-length, closes), omega (arith, r .counts))))
 
     entry-good : x .part ≡ 1 → Good (entryTaken s x tag close)
     unfolding entryTaken
     entry-good p = go (eqb tag 32)
       where
         go : (t : Bool) → Good (cond t (nextEntry s (counted x (x .goals) (x .first + 1) (x .second) (x .from) (x .rest) (x .field)) close) (nextEntry s (counted x (x .goals) (x .first) (x .second + 1) (x .from) (x .rest) (x .field)) close))
-        go true = from-fresh close _ (omega arith) closes (fresh-entry s w base (r .going .room) _ close none-waits closes (omega (arith, r .counts)) (omega (arith, r .counts)))
-        go false = from-fresh close _ (omega arith) closes (fresh-entry s w base (r .going .room) _ close none-waits closes (omega (arith, r .counts)) (omega (arith, r .counts)))
+        go true = from-fresh close _ (omega arith) closes (fresh-entry s w base (r .going .room) _ close none-waits (omega (arith, r .counts)) (omega (arith, r .counts)) closes)
+        go false = from-fresh close _ (omega arith) closes (fresh-entry s w base (r .going .room) _ close none-waits (omega (arith, r .counts)) (omega (arith, r .counts)) closes)
 
     remaining-good : (n : ℕ) → n ≤ close → Good (remainingTaken x n close)
     unfolding remainingTaken weight
     remaining-good n h = go (eqb close (x .end)) refl
       where
-        go : (t : Bool) → eqb close (x .end) ≡ t → Good (cond t (asking (counted x (x .goals) (x .first) n (x .from) (x .rest) (x .field)) 2 (x .part) (x .low) (x .high) (x .full) close (x .end)) (refusing x (number lengthWrong) close))
+        go : (t : Bool) → eqb close (x .end) ≡ t → Good (cond t (asking (counted x (x .goals) (x .first) n (x .from) (x .rest) (x .field)) 2 (x .part) close (x .end)) (refusing x (number lengthWrong) close))
         go true e = (
           record {
             going = bare-going s w base (r .going .room) _ none-waits (F .contents) (omega (arith, whole-file)) refl (omega arith);
@@ -226,8 +162,6 @@ module _ (s w : List ℕ) (base : ℕ) (x : State) (r : Reading s w base x) (m :
             body = λ z. absurd (omega (arith, z, o));
             entries = λ z k. absurd (omega arith);
             fields = λ z k. absurd (omega arith);
-            lists = λ z i j k. absurd (omega arith);
-            terms = λ z k. absurd (omega arith);
           },
           omega (arith, none-waits, m, closes),
         )
@@ -240,24 +174,24 @@ module _ (s w : List ℕ) (base : ℕ) (x : State) (r : Reading s w base x) (m :
         y : State
         y = counted x n (x .first) (x .second) close (x .rest) (x .field)
 
-        go : (b c d e : Bool) → Good (cond b (refusing x (number limitPassed) (x .at)) (cond c (remainingTaken x n close) (cond d (nextEntry s y close) (cond e (begunTerm y 7 close (x .end) tacticKind) (begunTerm y 8 close (x .end) hiproofKind)))))
+        go : (b c d e : Bool) → Good (cond b (refusing x (number limitPassed) (x .at)) (cond c (remainingTaken x n close) (cond d (nextEntry s y close) (cond e (asking y 1 7 close (x .end)) (asking y 1 8 close (x .end))))))
         go true c d e = refused-good _ _
         go false true d e = remaining-good n h
-        go false false true e = from-fresh close _ (omega arith) closes (fresh-entry s w base (r .going .room) y close none-waits closes (omega (arith, r .counts)) (omega (arith, r .counts)))
+        go false false true e = from-fresh close _ (omega arith) closes (fresh-entry s w base (r .going .room) y close none-waits (omega (arith, r .counts)) (omega (arith, r .counts)) closes)
         go false false false true =
             from-fresh close _ (omega arith) closes
-            (fresh-term s w base (r .going .room) y close none-waits closes (omega (arith, r .counts)) (omega (arith, r .counts)) 7 (x .end) tacticKind (omega arith) (F .contents) (omega (arith, whole-file)) (λ z. absurd (omega arith)) refl)
+            (fresh-term s w base (r .going .room) y close none-waits (omega (arith, r .counts)) (omega (arith, r .counts)) 7 (x .end) (omega arith) (F .contents) (omega (arith, whole-file)) (λ z. absurd (omega arith)))
         go false false false false =
             from-fresh close _ (omega arith) closes
-            (fresh-term s w base (r .going .room) y close none-waits closes (omega (arith, r .counts)) (omega (arith, r .counts)) 8 (x .end) hiproofKind (omega arith) (F .contents) (omega (arith, whole-file)) (λ z. absurd (omega arith)) refl)
+            (fresh-term s w base (r .going .room) y close none-waits (omega (arith, r .counts)) (omega (arith, r .counts)) 8 (x .end) (omega arith) (F .contents) (omega (arith, whole-file)) (λ z. absurd (omega arith)))
 
   taken-good : (h : HeaderRead) → headerOf s x ≡ h → Good (taken s x h)
   unfolding taken headerOf
   taken-good (H.Refused k p) e = refused-good k p
   taken-good (H.Field tag len) e = go (eqb (x .part) 2) (eqb (x .part) 1) refl refl
     where
-      F : IsField s (x .at) (x .end) (x .low) (x .high) (x .full) tag len
-      F = is-field s (x .at) (x .end) (x .low) (x .high) (x .full) tag len (told-field _ tag len e)
+      F : IsField s (x .at) (x .end) (lowOf x) (highOf (x .part)) (fullOf s x) tag len
+      F = is-field s (x .at) (x .end) (lowOf x) (highOf (x .part)) (fullOf s x) tag len (told-field _ tag len e)
 
       go : (b c : Bool) → eqb (x .part) 2 ≡ b → eqb (x .part) 1 ≡ c → Good (cond b (tableField s x tag (x .at + 3 + len)) (cond c (entryTaken s x tag (x .at + 3 + len)) (listTaken s x (len / 2) (x .at + 3 + len))))
       go true c p q = field-good tag len F (eqb-true (x .part) 2 p)
@@ -272,11 +206,11 @@ module _ (s w : List ℕ) (base : ℕ) (x : State) (r : Reading s w base x) (m :
 -- a turn within a term
 module _ (s w : List ℕ) (base : ℕ) (x : State) (r : Reading s w base x) (m : x .mode ≡ 1) (o : 6 ≤ x .part) where
   -- what `turn_within` asks
-  pub enters : (h : HeaderRead) → h ≡ headerOf s x → Enters s w (x .high) base x h
+  pub enters : (h : HeaderRead) → h ≡ headerOf s x → Enters s w (highOf (x .part)) base x h
   unfolding headerOf
-  enters h e = let t = r .terms o m in record { going = r .going; reading = m; header-is = rw (← t .0, ← t .2) e }
+  enters h e = let t = asks-term s x o in record { going = r .going; reading = m; header-is = rw (← t .0, ← t .1) e }
 
-  module _ (w′ : List ℕ) (y : State) (t : Turned s w (x .high) base x w′ y) where
+  module _ (w′ : List ℕ) (y : State) (t : Turned s w (highOf (x .part)) base x w′ y) where
     abbrev Good′ : State → Type 0
     Good′ z = Reading s w′ base z × (weight s z < weight s x)
 
@@ -291,25 +225,16 @@ module _ (s w : List ℕ) (base : ℕ) (x : State) (r : Reading s w base x) (m :
         let b = r .body (sym same-part ∙ p) in
         (subst (λ (a : ℕ). endOf s a ≤ length s) (sym (t .moved .held .field)) (b .0), omega (arith, t .moved .held .second, b .1, t .moved .ahead))
 
-    -- the term goes on, or was refused
-    going-on : (y .mode ≡ 2 → ⊥) → Good′ (limited y)
-    unfolding weight
-    going-on n =
-        let g = t .moved .going in
-        let a = r .terms o m in
-        let h = t .moved .held in (
-          record {
-            going = record { ordered = g .ordered; waits = g .waits; few = g .few; most = g .most; behind = g .behind; near = g .near; room = g .room; modes = g .modes };
-            counts = counted-less;
-            outside = λ z. absurd (omega (arith, z, o, same-part));
-            body = in-body;
-            entries = λ z. absurd (omega (arith, z, o, same-part));
-            fields = λ z. absurd (omega (arith, z, o, same-part));
-            lists = λ z. absurd (omega (arith, z, o, same-part));
-            terms = λ z k. (h .low ∙ a .0, h .high ∙ a .1 ∙ ap (λ (p : ℕ). cond (eqb p 8) hiproofKind tacticKind) (sym same-part), refl);
-          },
-          t .moved .less,
-        )
+    -- the term goes on, was refused, or was read
+    same-reading : Reading s w′ base y
+    same-reading = record {
+      going = t .moved .going;
+      counts = counted-less;
+      outside = λ z. absurd (omega (arith, z, o, same-part));
+      body = in-body;
+      entries = λ z. absurd (omega (arith, z, o, same-part));
+      fields = λ z. absurd (omega (arith, z, o, same-part));
+    }
 
     -- the term was read
     module _ (n : y .mode ≡ 2) where
@@ -317,21 +242,9 @@ module _ (s w : List ℕ) (base : ℕ) (x : State) (r : Reading s w base x) (m :
       unfolding weight
       from-behind z f = (f .0, omega (arith, f .1, n, t .bare n, t .moved .less))
 
-      read-reading : Reading s w′ base y
-      read-reading = record {
-        going = t .moved .going;
-        counts = counted-less;
-        outside = λ z. absurd (omega (arith, z, o, same-part));
-        body = in-body;
-        entries = λ z. absurd (omega (arith, z, o, same-part));
-        fields = λ z. absurd (omega (arith, z, o, same-part));
-        lists = λ z. absurd (omega (arith, z, o, same-part));
-        terms = λ z k. absurd (omega (arith, n, k));
-      }
-
       refused-behind : (k p : ℕ) → Good′ (refusing y k p)
       unfolding weight
-      refused-behind k p = (refused-reading s w′ base y k p read-reading, omega (arith, t .moved .less))
+      refused-behind k p = (refused-reading s w′ base y k p same-reading, omega (arith, t .moved .less))
 
       inside-file : y .at ≤ length s
       inside-file = let i = inside s w′ base y (t .moved .going) in omega (arith, i)
@@ -342,12 +255,12 @@ module _ (s w : List ℕ) (base : ℕ) (x : State) (r : Reading s w base x) (m :
         where
           go : (b c d e : Bool) → eqb (y .part) 6 ≡ b
               → Good′ (cond b (cond d (nextField s (counted y (y .goals) (y .first) (y .second + 1) (y .from) (y .rest) (y .field)) (y .at)) (refusing y (number lengthWrong) (y .field)))
-              (cond c (cond e y (refusing y (number lengthWrong) (y .at))) (askingList (counted y (y .goals) (y .first) (y .second) (y .from) (y .at) (y .field)) 5 (y .at) (length s))))
-          go true c true e p = from-behind _ (fresh-field s w′ base (t .moved .going .room) (counted y (y .goals) (y .first) (y .second + 1) (y .from) (y .rest) (y .field)) (y .at) (t .bare n) inside-file (counted-less .0) (omega (arith, in-body (eqb-true (y .part) 6 p) .1)))
+              (cond c (cond e y (refusing y (number lengthWrong) (y .at))) (asking (counted y (y .goals) (y .first) (y .second) (y .from) (y .at) (y .field)) 1 5 (y .at) (length s))))
+          go true c true e p = from-behind _ (fresh-field s w′ base (t .moved .going .room) (counted y (y .goals) (y .first) (y .second + 1) (y .from) (y .rest) (y .field)) (y .at) (t .bare n) (counted-less .0) (omega (arith, in-body (eqb-true (y .part) 6 p) .1)) inside-file)
           go true c false e p = refused-behind _ _
-          go false true d true p = (read-reading, t .moved .less)
+          go false true d true p = (same-reading, t .moved .less)
           go false true d false p = refused-behind _ _
-          go false false d e p = from-behind _ (fresh-list s w′ base (t .moved .going .room) (counted y (y .goals) (y .first) (y .second) (y .from) (y .at) (y .field)) (y .at) (t .bare n) inside-file (counted-less .0) (counted-less .1) 5 (omega arith) (λ z. absurd (omega arith)) (λ z. absurd (omega arith)))
+          go false false d e p = from-behind _ (fresh-list s w′ base (t .moved .going .room) (counted y (y .goals) (y .first) (y .second) (y .from) (y .at) (y .field)) (y .at) (t .bare n) (counted-less .0) (counted-less .1) 5 (omega arith) (λ z. absurd (omega arith)) (λ z. absurd (omega arith)) inside-file)
 
     -- what `behind_term` asks
     pub asks-behind : (y .part ≡ 6 → y .field + 2 < length s) × (y .at ≤ length s) × (y .second ≤ y .at)
@@ -365,8 +278,8 @@ module _ (s w : List ℕ) (base : ℕ) (x : State) (r : Reading s w base x) (m :
         let q : behindTerm s y ≡ settled s y = rw (eq-eqb (y .mode) 2 n) in
         steps z (e ∙ q) (subst (λ (u : State). Good′ u) q (behind-good n))
 
-    pub step-on : (y .mode ≡ 2 → ⊥) → Step s w base x w′ (limited y)
+    pub step-on : (y .mode ≡ 2 → ⊥) → Step s w base x w′ y
     unfolding settled
     step-on n =
-        let q : limited y ≡ settled s y = rw (ne-eqb (y .mode) 2 n) in
-        steps (limited y) q (subst (λ (u : State). Good′ u) q (going-on n))
+        let q : y ≡ settled s y = rw (ne-eqb (y .mode) 2 n) in
+        steps y q (subst (λ (u : State). Good′ u) q (same-reading, t .moved .less))

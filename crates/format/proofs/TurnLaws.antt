@@ -60,7 +60,7 @@ gap-fits s w base x g m l = go (g .near m)
 
 -- a state of the same part with the same refusal
 abbrev stepped : State → (mode at end fields depth top : ℕ) → State
-stepped x m at end n d top = record { mode = m; part = x .part; low = x .low; high = x .high; full = x .full; at = at; end = end; fields = n; depth = d; top = top; goals = x .goals; first = x .first; second = x .second; from = x .from; rest = x .rest; field = x .field; number = x .number; place = x .place }
+stepped x m at end n d top = record { mode = m; part = x .part; at = at; end = end; fields = n; depth = d; top = top; goals = x .goals; first = x .first; second = x .second; from = x .from; rest = x .rest; field = x .field; number = x .number; place = x .place }
 
 -- a step to a refusal
 refuses : (s w : List ℕ) (high base : ℕ) (x : State) (k p : ℕ) → Going s w base x → 1 ≤ x .mode → outcome s w high base x ≡ Refused k p → Moved s w high base x w (refusing x k p)
@@ -70,7 +70,7 @@ refuses s w high base x k p g m e = record {
   same = when-refused s w high base (refusing x k p) refl ∙ sym e;
   kept = kept-same w base (base + readingRoom);
   less = omega arith;
-  held = record { part = refl; low = refl; high = refl; goals = refl; first = refl; second = refl; from = refl; field = refl };
+  held = record { part = refl; goals = refl; first = refl; second = refl; from = refl; field = refl };
   ahead = omega arith;
 }
 
@@ -108,7 +108,7 @@ module _ (s w : List ℕ) (high base : ℕ) (x : State) (g : Going s w base x) (
               ∙ sym (when-reads s w high base x m);
           kept = kept-same w base (base + readingRoom);
           less = omega (arith, f, h);
-          held = record { part = refl; low = refl; high = refl; goals = refl; first = refl; second = refl; from = refl; field = refl };
+          held = record { part = refl; goals = refl; first = refl; second = refl; from = refl; field = refl };
           ahead = omega arith;
         }
 
@@ -163,7 +163,7 @@ module _ (s w : List ℕ) (high base : ℕ) (x : State) (g : Going s w base x) (
               ∙ sym (when-reads s w high base x m);
           kept = ka;
           less = omega (arith, f, h);
-          held = record { part = refl; low = refl; high = refl; goals = refl; first = refl; second = refl; from = refl; field = refl };
+          held = record { part = refl; goals = refl; first = refl; second = refl; from = refl; field = refl };
           ahead = omega arith;
         }
 
@@ -217,7 +217,7 @@ module _ (s w : List ℕ) (high base : ℕ) (x : State) (g : Going s w base x) (
             ∙ sym before;
         kept = kept-same w base (base + readingRoom);
         less = omega arith;
-        held = record { part = refl; low = refl; high = refl; goals = refl; first = refl; second = refl; from = refl; field = refl };
+        held = record { part = refl; goals = refl; first = refl; second = refl; from = refl; field = refl };
         ahead = omega arith;
       }
 
@@ -267,15 +267,13 @@ module _ (s w : List ℕ) (high base : ℕ) (x : State) (g : Going s w base x) (
             ∙ sym before;
         kept = ka;
         less = omega (arith, m);
-        held = record { part = refl; low = refl; high = refl; goals = refl; first = refl; second = refl; from = refl; field = refl };
+        held = record { part = refl; goals = refl; first = refl; second = refl; from = refl; field = refl };
         ahead = omega arith;
       }
 
 held-both : (x y z : State) → Held x y → Held y z → Held x z
 held-both x y z a b = record {
   part = b .part ∙ a .part;
-  low = b .low ∙ a .low;
-  high = b .high ∙ a .high;
   goals = b .goals ∙ a .goals;
   first = b .first ∙ a .first;
   second = b .second ∙ a .second;

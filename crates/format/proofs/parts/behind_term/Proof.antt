@@ -52,12 +52,12 @@ returns-4 : tie.Need-returns-4
 unfolding behindTerm
 returns-4 c = rw (ne-eqb _ _ (c .before .before .before .before .if1 .left), eq-eqb _ _ (c .before .before .if3 .taken), eq-eqb _ _ (c .if4 .left))
 
-ask-list-requires : tie.Need-ask-list-requires
-ask-list-requires c κs = search needs
+begin-requires : tie.Need-begin-requires
+begin-requires c κs = search needs
 
 returns-5 : tie.Need-returns-5
 unfolding behindTerm
-returns-5 c = rw (ne-eqb _ _ (c .before .before .before .if1 .left), ne-eqb _ _ (c .before .if3 .left)) (c .ask-list .ensures)
+returns-5 c = rw (ne-eqb _ _ (c .before .before .before .if1 .left), ne-eqb _ _ (c .before .if3 .left)) (c .begin .ensures)
 
 pub behind-term-spec : {M : Type 1} → statement M
-behind-term-spec = tie.close (tie.spec add-if2 add-load16 load16-requires cast-if2 add-if2-2 refused-requires returns add-r next-field-requires returns-2 refused-requires-2 returns-3 returns-4 ask-list-requires returns-5)
+behind-term-spec = tie.close (tie.spec add-if2 add-load16 load16-requires cast-if2 add-if2-2 refused-requires returns add-r next-field-requires returns-2 refused-requires-2 returns-3 returns-4 begin-requires returns-5)

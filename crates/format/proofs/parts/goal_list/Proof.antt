@@ -40,19 +40,19 @@ returns-3 : tie.Need-returns-3
 unfolding listTaken
 returns-3 c = rw (few (c .before .before .before .before .before), ne-eqb _ _ (c .before .before .before .if2 .left), eq-eqb _ _ (c .before .if3 .taken)) (c .next-entry .ensures)
 
-begin-term-requires : tie.Need-begin-term-requires
-begin-term-requires c κs = search needs
+begin-requires : tie.Need-begin-requires
+begin-requires c κs = search needs
 
 returns-4 : tie.Need-returns-4
 unfolding listTaken
-returns-4 c = rw (few (c .before .before .before .before .before .before .before), ne-eqb _ _ (c .before .before .before .before .before .if2 .left), ne-eqb _ _ (c .before .before .before .if3 .left), eq-eqb _ _ (c .before .if4 .taken)) (c .begin-term .ensures)
+returns-4 c = rw (few (c .before .before .before .before .before .before .before), ne-eqb _ _ (c .before .before .before .before .before .if2 .left), ne-eqb _ _ (c .before .before .before .if3 .left), eq-eqb _ _ (c .before .if4 .taken)) (c .begin .ensures)
 
-begin-term-requires-2 : tie.Need-begin-term-requires-2
-begin-term-requires-2 c κs = search needs
+begin-requires-2 : tie.Need-begin-requires-2
+begin-requires-2 c κs = search needs
 
 returns-5 : tie.Need-returns-5
 unfolding listTaken
-returns-5 c = rw (few (c .before .before .before .before .before .before .before), ne-eqb _ _ (c .before .before .before .before .before .if2 .left), ne-eqb _ _ (c .before .before .before .if3 .left), ne-eqb _ _ (c .before .if4 .left)) (c .begin-term2 .ensures)
+returns-5 c = rw (few (c .before .before .before .before .before .before .before), ne-eqb _ _ (c .before .before .before .before .before .if2 .left), ne-eqb _ _ (c .before .before .before .if3 .left), ne-eqb _ _ (c .before .if4 .left)) (c .begin2 .ensures)
 
 pub goal-list-spec : {M : Type 1} → statement M
-goal-list-spec = tie.close (tie.spec refused-requires returns remaining-requires returns-2 next-entry-requires returns-3 begin-term-requires returns-4 begin-term-requires-2 returns-5)
+goal-list-spec = tie.close (tie.spec refused-requires returns remaining-requires returns-2 next-entry-requires returns-3 begin-requires returns-4 begin-requires-2 returns-5)

@@ -16,15 +16,15 @@ returns : tie.Need-returns
 unfolding tableField
 returns c = rw (eq-eqb _ _ (c .before .before .if1 .taken)) (c .next-field .ensures)
 
-add-begin-term : tie.Need-add-begin-term
-add-begin-term c = search needs
+add-begin : tie.Need-add-begin
+add-begin c = search needs
 
-begin-term-requires : tie.Need-begin-term-requires
-begin-term-requires c κs = search needs
+begin-requires : tie.Need-begin-requires
+begin-requires c κs = search needs
 
 returns-2 : tie.Need-returns-2
 unfolding tableField
-returns-2 c = rw (ne-eqb _ _ (c .before .before .if1 .left)) (c .begin-term .ensures)
+returns-2 c = rw (ne-eqb _ _ (c .before .before .if1 .left)) (c .begin .ensures)
 
 pub table-field-spec : {M : Type 1} → statement M
-table-field-spec = tie.close (tie.spec add-r next-field-requires returns add-begin-term begin-term-requires returns-2)
+table-field-spec = tie.close (tie.spec add-r next-field-requires returns add-begin begin-requires returns-2)

@@ -4,6 +4,7 @@ use mathlib.Core.Path.{_≡_, refl, sym, _∙_}
 use Prim.Native.Nat.{_≤_}
 use native.Mathlib.Omega.{arith}
 use denote.Ref.{now}
+use Rattle.format.specs.States.{highOf}
 use Rattle.format.specs.Waiting.{Turned}
 use Rattle.format.proofs.TurnLaws.{inside}
 use Rattle.format.proofs.StepLaws.{header-encloses, step-field, enters, asks-behind, step-behind, step-on}
@@ -29,7 +30,7 @@ within : (c : In) → 6 ≤ start c .args .x .part
 within c = omega (arith, c .before .if1 .left)
 
 -- the state behind the turn
-turned : (c : Out) → Turned (now (start (c .before) .args .s)) (now (start (c .before) .args .work)) (start (c .before) .args .x .high) (start (c .before) .args .base) (start (c .before) .args .x) (c .turn-within .last .1 .1 .1 .0) (c .turn-within .result)
+turned : (c : Out) → Turned (now (start (c .before) .args .s)) (now (start (c .before) .args .work)) (highOf (start (c .before) .args .x .part)) (start (c .before) .args .base) (start (c .before) .args .x) (c .turn-within .last .1 .1 .1 .0) (c .turn-within .result)
 turned c = let p = start (c .before) .pre in c .turn-within .ensures _ (enters _ _ _ _ (p .reading) (p .mode-is) (within (c .before)) _ (p .header-is))
 
 take-requires : tie.Need-take-requires
@@ -56,10 +57,10 @@ returns-2 : tie.Need-returns-2
 returns-2 c = let o = c .before .before .before .before .before in let p = start (o .before) .pre in step-behind _ _ _ _ (p .reading) (p .mode-is) (within (o .before)) _ _ (turned o) (c .before .if2 .taken) _ (c .behind-term .ensures)
 
 same-length-2 : tie.Need-same-length-2
-same-length-2 c = c .before .before .before .before .before .turn-within .kept .1 .1 .1 .0
+same-length-2 c = c .before .before .before .before .turn-within .kept .1 .1 .1 .0
 
 returns-3 : tie.Need-returns-3
-returns-3 c = let o = c .before .before .before .before .before in let p = start (o .before) .pre in step-on _ _ _ _ (p .reading) (p .mode-is) (within (o .before)) _ _ (turned o) (c .before .if2 .left)
+returns-3 c = let o = c .before .before .before .before in let p = start (o .before) .pre in step-on _ _ _ _ (p .reading) (p .mode-is) (within (o .before)) _ _ (turned o) (c .if2 .left)
 
 pub turn-spec : {M : Type 1} → statement M
 turn-spec =

@@ -24,7 +24,6 @@ use Rattle.format.proofs.tags.inner_at.Reads as inner-at-reads
 use Rattle.format.proofs.tags.least_at.Reads as least-at-reads
 use Rattle.format.proofs.tags.row_of.Reads as row-of-reads
 use Rattle.format.proofs.waiting.push.Reads as push-reads
-use Rattle.format.proofs.state.refused.Reads as refused-reads
 
 abbrev S : Type 0
 S = tie.Start
@@ -61,9 +60,6 @@ holds c = (field c .contents, leb-false _ _ (field c .room), start c .pre .2 .go
 
 enum-known-header : tie.Need-enum-known-header
 enum-known-header c = search needs
-
-refused-requires : tie.Need-refused-requires
-refused-requires c κs = search needs
 
 enum-known-header-2 : tie.Need-enum-known-header-2
 enum-known-header-2 c = search needs
@@ -123,7 +119,7 @@ add-r-4 : tie.Need-add-r-4
 add-r-4 c = omega (arith, holds (c .before .before .before .before .before .before .before .before .before .before .before .before))
 
 returns-2 : tie.Need-returns-2
-returns-2 c = λ s high b. rw (c .refused .ensures) (enter-refused _ _ _ _ _ (b .going) (b .reading) _ _ (sym (b .header-is) ∙ c .before .before .header .given .1))
+returns-2 c = λ s high b. enter-refused _ _ _ _ _ (b .going) (b .reading) _ _ (sym (b .header-is) ∙ c .before .header .given .1)
 
 same-length : tie.Need-same-length
 same-length c = search needs
@@ -136,7 +132,6 @@ enter-spec =
     tie.close
     (tie.spec
     enum-known-header
-    refused-requires
     enum-known-header-2
     add-close
     add-close-2

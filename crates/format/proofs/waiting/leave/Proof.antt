@@ -12,7 +12,6 @@ use Rattle.format.proofs.waiting.leave.Statement.{statement}
 use Rattle.format.proofs.waiting.leave.Tie as tie
 use Rattle.format.proofs.waiting.leave.Reads as reads
 use Rattle.format.proofs.waiting.leave.Lts as lts
-use Rattle.format.proofs.state.refused.Reads as refused-reads
 use Rattle.words.proofs.load16.Reads as load16-reads
 use Rattle.words.proofs.store16.Reads as store16-reads
 
@@ -78,14 +77,11 @@ same-length c = search needs
 returns : tie.Need-returns
 returns c = λ high. leave-ends _ _ high _ _ (c .before .before .before .before .before .before .before .before .before .before .before .pre .0) (c .before .before .before .before .before .before .before .before .before .before .before .pre .1) _ _ _ _ (omega (arith, c .before .before .before .before .before .before .before .before .before .before .before .pre .2)) (c .before .before .before .before .before .before .load16 .ensures) (c .before .before .before .before .load162 .ensures) (ends-at _ _ _ (c .before .before .before .load163 .ensures)) (c .before .before .if1 .taken) (c .if2 .taken)
 
-refused-requires : tie.Need-refused-requires
-refused-requires c κs = search needs
-
 same-length-2 : tie.Need-same-length-2
 same-length-2 c = search needs
 
 returns-2 : tie.Need-returns-2
-returns-2 c = λ high. rw (c .refused .ensures) (leave-refused _ _ high _ _ (c .before .before .before .before .before .before .before .before .before .before .before .before .pre .0) (c .before .before .before .before .before .before .before .before .before .before .before .before .pre .1) _ _ _ _ (omega (arith, c .before .before .before .before .before .before .before .before .before .before .before .before .pre .2)) (c .before .before .before .before .before .before .before .load16 .ensures) (c .before .before .before .before .before .load162 .ensures) (ends-at _ _ _ (c .before .before .before .before .load163 .ensures)) (c .before .before .before .if1 .taken) (c .before .if2 .left))
+returns-2 c = λ high. leave-refused _ _ high _ _ (c .before .before .before .before .before .before .before .before .before .before .before .pre .0) (c .before .before .before .before .before .before .before .before .before .before .before .pre .1) _ _ _ _ (omega (arith, c .before .before .before .before .before .before .before .before .before .before .before .pre .2)) (c .before .before .before .before .before .before .load16 .ensures) (c .before .before .before .before .load162 .ensures) (ends-at _ _ _ (c .before .before .before .load163 .ensures)) (c .before .before .if1 .taken) (c .if2 .left)
 
 add-store16 : tie.Need-add-store16
 add-store16 c = search needs
@@ -118,7 +114,6 @@ leave-spec =
     add-end-2
     same-length
     returns
-    refused-requires
     same-length-2
     returns-2
     add-store16
