@@ -19,6 +19,7 @@ use Rattle.format.specs.States.{asking, counted, nextEntry, entryTaken, taken, 
 use Rattle.format.specs.Waiting.{readingRoom}
 use Rattle.format.specs.Reading.{Reading, headerOf, Step, Reaches}
 use Rattle.format.proofs.HeaderLaws.{told-field}
+use Rattle.format.proofs.AskLaws.{asks-entry}
 use Rattle.format.proofs.StepCases.{field-step}
 use Rattle.files.specs.declared.flats.FlatRead.{FlatRead}
 use Rattle.files.specs.declared.flats.FlatRead.the-variants as F
@@ -96,9 +97,10 @@ module _ (s : List ℕ) where
   turn w base x w′ y h m step (at-entries i p e) =
       let o : x .part < 6 = omega (arith, p) in
       let f = field-step s w base x w′ y step o in
-      let a = h .entries p m in
-      let q : headerOf s x ≡ head x (a .0) e = unfold headerOf in λ i. headerShape (headerAt s (x .at) (h .outside o .1 i) (a .1 i) (a .2 i) (a .3 i)) in
-      (f .0, subst FlatState (sym (f .1)) (from-header x (a .0) e p (headerOf s x) (sym q)))
+      let a = asks-entry s x p in
+      let l = h .entries p m in
+      let q : headerOf s x ≡ head x l e = unfold headerOf in λ i. headerShape (headerAt s (x .at) (h .outside o .1 i) (a .0 i) (a .1 i) (a .2 i)) in
+      (f .0, subst FlatState (sym (f .1)) (from-header x l e p (headerOf s x) (sym q)))
   turn w base x w′ y h m step (all-read z l e) = absurd (omega (arith, m, z))
 
   -- the beginning

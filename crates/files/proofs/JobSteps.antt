@@ -16,6 +16,7 @@ use Rattle.format.specs.Reading.{Reading, Step, Reaches}
 use Rattle.files.specs.declared.jobs.JobRead.the-variants as J
 use Rattle.files.specs.Jobs.{readJob}
 use Rattle.files.specs.Shapes.{jobParts, jobShape, toldJob}
+use Rattle.format.proofs.AskLaws.{high-of-job}
 use Rattle.files.proofs.ListSteps.{stated, ListStep, stops, reads, First, Begins, long, first, begins, first-step, holds-on}
 use Rattle.files.proofs.TermSteps.{InTerm, Turn, goes-on, refuses, leaves, term-begun, term-turn}
 use Rattle.files.proofs.JobLaws.{stated-refused, tactic-refused, bytes-left, job-read}
@@ -50,7 +51,7 @@ module _ (s : List ℕ) (base : ℕ) where
   keeps w x w′ r h m step (in-goals f) =
       let l = first-step s w base 3 (omega arith) (λ z. absurd (omega arith)) (λ z. absurd (omega arith)) x h f w′ r step in
       behind-goals w x h w′ r f (l .0) (l .1)
-  keeps w x w′ r h m step (in-term t) = behind-term w x h w′ r t (term-turn s 7 tacticKind base w x h (omega arith) t w′ r step)
+  keeps w x w′ r h m step (in-term t) = behind-term w x h w′ r t (term-turn s 7 tacticKind base w x h (omega arith) high-of-job t w′ r step)
   keeps w x w′ r h m step (is-read z e) = absurd (omega (arith, m, z))
 
   begins-known : (w : List ℕ) (x : State) → Begins s 3 x → Known w x

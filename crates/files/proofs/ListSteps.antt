@@ -21,10 +21,11 @@ use Rattle.format.specs.Tags.{goalListKind, hiproofKind, tacticKind}
 use Rattle.format.specs.Headers.{headerAt}
 use Rattle.format.specs.Goals.{readGoals}
 use Rattle.format.specs.Shapes.{headerShape, goalsShape}
-use Rattle.format.specs.States.{refusing, counted, begunTerm, askingList, nextEntry, remainingTaken, listTaken, taken, blankState, begunFile}
+use Rattle.format.specs.States.{refusing, asking, counted, nextEntry, remainingTaken, listTaken, taken, blankState, begunFile}
 use Rattle.format.specs.Waiting.{readingRoom}
 use Rattle.format.specs.Reading.{Reading, headerOf, Step, Reaches, none, more}
 use Rattle.format.proofs.GoalsLaws.{header-refused, header-read, many-goals, few-goals}
+use Rattle.format.proofs.AskLaws.{asks-list}
 use Rattle.format.proofs.StepCases.{field-step}
 use Rattle.format.proofs.StepLaws.{fresh-list, refused-reading}
 use Rattle.format.proofs.ReachLaws.{reaches-reading}
@@ -38,8 +39,8 @@ abbrev pub behindList : List ℕ → State → (n close : ℕ) → State
 behindList s x n close =
     cond (eqb (x .part) 5) (remainingTaken x n close)
     (cond (eqb (x .part) 0) (nextEntry s (counted x n (x .first) (x .second) close (x .rest) (x .field)) close)
-    (cond (eqb (x .part) 3) (begunTerm (counted x n (x .first) (x .second) close (x .rest) (x .field)) 7 close (x .end) tacticKind)
-    (begunTerm (counted x n (x .first) (x .second) close (x .rest) (x .field)) 8 close (x .end) hiproofKind)))
+    (cond (eqb (x .part) 3) (asking (counted x n (x .first) (x .second) close (x .rest) (x .field)) 1 7 close (x .end))
+    (asking (counted x n (x .first) (x .second) close (x .rest) (x .field)) 1 8 close (x .end))))
 
 -- from the state x to r over a goal list of which l is told
 pub data ListStep (s : List ℕ) (x : State) (l : GoalsRead) (r : State) : Type 0 where
@@ -61,7 +62,7 @@ module _ (s w : List ℕ) (base : ℕ) (x : State) (h : Reading s w base x) (m :
   unfolding headerOf
   list-step w′ r step =
       let f = field-step s w base x w′ r step o in
-      let l = h .lists o i j m in
+      let l = asks-list s x o i j in
       let e : headerShape (headerAt s (x .at) (length s) goalListKind goalListKind false) ≡ headerOf s x = rw (h .outside o .1, l .0, l .1, l .2) in
       (f .0, subst (ListStep s x (goalsShape (readGoals s (x .at) (length s)))) (sym (f .1)) (from-header (headerOf s x) e))
 
@@ -80,10 +81,10 @@ pub data Begins (s : List ℕ) (part : ℕ) (x : State) : Type 0 where
 
 module _ (s : List ℕ) (part : ℕ) where
   pub begins : Begins s part (begunFile s part)
-  unfolding begunFile blankState askingList goalsShape told number
+  unfolding begunFile blankState goalsShape told number
   begins = go (ltb mostBytes (length s)) refl
     where
-      go : (b : Bool) → ltb mostBytes (length s) ≡ b → Begins s part (cond b (refusing (askingList (blankState part) part 0 (length s)) (number inputTooLong) 0) (askingList (blankState part) part 0 (length s)))
+      go : (b : Bool) → ltb mostBytes (length s) ≡ b → Begins s part (cond b (refusing (asking (blankState part) 1 part 0 (length s)) (number inputTooLong) 0) (asking (blankState part) 1 part 0 (length s)))
       go true e = long refl (rw e)
       go false e = first (record { short = ltb-false mostBytes (length s) e; mode-is = refl; part-is = refl; at-start = refl; none-counted = (refl, refl, refl) })
 
@@ -93,10 +94,10 @@ module _ (s : List ℕ) (part : ℕ) where
     unfolding begunFile blankState
     begun-reading = go (ltb mostBytes (length s))
       where
-        asked : Reading s w base (askingList (blankState part) part 0 (length s))
-        asked = fresh-list s w base room (blankState part) 0 refl (omega arith) (omega arith) (omega arith) part o i j .0
+        asked : Reading s w base (asking (blankState part) 1 part 0 (length s))
+        asked = fresh-list s w base room (blankState part) 0 refl (omega arith) (omega arith) part o i j (omega arith) .0
 
-        go : (b : Bool) → Reading s w base (cond b (refusing (askingList (blankState part) part 0 (length s)) (number inputTooLong) 0) (askingList (blankState part) part 0 (length s)))
+        go : (b : Bool) → Reading s w base (cond b (refusing (asking (blankState part) 1 part 0 (length s)) (number inputTooLong) 0) (asking (blankState part) 1 part 0 (length s)))
         go true = refused-reading s w base _ _ _ asked
         go false = asked
 

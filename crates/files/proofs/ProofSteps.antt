@@ -15,11 +15,12 @@ use Rattle.format.specs.Refusals.{number, lengthWrong}
 use Rattle.format.specs.Tags.{hiproofKind}
 use Rattle.format.specs.Goals.{readGoals}
 use Rattle.format.specs.Shapes.{goalsShape}
-use Rattle.format.specs.States.{refusing, asking, counted, askingList, remainingTaken, behindTerm, begunFile}
+use Rattle.format.specs.States.{refusing, asking, counted, remainingTaken, behindTerm, begunFile}
 use Rattle.format.specs.Reading.{Reading, Step, Reaches}
 use Rattle.files.specs.declared.proofs.ProofRead.the-variants as P
 use Rattle.files.specs.Proofs.{readProof}
 use Rattle.files.specs.Shapes.{proofParts, proofShape, toldProof}
+use Rattle.format.proofs.AskLaws.{high-of-proof}
 use Rattle.files.proofs.ListSteps.{stated, ListStep, stops, reads, list-step, First, Begins, long, first, begins, first-step, holds-on}
 use Rattle.files.proofs.TermSteps.{termAt, InTerm, Turn, goes-on, refuses, leaves, term-begun, term-turn}
 use Rattle.files.proofs.ProofLaws.{stated-refused, hiproof-refused, list-refused, bytes-left, proof-read}
@@ -41,7 +42,7 @@ module _ (s : List ℕ) (base : ℕ) where
         in-hiproof (rw (v, q, ne-eqb (x .part) 5 (λ z. omega (arith, p, z)), ne-eqb (x .part) 0 (λ z. omega (arith, p, z)), ne-eqb (x .part) 3 (λ z. omega (arith, p, z))) (term-begun s 8 hiproofKind base w x h 4 (omega arith) f n close e))
 
     behind-hiproof : InTerm s 8 hiproofKind base w x → Turn s 8 hiproofKind base x w′ r → Known w′ r
-    unfolding behindTerm askingList
+    unfolding behindTerm
     behind-hiproof t (goes-on u) = in-hiproof u
     behind-hiproof t (refuses m e) = is-refused m (hiproof-refused s _ _ (t .list) _ _ e)
     behind-hiproof t (leaves y b q) =
@@ -60,7 +61,7 @@ module _ (s : List ℕ) (base : ℕ) where
         whole : x .end ≡ length s
         whole = h .outside (omega (arith, p)) .1
 
-        go : (b : Bool) → eqb close (x .end) ≡ b → Known w′ (cond b (asking (counted x (x .goals) (x .first) n (x .from) (x .rest) (x .field)) 2 (x .part) (x .low) (x .high) (x .full) close (x .end)) (refusing x (number lengthWrong) close))
+        go : (b : Bool) → eqb close (x .end) ≡ b → Known w′ (cond b (asking (counted x (x .goals) (x .first) n (x .from) (x .rest) (x .field)) 2 (x .part) close (x .end)) (refusing x (number lengthWrong) close))
         go true z = is-read refl (proof-read s _ _ l _ _ t _ _ e′ (eqb-true close (x .end) z ∙ whole))
         go false z = is-refused refl (bytes-left s _ _ l _ _ t _ _ e′ (λ i. eqb-false close (x .end) z (i ∙ sym whole)))
 
@@ -69,7 +70,7 @@ module _ (s : List ℕ) (base : ℕ) where
   keeps w x w′ r h m step (in-goals f) =
       let l = first-step s w base 4 (omega arith) (λ z. absurd (omega arith)) (λ z. absurd (omega arith)) x h f w′ r step in
       behind-goals w x h w′ r f (l .0) (l .1)
-  keeps w x w′ r h m step (in-hiproof t) = behind-hiproof w x h w′ r t (term-turn s 8 hiproofKind base w x h (omega arith) t w′ r step)
+  keeps w x w′ r h m step (in-hiproof t) = behind-hiproof w x h w′ r t (term-turn s 8 hiproofKind base w x h (omega arith) high-of-proof t w′ r step)
   keeps w x w′ r h m step (in-remaining n p a l t) =
       behind-remaining w x h w′ r n p a l t (list-step s w base x h m (omega (arith, p)) (λ z. absurd (omega (arith, p, z))) (λ z. absurd (omega (arith, p, z))) w′ r step .1)
   keeps w x w′ r h m step (is-read z e) = absurd (omega (arith, m, z))

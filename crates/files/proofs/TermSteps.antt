@@ -11,7 +11,7 @@ use Rattle.format.specs.TermRead.{TermRead}
 use Rattle.format.specs.TermRead as T
 use Rattle.format.specs.ReadTerms.{readTerm}
 use Rattle.format.specs.Shapes.{termShape}
-use Rattle.format.specs.States.{counted, begunTerm, behindTerm}
+use Rattle.format.specs.States.{highOf, asking, counted, behindTerm}
 use Rattle.format.specs.Waiting.{resumed, outcome, Held}
 use Rattle.format.specs.Reading.{Reading, Step}
 use Rattle.format.proofs.ShapeLaws.{reads-any}
@@ -28,7 +28,6 @@ module _ (s : List ℕ) (part high : ℕ) where
   pub record InTerm (base : ℕ) (w : List ℕ) (x : State) : Type 0 where
     pub mode-is : x .mode ≡ 1
     pub part-is : x .part ≡ part
-    pub high-is : x .high ≡ high
     pub list : stated s ≡ G.Read (x .goals) (x .from)
     pub comes-to : outcome s w high base x ≡ termAt (x .from)
 
@@ -48,23 +47,26 @@ module _ (s : List ℕ) (part high : ℕ) where
   module _ (base : ℕ) (w : List ℕ) (x : State) (h : Reading s w base x) where
     -- from the goal list
     pub term-begun : (first-part : ℕ) → first-part < 6 → First s first-part x → (n close : ℕ) → stated s ≡ G.Read n close
-        → InTerm base w (begunTerm (counted x n (x .first) (x .second) close (x .rest) (x .field)) part close (x .end) high)
-    unfolding begunTerm outcome resumed
+        → InTerm base w (asking (counted x n (x .first) (x .second) close (x .rest) (x .field)) 1 part close (x .end))
+    unfolding outcome resumed
     term-begun first-part l f n close e =
         let o = h .outside (omega (arith, f .part-is, l)) in
-        record { mode-is = refl; part-is = refl; high-is = refl; list = e; comes-to = rw (o .0, o .1, f .none-counted .0) (reads-any s high (length s + 1) close (length s) 0 (omega arith) (omega arith)) }
+        record { mode-is = refl; part-is = refl; list = e; comes-to = rw (o .0, o .1, f .none-counted .0) (reads-any s high (length s + 1) close (length s) 0 (omega arith) (omega arith)) }
 
-    pub term-turn : 6 ≤ part → InTerm base w x → (w′ : List ℕ) (r : State) → Step s w base x w′ r → Turn base x w′ r
-    term-turn l t w′ r step = go (term-step s w base x w′ r step (omega (arith, t .part-is, l)))
+    pub term-turn : 6 ≤ part → highOf part ≡ high → InTerm base w x → (w′ : List ℕ) (r : State) → Step s w base x w′ r → Turn base x w′ r
+    term-turn l k t w′ r step = go (term-step s w base x w′ r step (omega (arith, t .part-is, l)))
       where
+        high-is : highOf (x .part) ≡ high
+        high-is = ap highOf (t .part-is) ∙ k
+
         same-list : (y : State) → Held x y → stated s ≡ G.Read (y .goals) (y .from)
         same-list y d = rw (d .goals, d .from) (t .list)
 
-        same-term : (y : State) (q : TermRead) → Held x y → outcome s w (x .high) base x ≡ q → termAt (y .from) ≡ q
-        same-term y q d e = rw (d .from) (sym (t .comes-to) ∙ subst (λ (k : ℕ). outcome s w k base x ≡ q) (t .high-is) e)
+        same-term : (y : State) (q : TermRead) → Held x y → outcome s w (highOf (x .part)) base x ≡ q → termAt (y .from) ≡ q
+        same-term y q d e = rw (d .from) (sym (t .comes-to) ∙ subst (λ (j : ℕ). outcome s w j base x ≡ q) high-is e)
 
         go : TermStep s w base x w′ r → Turn base x w′ r
         go (goes m d e) =
-            goes-on (record { mode-is = m; part-is = d .part ∙ t .part-is; high-is = d .high ∙ t .high-is; list = same-list r d; comes-to = subst (λ (k : ℕ). outcome s w′ k base r ≡ outcome s w k base x) (t .high-is) e ∙ t .comes-to ∙ ap termAt (sym (d .from)) })
-        go (stops m d e) = refuses m (same-term x _ (record { part = refl; low = refl; high = refl; goals = refl; first = refl; second = refl; from = refl; field = refl }) e)
+            goes-on (record { mode-is = m; part-is = d .part ∙ t .part-is; list = same-list r d; comes-to = subst (λ (j : ℕ). outcome s w′ j base r ≡ outcome s w j base x) high-is e ∙ t .comes-to ∙ ap termAt (sym (d .from)) })
+        go (stops m d e) = refuses m (same-term x _ (record { part = refl; goals = refl; first = refl; second = refl; from = refl; field = refl }) e)
         go (ends y m d e i q) = leaves y (record { mode-is = m; part-is = d .part ∙ t .part-is; list = same-list y d; term = same-term y _ d e }) q

@@ -1,6 +1,6 @@
 -- What may stand where a state is, by the part that is read.
 -- Assumes nothing.
-use mathlib.Core.Path.{_≡_}
+use mathlib.Core.Path.{_≡_, refl}
 use mathlib.Core.Bool.{false}
 use mathlib.Core.List.{List}
 use Prim.Native.Nat.{ℕ, _≤_, _<_}
@@ -8,7 +8,7 @@ use lib.Dec.{leb}
 use borrow.Author.Tests.{lt-ltb, le-ltb, ne-eqb}
 use Rattle.format.specs.declared.state.State.{State}
 use Rattle.format.specs.Limits.{mostTermFields}
-use Rattle.format.specs.Tags.{definitionKind, goalListKind, hiproofKind, entryKind}
+use Rattle.format.specs.Tags.{definitionKind, goalListKind, hiproofKind, tacticKind, entryKind}
 use Rattle.format.specs.Next.{fullTable, lowest, fullFlat}
 use Rattle.format.specs.States.{lowOf, highOf, fullOf}
 
@@ -32,3 +32,12 @@ module _ (s : List ℕ) (x : State) where
   pub asks-term : 6 ≤ x .part → (lowOf x ≡ hiproofKind) × (fullOf s x ≡ leb mostTermFields (x .fields))
   unfolding lowOf fullOf
   asks-term o = let a = le-ltb (x .part) 6 o in (rw a, rw a)
+
+-- the highest kind in the term of a job and of a proof
+pub high-of-job : highOf 7 ≡ tacticKind
+unfolding highOf
+high-of-job = refl
+
+pub high-of-proof : highOf 8 ≡ hiproofKind
+unfolding highOf
+high-of-proof = refl

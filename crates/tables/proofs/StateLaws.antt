@@ -18,9 +18,10 @@ use Rattle.format.specs.Tags.{ruleKind, definitionKind, tacticKind}
 use Rattle.format.specs.Next.{fullTable, lowest}
 use Rattle.format.specs.Headers.{headerAt}
 use Rattle.format.specs.Shapes.{headerShape}
-use Rattle.format.specs.States.{refusing, asking, counted, begunTerm, nextField, tableField, taken, endOf, behindTerm, blankState, begunTable}
+use Rattle.format.specs.States.{highOf, refusing, asking, counted, nextField, tableField, taken, endOf, behindTerm, blankState, begunTable}
 use Rattle.format.specs.Waiting.{readingRoom, reads, resumed, outcome, Held}
 use Rattle.format.specs.Reading.{Reading, headerOf, Step, Reaches, none, more}
+use Rattle.format.proofs.AskLaws.{asks-field}
 use Rattle.format.proofs.StepCases.{TermStep, goes, stops, ends, field-step, term-step}
 use Rattle.format.proofs.BegunTable.{begun-table}
 use Rattle.format.proofs.ReachLaws.{reaches-reading}
@@ -34,7 +35,7 @@ use Rattle.tables.proofs.TurnLaws.{tableAt, behindBody, from-start, at-
 unfoldable pub meaning : (s w : List ℕ) (base : ℕ) → State → TableRead
 meaning s w base x =
     cond (eqb (x .mode) 0) (R.Refused (x .number) (x .place))
-    (cond (eqb (x .part) 6) (behindBody s (x .field) (x .first) (x .second) (x .from) (outcome s w (x .high) base x))
+    (cond (eqb (x .part) 6) (behindBody s (x .field) (x .first) (x .second) (x .from) (outcome s w (highOf (x .part)) base x))
     (tableAt s (x .first) (x .second) (x .from) (x .at) (x .fields)))
 
 -- what holds in every state of a table: until a definition comes the rules end at the place, and nothing is left to read only at the end of the file
@@ -62,12 +63,12 @@ module _ (s w : List ℕ) (base : ℕ) where
   next-means x at f = go (leb (length s) at) refl
     where
       go : (t : Bool) → leb (length s) at ≡ t
-          → Means (tableAt s (x .first) (x .second) (x .from) at (x .fields)) (cond t (asking x 2 2 ruleKind definitionKind false at (length s)) (asking x 1 2 (lowest (x .second)) definitionKind (fullTable s at (x .first) (x .second)) at (length s)))
+          → Means (tableAt s (x .first) (x .second) (x .from) at (x .fields)) (cond t (asking x 2 2 at (length s)) (asking x 1 2 at (length s)))
       go true e = record { of-table = record { parts = inl refl; rules-end = λ z. f; all-read = λ z. (refl, leb-true (length s) at e) }; meaning-is = refl }
       go false e = record { of-table = record { parts = inl refl; rules-end = λ z. f; all-read = λ z. absurd (omega arith) }; meaning-is = refl }
 
-  body-means : (x : State) (at end : ℕ) → x .depth ≡ 0 → Means (behindBody s (x .field) (x .first) (x .second) (x .from) (reads s tacticKind at end (x .fields))) (begunTerm x 6 at end tacticKind)
-  unfolding begunTerm meaning outcome resumed
+  body-means : (x : State) (at end : ℕ) → x .depth ≡ 0 → Means (behindBody s (x .field) (x .first) (x .second) (x .from) (reads s tacticKind at end (x .fields))) (asking x 1 6 at end)
+  unfolding meaning outcome resumed highOf
   body-means x at end d = record {
     of-table = in-body s _ refl (λ z. absurd (omega arith));
     meaning-is = rw d;
@@ -77,23 +78,23 @@ module _ (s w : List ℕ) (base : ℕ) where
   module _ (x : State) (r : Reading s w base x) (m : x .mode ≡ 1) (o : OfTable s x) (p : x .part ≡ 2) where
     the-header : headerOf s x ≡ headerShape (headerAt s (x .at) (length s) (lowest (x .second)) definitionKind (fullTable s (x .at) (x .first) (x .second)))
     unfolding headerOf
-    the-header = let f = r .fields p m in rw (r .outside (omega (arith, p)) .1, f .1, f .2, f .3)
+    the-header = let f = asks-field s x p in rw (r .outside (omega (arith, p)) .1, f .0, f .1, f .2)
 
     field-means : (h : HeaderRead) → headerOf s x ≡ h → Means (tableAt s (x .first) (x .second) (x .from) (x .at) (x .fields)) (taken s x h)
     unfolding taken tableField
-    field-means (H.Refused k q) e = subst (λ (t : TableRead). Means t (refusing x k q)) (sym (turn-refused s _ _ _ _ _ (r .fields p m .0) k q (sym the-header ∙ e))) (refused-means x k q o)
+    field-means (H.Refused k q) e = subst (λ (t : TableRead). Means t (refusing x k q)) (sym (turn-refused s _ _ _ _ _ (r .fields p m) k q (sym the-header ∙ e))) (refused-means x k q o)
     field-means (H.Field tag len) e = rw (eq-eqb (x .part) 2 p) (go (eqb tag 1) refl)
       where
         close : ℕ
         close = x .at + 3 + len
 
         go : (b : Bool) → eqb tag 1 ≡ b
-            → Means (tableAt s (x .first) (x .second) (x .from) (x .at) (x .fields)) (cond b (nextField s (counted x (x .goals) (x .first + 1) (x .second) close (x .rest) (x .field)) close) (begunTerm (counted x (x .goals) (x .first) (x .second) (x .from) (x .rest) (x .at)) 6 (x .at + 5) close tacticKind))
+            → Means (tableAt s (x .first) (x .second) (x .from) (x .at) (x .fields)) (cond b (nextField s (counted x (x .goals) (x .first + 1) (x .second) close (x .rest) (x .field)) close) (asking (counted x (x .goals) (x .first) (x .second) (x .from) (x .rest) (x .at)) 1 6 (x .at + 5) close))
         go true q = subst (λ (t : TableRead). Means t (nextField s (counted x (x .goals) (x .first + 1) (x .second) close (x .rest) (x .field)) close))
-            (sym (turn-rule s _ _ _ _ _ (r .fields p m .0) tag len (sym the-header ∙ e) (eqb-true tag 1 q) (o .rules-end p)))
+            (sym (turn-rule s _ _ _ _ _ (r .fields p m) tag len (sym the-header ∙ e) (eqb-true tag 1 q) (o .rules-end p)))
             (next-means _ close (λ z. refl))
-        go false q = subst (λ (t : TableRead). Means t (begunTerm (counted x (x .goals) (x .first) (x .second) (x .from) (x .rest) (x .at)) 6 (x .at + 5) close tacticKind))
-            (sym (turn-definition s _ _ _ _ _ (r .fields p m .0) tag len (sym the-header ∙ e) (eqb-false tag 1 q)))
+        go false q = subst (λ (t : TableRead). Means t (asking (counted x (x .goals) (x .first) (x .second) (x .from) (x .rest) (x .at)) 1 6 (x .at + 5) close))
+            (sym (turn-definition s _ _ _ _ _ (r .fields p m) tag len (sym the-header ∙ e) (eqb-false tag 1 q)))
             (body-means _ (x .at + 5) close (r .outside (omega (arith, p)) .0))
 
   -- behind the body of a definition that was read
@@ -115,11 +116,11 @@ module _ (s w : List ℕ) (base : ℕ) (x : State) (p : x .part ≡ 6) where
   abbrev after : TermRead → TableRead
   after = behindBody s (x .field) (x .first) (x .second) (x .from)
 
-  body-step : (w′ : List ℕ) (r : State) → TermStep s w base x w′ r → Means s w′ base (after (outcome s w (x .high) base x)) r
+  body-step : (w′ : List ℕ) (r : State) → TermStep s w base x w′ r → Means s w′ base (after (outcome s w (highOf (x .part)) base x)) r
   unfolding meaning behindBody
   body-step w′ r (goes m h e) = record {
     of-table = in-body s r (h .part ∙ p) (λ z. omega (arith, m, z));
-    meaning-is = rw (ne-eqb (r .mode) 0 (λ z. omega (arith, m, z)), eq-eqb (r .part) 6 (h .part ∙ p)) (held-behind s x r (outcome s w′ (r .high) base r) h ∙ ap after (ap (λ (k : ℕ). outcome s w′ k base r) (h .high) ∙ e));
+    meaning-is = rw (ne-eqb (r .mode) 0 (λ z. omega (arith, m, z)), eq-eqb (r .part) 6 (h .part ∙ p)) (held-behind s x r (outcome s w′ (highOf (r .part)) base r) h ∙ ap after (ap (λ (k : ℕ). outcome s w′ (highOf k) base r) (h .part) ∙ e));
   }
   body-step w′ r (stops m h e) = record {
     of-table = in-body s r (h .part ∙ p) (λ z. omega (arith, m, z));
@@ -154,7 +155,7 @@ told-last s w base x o l n = go (eqb (x .mode) 0) refl
   where
     go : (b : Bool) → eqb (x .mode) 0 ≡ b
         → cond b (R.Refused (x .number) (x .place)) (R.Read (x .first) (x .second) (x .from))
-        ≡ cond b (R.Refused (x .number) (x .place)) (cond (eqb (x .part) 6) (behindBody s (x .field) (x .first) (x .second) (x .from) (outcome s w (x .high) base x)) (tableAt s (x .first) (x .second) (x .from) (x .at) (x .fields)))
+        ≡ cond b (R.Refused (x .number) (x .place)) (cond (eqb (x .part) 6) (behindBody s (x .field) (x .first) (x .second) (x .from) (outcome s w (highOf (x .part)) base x)) (tableAt s (x .first) (x .second) (x .from) (x .at) (x .fields)))
     go true e = refl
     go false e =
         let a = o .all-read (omega (arith, l, n, eqb-false (x .mode) 0 e)) in
