@@ -49,7 +49,7 @@ module _ (s : List ℕ) where
   unfolding nextEntry
   next y at e = go (leb (length s) at) refl
     where
-      go : (b : Bool) → leb (length s) at ≡ b → FlatState (cond b (asking y 2 1 entryKind entryKind false at (length s)) (asking y 1 1 entryKind entryKind (fullFlat s at (y .first) (y .second)) at (length s)))
+      go : (b : Bool) → leb (length s) at ≡ b → FlatState (cond b (asking y 2 1 at (length s)) (asking y 1 1 at (length s)))
       go true t = all-read refl (leb-true (length s) at t) e
       go false t = at-entries refl refl e
 

@@ -63,8 +63,8 @@ module _ (s w : List ℕ) (base : ℕ) (x : State) (h : Reading s w base x) (m :
   list-step w′ r step =
       let f = field-step s w base x w′ r step o in
       let l = asks-list s x o i j in
-      let e : headerShape (headerAt s (x .at) (length s) goalListKind goalListKind false) ≡ headerOf s x = rw (h .outside o .1, l .0, l .1, l .2) in
-      (f .0, subst (ListStep s x (goalsShape (readGoals s (x .at) (length s)))) (sym (f .1)) (from-header (headerOf s x) e))
+      let e : headerOf s x ≡ headerShape (headerAt s (x .at) (length s) goalListKind goalListKind false) = λ k. headerShape (headerAt s (x .at) (h .outside o .1 k) (l .0 k) (l .1 k) (l .2 k)) in
+      (f .0, subst (ListStep s x (goalsShape (readGoals s (x .at) (length s)))) (sym (f .1)) (from-header (headerOf s x) (sym e)))
 
 -- nothing is read of a file that begins with a goal list and is not too long
 pub record First (s : List ℕ) (part : ℕ) (x : State) : Type 0 where

@@ -78,7 +78,7 @@ module _ (s w : List ℕ) (base : ℕ) where
   module _ (x : State) (r : Reading s w base x) (m : x .mode ≡ 1) (o : OfTable s x) (p : x .part ≡ 2) where
     the-header : headerOf s x ≡ headerShape (headerAt s (x .at) (length s) (lowest (x .second)) definitionKind (fullTable s (x .at) (x .first) (x .second)))
     unfolding headerOf
-    the-header = let f = asks-field s x p in rw (r .outside (omega (arith, p)) .1, f .0, f .1, f .2)
+    the-header = let f = asks-field s x p in let e = r .outside (omega (arith, p)) .1 in λ i. headerShape (headerAt s (x .at) (e i) (f .0 i) (f .1 i) (f .2 i))
 
     field-means : (h : HeaderRead) → headerOf s x ≡ h → Means (tableAt s (x .first) (x .second) (x .from) (x .at) (x .fields)) (taken s x h)
     unfolding taken tableField
@@ -95,7 +95,7 @@ module _ (s w : List ℕ) (base : ℕ) where
             (next-means _ close (λ z. refl))
         go false q = subst (λ (t : TableRead). Means t (asking (counted x (x .goals) (x .first) (x .second) (x .from) (x .rest) (x .at)) 1 6 (x .at + 5) close))
             (sym (turn-definition s _ _ _ _ _ (r .fields p m) tag len (sym the-header ∙ e) (eqb-false tag 1 q)))
-            (body-means _ (x .at + 5) close (r .outside (omega (arith, p)) .0))
+            (body-means (counted x (x .goals) (x .first) (x .second) (x .from) (x .rest) (x .at)) (x .at + 5) close (r .outside (omega (arith, p)) .0))
 
   -- behind the body of a definition that was read
   behind-means : (y : State) → y .part ≡ 6 → Means (behindBody s (y .field) (y .first) (y .second) (y .from) (Read (y .at) (y .fields))) (behindTerm s y)
