@@ -14,7 +14,7 @@ use Rattle.format.specs.declared.headers.HeaderRead.the-variants as H
 use Rattle.format.specs.declared.state.State.{State}
 use Rattle.format.specs.TermRead.{TermRead, Refused, Read}
 use Rattle.format.specs.Refusals.{number, lengthWrong}
-use Rattle.format.specs.Tags.{ruleKind, definitionKind, tacticKind}
+use Rattle.format.specs.Tags.{definitionKind, tacticKind}
 use Rattle.format.specs.Next.{fullTable, lowest}
 use Rattle.format.specs.Headers.{headerAt}
 use Rattle.format.specs.Shapes.{headerShape}
