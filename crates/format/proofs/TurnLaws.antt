@@ -25,7 +25,7 @@ use Rattle.format.specs.ReadTerms.{readTerm}
 use Rattle.format.specs.Shapes.{headerShape, termShape, ending, Within}
 use Rattle.format.proofs.HeaderLaws.{IsField, is-field}
 use Rattle.format.specs.declared.state.State.{State}
-use Rattle.format.specs.States.{refusing, endOf}
+use Rattle.format.specs.States.{refusing, stepped, endOf}
 use Rattle.format.specs.Waiting.{readingRoom, goOn, reads, closing, putWaiting, resumed, told, outcome, Waits, Going, weight, Held, Moved, Turned}
 use Rattle.format.proofs.Lengths.{short-field}
 use Rattle.format.proofs.TermLaws.{within}
@@ -57,10 +57,6 @@ gap-fits s w base x g m l = go (g .near m)
     go : (x .at ≡ x .top) ⊎ (x .end ≤ x .top + 65538) → x .at - x .top ≤ 65535
     go (inl e) = omega arith
     go (inr e) = omega arith
-
--- a state of the same part with the same refusal
-abbrev stepped : State → (mode at end fields depth top : ℕ) → State
-stepped x m at end n d top = record { mode = m; part = x .part; at = at; end = end; fields = n; depth = d; top = top; goals = x .goals; first = x .first; second = x .second; from = x .from; rest = x .rest; field = x .field; number = x .number; place = x .place }
 
 -- a step to a refusal
 refuses : (s w : List ℕ) (high base : ℕ) (x : State) (k p : ℕ) → Going s w base x → 1 ≤ x .mode → outcome s w high base x ≡ Refused k p → Moved s w high base x w (refusing x k p)

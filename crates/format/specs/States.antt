@@ -17,6 +17,10 @@ use Rattle.format.specs.Next.{fullTable, lowest, fullFlat}
 abbrev pub refusing : State → (number place : ℕ) → State
 refusing x k p = record { mode = 0; part = x .part; at = x .at; end = x .end; fields = x .fields; depth = x .depth; top = x .top; goals = x .goals; first = x .first; second = x .second; from = x .from; rest = x .rest; field = x .field; number = k; place = p }
 
+-- within a term
+abbrev pub stepped : State → (mode at end fields depth top : ℕ) → State
+stepped x m at end n d top = record { mode = m; part = x .part; at = at; end = end; fields = n; depth = d; top = top; goals = x .goals; first = x .first; second = x .second; from = x .from; rest = x .rest; field = x .field; number = x .number; place = x .place }
+
 -- a part of a file at a place
 abbrev pub asking : State → (mode part at end : ℕ) → State
 asking x m part at end = record { mode = m; part = part; at = at; end = end; fields = x .fields; depth = x .depth; top = at; goals = x .goals; first = x .first; second = x .second; from = x .from; rest = x .rest; field = x .field; number = x .number; place = x .place }

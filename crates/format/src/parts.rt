@@ -4,7 +4,7 @@ ghost use Prim.Native.Nat.{_+_, _≤_, _<_};
 ghost use lib.ListN.{length};
 ghost use Rattle.format.specs.Next.{fullTable, fullFlat};
 ghost use Rattle.format.specs.Reader.{Encloses};
-ghost use Rattle.format.specs.States.{lowOf, highOf, fullOf, asking, nextField, nextEntry, tableField, entryTaken, remainingTaken, listTaken, taken, behindTerm, blankState, begunFile, begunTable};
+ghost use Rattle.format.specs.States.{lowOf, highOf, fullOf, nextField, nextEntry, tableField, entryTaken, remainingTaken, listTaken, taken, behindTerm, blankState, begunFile, begunTable};
 use crate::headers::HeaderRead;
 use crate::state::BODY;
 use crate::state::ENTRIES;
@@ -19,6 +19,8 @@ use crate::state::REFUSED;
 use crate::state::REMAINING;
 use crate::state::ROOTS;
 use crate::state::State;
+use crate::state::asking;
+use crate::state::counted;
 use crate::state::refused;
 use crate::tags::DEFINITION;
 use crate::tags::ENTRY;
@@ -121,35 +123,15 @@ pub fn is_full(x: State, s: &[u8]) -> bool
     MOST_TERM_FIELDS <= x.fields
 }
 
-// A goal list or a term is read next.
-fn begin(x: State, part: u8, at: usize, end: usize) -> State
-    ensures { λ r. ⌜ r ≡ asking x 1 part at end ⌝ }
-{
-    let mut r = x;
-    r.mode = READS;
-    r.part = part;
-    r.at = at;
-    r.end = end;
-    r.top = at;
-    r
-}
-
 // The next field of a table is read at a place, or the file ends there.
 fn next_field(x: State, at: usize, s: &[u8]) -> State
     ensures { λ r. ⌜ r ≡ nextField (now (s .entry)) x at ⌝ }
 {
     let end = s.len();
-    let mut r = x;
-    r.mode = GAVE;
-    r.part = FIELDS;
-    r.at = at;
-    r.end = end;
-    r.top = at;
     if end <= at {
-        return r;
+        return asking(x, GAVE, FIELDS, at, end);
     }
-    r.mode = READS;
-    r
+    asking(x, READS, FIELDS, at, end)
 }
 
 // The next entry is read at a place, or the file ends there.
@@ -157,17 +139,10 @@ fn next_entry(x: State, at: usize, s: &[u8]) -> State
     ensures { λ r. ⌜ r ≡ nextEntry (now (s .entry)) x at ⌝ }
 {
     let end = s.len();
-    let mut r = x;
-    r.mode = GAVE;
-    r.part = ENTRIES;
-    r.at = at;
-    r.end = end;
-    r.top = at;
     if end <= at {
-        return r;
+        return asking(x, GAVE, ENTRIES, at, end);
     }
-    r.mode = READS;
-    r
+    asking(x, READS, ENTRIES, at, end)
 }
 
 // A rule, or a definition, whose body is read next.
@@ -175,14 +150,12 @@ fn table_field(x: State, tag: u8, close: usize, s: &[u8]) -> State
     requires { ⌜ (x .at ≤ length (now s)) × (x .first ≤ x .at) ⌝ }
     ensures { λ r. ⌜ r ≡ tableField (now (s .entry)) x tag close ⌝ }
 {
-    let mut r = x;
     if tag == RULE_TAG {
-        r.first = x.first + 1;
-        r.from = close;
+        let r = counted(x, x.goals, x.first + 1, x.second, close, x.rest, x.field);
         return next_field(r, close, s);
     }
-    r.field = x.at;
-    begin(r, BODY, x.at + 5, close)
+    let r = counted(x, x.goals, x.first, x.second, x.from, x.rest, x.at);
+    asking(r, READS, BODY, x.at + 5, close)
 }
 
 // A use or an open.
@@ -190,12 +163,11 @@ fn entry(x: State, tag: u8, close: usize, s: &[u8]) -> State
     requires { ⌜ (x .at ≤ length (now s)) × (x .first ≤ x .at) × (x .second ≤ x .at) ⌝ }
     ensures { λ r. ⌜ r ≡ entryTaken (now (s .entry)) x tag close ⌝ }
 {
-    let mut r = x;
     if tag == USE_TAG {
-        r.first = x.first + 1;
+        let r = counted(x, x.goals, x.first + 1, x.second, x.from, x.rest, x.field);
         return next_entry(r, close, s);
     }
-    r.second = x.second + 1;
+    let r = counted(x, x.goals, x.first, x.second + 1, x.from, x.rest, x.field);
     next_entry(r, close, s)
 }
 
@@ -206,12 +178,8 @@ fn remaining(x: State, count: usize, close: usize) -> State
     if close != x.end {
         return refused(x, 4, close);
     }
-    let mut r = x;
-    r.mode = GAVE;
-    r.at = close;
-    r.top = close;
-    r.second = count;
-    r
+    let r = counted(x, x.goals, x.first, count, x.from, x.rest, x.field);
+    asking(r, GAVE, x.part, close, x.end)
 }
 
 // A goal list of so many goals: those remaining, or the first list of a file.
@@ -224,16 +192,14 @@ fn goal_list(x: State, count: usize, close: usize, s: &[u8]) -> State
     if x.part == REMAINING {
         return remaining(x, count, close);
     }
-    let mut r = x;
-    r.goals = count;
-    r.from = close;
+    let r = counted(x, count, x.first, x.second, close, x.rest, x.field);
     if x.part == ROOTS {
         return next_entry(r, close, s);
     }
     if x.part == JOB_GOALS {
-        return begin(r, JOB_TERM, close, x.end);
+        return asking(r, READS, JOB_TERM, close, x.end);
     }
-    begin(r, PROOF_TERM, close, x.end)
+    asking(r, READS, PROOF_TERM, close, x.end)
 }
 
 // From the header of a field that stands in no term to what is read next.
@@ -262,22 +228,21 @@ pub fn behind_term(x: State, s: &[u8]) -> State
     ensures { λ r. ⌜ r ≡ behindTerm (now (s .entry)) x ⌝ }
 {
     let end = s.len();
-    let mut r = x;
     if x.part == BODY {
         if x.at != x.field + 3 + load16(s, x.field + 1) as usize {
             return refused(x, 4, x.field);
         }
-        r.second = x.second + 1;
+        let r = counted(x, x.goals, x.first, x.second + 1, x.from, x.rest, x.field);
         return next_field(r, x.at, s);
     }
     if x.part == JOB_TERM {
         if x.at != end {
             return refused(x, 4, x.at);
         }
-        return r;
+        return x;
     }
-    r.rest = x.at;
-    begin(r, REMAINING, x.at, end)
+    let r = counted(x, x.goals, x.first, x.second, x.from, x.at, x.field);
+    asking(r, READS, REMAINING, x.at, end)
 }
 
 // Nothing of a file is read.
@@ -309,7 +274,7 @@ pub fn begin_file(s: &[u8], part: u8) -> State
 {
     let end = s.len();
     let none = blank(part);
-    let x = begin(none, part, 0, end);
+    let x = asking(none, READS, part, 0, end);
     if MOST_BYTES < end {
         return refused(x, 1, 0);
     }

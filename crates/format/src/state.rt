@@ -1,6 +1,6 @@
 // How far a file has been read.
 ghost use mathlib.Core.Path.{_≡_};
-ghost use Rattle.format.specs.States.{refusing};
+ghost use Rattle.format.specs.States.{refusing, stepped, asking, counted};
 
 // What comes next: nothing after a refusal, the field at a place, or what follows a term that was read; at the end of the file nothing.
 pub const REFUSED: u8 = 0;
@@ -54,13 +54,111 @@ pub struct State {
     pub place: usize,
 }
 
+// The next states. Each is made from its numbers, not changed in place: so the numbers stay apart in the machine, where a copy of the whole state at each turn would cost more than the turn.
 // A refusal ends the reading.
 pub fn refused(x: State, number: u8, place: usize) -> State
     ensures { λ r. ⌜ r ≡ refusing x number place ⌝ }
 {
-    let mut r = x;
-    r.mode = REFUSED;
-    r.number = number;
-    r.place = place;
-    r
+    State {
+        mode: REFUSED,
+        part: x.part,
+        at: x.at,
+        end: x.end,
+        fields: x.fields,
+        depth: x.depth,
+        top: x.top,
+        goals: x.goals,
+        first: x.first,
+        second: x.second,
+        from: x.from,
+        rest: x.rest,
+        field: x.field,
+        number,
+        place,
+    }
+}
+
+// Within a term: the place, the end of what encloses it, the term fields and the fields that wait.
+pub fn stepped(
+    x: State,
+    mode: u8,
+    at: usize,
+    end: usize,
+    fields: usize,
+    depth: usize,
+    top: usize,
+) -> State
+    ensures { λ r. ⌜ r ≡ stepped x mode at end fields depth top ⌝ }
+{
+    State {
+        mode,
+        part: x.part,
+        at,
+        end,
+        fields,
+        depth,
+        top,
+        goals: x.goals,
+        first: x.first,
+        second: x.second,
+        from: x.from,
+        rest: x.rest,
+        field: x.field,
+        number: x.number,
+        place: x.place,
+    }
+}
+
+// A part of the file at a place.
+pub fn asking(x: State, mode: u8, part: u8, at: usize, end: usize) -> State
+    ensures { λ r. ⌜ r ≡ asking x mode part at end ⌝ }
+{
+    State {
+        mode,
+        part,
+        at,
+        end,
+        fields: x.fields,
+        depth: x.depth,
+        top: at,
+        goals: x.goals,
+        first: x.first,
+        second: x.second,
+        from: x.from,
+        rest: x.rest,
+        field: x.field,
+        number: x.number,
+        place: x.place,
+    }
+}
+
+// Other counts and places of fields outside terms.
+pub fn counted(
+    x: State,
+    goals: usize,
+    first: usize,
+    second: usize,
+    from: usize,
+    rest: usize,
+    field: usize,
+) -> State
+    ensures { λ r. ⌜ r ≡ counted x goals first second from rest field ⌝ }
+{
+    State {
+        mode: x.mode,
+        part: x.part,
+        at: x.at,
+        end: x.end,
+        fields: x.fields,
+        depth: x.depth,
+        top: x.top,
+        goals,
+        first,
+        second,
+        from,
+        rest,
+        field,
+        number: x.number,
+        place: x.place,
+    }
 }

@@ -7,8 +7,9 @@ ghost use Rattle.format.specs.Waiting.{putWaiting, Going, Moved, Enters,
 use crate::headers::HeaderRead;
 use crate::state::GAVE;
 use crate::state::READS;
-use crate::state::REFUSED;
 use crate::state::State;
+use crate::state::refused;
+use crate::state::stepped;
 use crate::tags::inner_at;
 use crate::tags::least_at;
 use crate::tags::row_of;
@@ -29,32 +30,21 @@ fn enter(x: State, header: HeaderRead, work: &mut [u8], base: usize) -> State
     requires { ⌜ ((s : List ℕ) × (high : ℕ) × Enters s (now work) high base x header) ⌝ }
     ensures { λ r. ⌜ ((s : List ℕ) (high : ℕ) → Enters s (now (work .entry)) high base x header → Moved s (now (work .entry)) high base x (now (work .exit)) r) ⌝ }
 {
-    let mut r = x;
     match header {
-        HeaderRead::Refused(number, place) => {
-            r.mode = REFUSED;
-            r.number = number;
-            r.place = place;
-            r
-        }
+        HeaderRead::Refused(number, place) => refused(x, number, place),
         HeaderRead::Field(tag, len) => {
             let at = x.at;
             let close = at + 3 + len;
-            r.end = close;
-            r.fields = x.fields + 1;
+            let fields = x.fields + 1;
             let row = row_of(tag);
             let inner = inner_at(row);
             if inner == 0 {
-                r.mode = GAVE;
-                r.at = close;
-                return r;
+                return stepped(x, GAVE, close, close, fields, x.depth, x.top);
             }
             let low = base + x.depth * 4;
             push(work, low, (at - x.top) as u16, (inner - 1) as u16);
-            r.at = at + 3 + least_at(row) as usize;
-            r.depth = x.depth + 1;
-            r.top = at;
-            r
+            let next = at + 3 + least_at(row) as usize;
+            stepped(x, x.mode, next, close, fields, x.depth + 1, at)
         }
     }
 }
@@ -64,7 +54,6 @@ fn leave(x: State, s: &[u8], work: &mut [u8], base: usize) -> State
     requires { ⌜ Going (now s) (now work) base x × (2 ≤ x .mode) × (0 < x .depth) ⌝ }
     ensures { λ r. ⌜ ((high : ℕ) → Moved (now (s .entry)) (now (work .entry)) high base x (now (work .exit)) r) ⌝ }
 {
-    let mut r = x;
     let top = x.top;
     let below = x.depth - 1;
     let low = base + below * 4;
@@ -73,20 +62,12 @@ fn leave(x: State, s: &[u8], work: &mut [u8], base: usize) -> State
     let end = top + 3 + load16(s, top + 1) as usize;
     if left == 0 {
         if x.at == end {
-            r.end = end;
-            r.depth = below;
-            r.top = around;
-            return r;
+            return stepped(x, x.mode, x.at, end, x.fields, below, around);
         }
-        r.mode = REFUSED;
-        r.number = 4;
-        r.place = top;
-        return r;
+        return refused(x, 4, top);
     }
     store16(work, low + 2, 0);
-    r.mode = READS;
-    r.end = end;
-    r
+    stepped(x, READS, x.at, end, x.fields, x.depth, top)
 }
 
 // From the header of a term's field to the next place where a term is to be read, if there is one: behind a term that was read, all fields that end there are left.

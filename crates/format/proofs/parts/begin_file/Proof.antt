@@ -14,14 +14,14 @@ use Rattle.format.proofs.parts.begin_file.Statement.{statement}
 use Rattle.format.proofs.parts.begin_file.Tie as tie
 
 -- the list that is read first
-begun : (c : tie.After-begin) → c .begin .result ≡ asking (blankState (c .before .before .before .args .part)) 1 (c .before .before .before .args .part) 0 (length (now (c .before .before .before .args .s)))
-begun c = c .begin .ensures ∙ ap (λ (x : State). asking x 1 (c .before .before .before .args .part) 0 (length (now (c .before .before .before .args .s)))) (c .before .blank .ensures)
+begun : (c : tie.After-asking) → c .asking .result ≡ asking (blankState (c .before .before .before .args .part)) 1 (c .before .before .before .args .part) 0 (length (now (c .before .before .before .args .s)))
+begun c = c .asking .ensures ∙ ap (λ (x : State). asking x 1 (c .before .before .before .args .part) 0 (length (now (c .before .before .before .args .s)))) (c .before .blank .ensures)
 
 blank-requires : tie.Need-blank-requires
 blank-requires c κs = search needs
 
-begin-requires : tie.Need-begin-requires
-begin-requires c κs = search needs
+asking-requires : tie.Need-asking-requires
+asking-requires c κs = search needs
 
 refused-requires : tie.Need-refused-requires
 refused-requires c κs = search needs
@@ -35,4 +35,4 @@ unfolding begunFile
 returns-2 c = rw (le-ltb mostBytes (length (now (c .before .before .before .before .args .s))) (omega (arith, c .if1 .left)), begun (c .before))
 
 pub begin-file-spec : {M : Type 1} → statement M
-begin-file-spec = tie.close (tie.spec blank-requires begin-requires refused-requires returns returns-2)
+begin-file-spec = tie.close (tie.spec blank-requires asking-requires refused-requires returns returns-2)

@@ -1,11 +1,14 @@
 -- `parts::behind_term` meets its contract: the tests of the part and of the place say which case of `behindTerm` holds.
 -- Assumes nothing.
-use mathlib.Core.Path.{sym}
+use mathlib.Core.Path.{sym, ap, _∙_}
 use native.Mathlib.Omega.{arith}
+use denote.Ref.{now}
+use lib.ListN.{length}
 use borrow.Author.Needs.{needs}
 use borrow.Author.Tests.{eq-eqb, ne-eqb}
+use Rattle.format.specs.declared.state.State.{State}
 use Rattle.format.specs.Refusals.{number}
-use Rattle.format.specs.States.{behindTerm, endOf}
+use Rattle.format.specs.States.{asking, behindTerm, endOf}
 use Rattle.format.proofs.parts.behind_term.Statement.{statement}
 use Rattle.format.proofs.parts.behind_term.Tie as tie
 
@@ -31,15 +34,18 @@ returns : tie.Need-returns
 unfolding behindTerm endOf number
 returns c = rw (eq-eqb _ _ (c .before .before .before .before .before .before .if1 .taken), sym (c .before .before .before .load16 .ensures), ne-eqb _ _ (c .before .if2 .taken)) (c .refused .ensures)
 
-add-r : tie.Need-add-r
-add-r c = search needs
+add-counted : tie.Need-add-counted
+add-counted c = search needs
+
+counted-requires : tie.Need-counted-requires
+counted-requires c κs = search needs
 
 next-field-requires : tie.Need-next-field-requires
 next-field-requires c κs = search needs
 
 returns-2 : tie.Need-returns-2
 unfolding behindTerm endOf
-returns-2 c = rw (eq-eqb _ _ (c .before .before .before .before .before .before .before .if1 .taken), sym (c .before .before .before .before .load16 .ensures), eq-eqb _ _ (c .before .before .if2 .left)) (c .next-field .ensures)
+returns-2 c = rw (eq-eqb _ _ (c .before .before .before .before .before .before .before .before .if1 .taken), sym (c .before .before .before .before .before .load16 .ensures), eq-eqb _ _ (c .before .before .before .if2 .left), ← c .before .counted .ensures) (c .next-field .ensures)
 
 refused-requires-2 : tie.Need-refused-requires-2
 refused-requires-2 c κs = search needs
@@ -52,12 +58,17 @@ returns-4 : tie.Need-returns-4
 unfolding behindTerm
 returns-4 c = rw (ne-eqb _ _ (c .before .before .before .before .if1 .left), eq-eqb _ _ (c .before .before .if3 .taken), eq-eqb _ _ (c .if4 .left))
 
-begin-requires : tie.Need-begin-requires
-begin-requires c κs = search needs
+counted-requires-2 : tie.Need-counted-requires-2
+counted-requires-2 c κs = search needs
+
+asking-requires : tie.Need-asking-requires
+asking-requires c κs = search needs
 
 returns-5 : tie.Need-returns-5
 unfolding behindTerm
-returns-5 c = rw (ne-eqb _ _ (c .before .before .before .if1 .left), ne-eqb _ _ (c .before .if3 .left)) (c .begin .ensures)
+returns-5 c =
+    let a = c .before .before .before .before .before .before .before .args in
+    rw (ne-eqb _ _ (c .before .before .before .before .if1 .left), ne-eqb _ _ (c .before .before .if3 .left)) (c .asking .ensures ∙ ap (λ (y : State). asking y 1 5 (a .x .at) (length (now (a .s)))) (c .before .counted2 .ensures))
 
 pub behind-term-spec : {M : Type 1} → statement M
-behind-term-spec = tie.close (tie.spec add-if2 add-load16 load16-requires cast-if2 add-if2-2 refused-requires returns add-r next-field-requires returns-2 refused-requires-2 returns-3 returns-4 begin-requires returns-5)
+behind-term-spec = tie.close (tie.spec add-if2 add-load16 load16-requires cast-if2 add-if2-2 refused-requires returns add-counted counted-requires next-field-requires returns-2 refused-requires-2 returns-3 returns-4 counted-requires-2 asking-requires returns-5)

@@ -1,9 +1,11 @@
 -- `parts::remaining` meets its contract: the test of the end says which case of `remainingTaken` holds.
 -- Assumes nothing.
+use mathlib.Core.Path.{ap, _∙_}
 use borrow.Author.Needs.{needs}
 use borrow.Author.Tests.{eq-eqb, ne-eqb}
+use Rattle.format.specs.declared.state.State.{State}
 use Rattle.format.specs.Refusals.{number}
-use Rattle.format.specs.States.{remainingTaken}
+use Rattle.format.specs.States.{asking, remainingTaken}
 use Rattle.format.proofs.parts.remaining.Statement.{statement}
 use Rattle.format.proofs.parts.remaining.Tie as tie
 
@@ -14,9 +16,17 @@ returns : tie.Need-returns
 unfolding remainingTaken number
 returns c = rw (ne-eqb _ _ (c .before .if1 .taken)) (c .refused .ensures)
 
+counted-requires : tie.Need-counted-requires
+counted-requires c κs = search needs
+
+asking-requires : tie.Need-asking-requires
+asking-requires c κs = search needs
+
 returns-2 : tie.Need-returns-2
 unfolding remainingTaken
-returns-2 c = rw (eq-eqb _ _ (c .if1 .left))
+returns-2 c =
+    let a = c .before .before .before .before .args in
+    rw (eq-eqb _ _ (c .before .before .if1 .left)) (c .asking .ensures ∙ ap (λ (y : State). asking y 2 (a .x .part) (a .close) (a .x .end)) (c .before .counted .ensures))
 
 pub remaining-spec : {M : Type 1} → statement M
-remaining-spec = tie.close (tie.spec refused-requires returns returns-2)
+remaining-spec = tie.close (tie.spec refused-requires returns counted-requires asking-requires returns-2)

@@ -1,30 +1,41 @@
 -- `parts::table_field` meets its contract: the test of the tag says which case of `tableField` holds.
 -- Assumes nothing.
+use mathlib.Core.Path.{ap, _∙_}
+use Prim.Native.Nat.{_+_}
 use borrow.Author.Needs.{needs}
 use borrow.Author.Tests.{eq-eqb, ne-eqb}
-use Rattle.format.specs.States.{tableField}
+use Rattle.format.specs.declared.state.State.{State}
+use Rattle.format.specs.States.{asking, tableField}
 use Rattle.format.proofs.parts.table_field.Statement.{statement}
 use Rattle.format.proofs.parts.table_field.Tie as tie
 
-add-r : tie.Need-add-r
-add-r c = search needs
+add-counted : tie.Need-add-counted
+add-counted c = search needs
+
+counted-requires : tie.Need-counted-requires
+counted-requires c κs = search needs
 
 next-field-requires : tie.Need-next-field-requires
 next-field-requires c κs = search needs
 
 returns : tie.Need-returns
 unfolding tableField
-returns c = rw (eq-eqb _ _ (c .before .before .if1 .taken)) (c .next-field .ensures)
+returns c = rw (eq-eqb _ _ (c .before .before .before .if1 .taken), ← c .before .counted .ensures) (c .next-field .ensures)
 
-add-begin : tie.Need-add-begin
-add-begin c = search needs
+counted-requires-2 : tie.Need-counted-requires-2
+counted-requires-2 c κs = search needs
 
-begin-requires : tie.Need-begin-requires
-begin-requires c κs = search needs
+add-asking : tie.Need-add-asking
+add-asking c = search needs
+
+asking-requires : tie.Need-asking-requires
+asking-requires c κs = search needs
 
 returns-2 : tie.Need-returns-2
 unfolding tableField
-returns-2 c = rw (ne-eqb _ _ (c .before .before .if1 .left)) (c .begin .ensures)
+returns-2 c =
+    let a = c .before .before .before .before .before .args in
+    rw (ne-eqb _ _ (c .before .before .before .if1 .left)) (c .asking .ensures ∙ ap (λ (y : State). asking y 1 6 (a .x .at + 5) (a .close)) (c .before .before .counted2 .ensures))
 
 pub table-field-spec : {M : Type 1} → statement M
-table-field-spec = tie.close (tie.spec add-r next-field-requires returns add-begin begin-requires returns-2)
+table-field-spec = tie.close (tie.spec add-counted counted-requires next-field-requires returns counted-requires-2 add-asking asking-requires returns-2)

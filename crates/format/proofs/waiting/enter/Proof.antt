@@ -24,6 +24,8 @@ use Rattle.format.proofs.tags.inner_at.Reads as inner-at-reads
 use Rattle.format.proofs.tags.least_at.Reads as least-at-reads
 use Rattle.format.proofs.tags.row_of.Reads as row-of-reads
 use Rattle.format.proofs.waiting.push.Reads as push-reads
+use Rattle.format.proofs.state.refused.Reads as refused-reads
+use Rattle.format.proofs.state.stepped.Reads as stepped-reads
 
 abbrev S : Type 0
 S = tie.Start
@@ -61,6 +63,9 @@ holds c = (field c .contents, leb-false _ _ (field c .room), start c .pre .2 .go
 enum-known-header : tie.Need-enum-known-header
 enum-known-header c = search needs
 
+refused-requires : tie.Need-refused-requires
+refused-requires c κs = search needs
+
 enum-known-header-2 : tie.Need-enum-known-header-2
 enum-known-header-2 c = search needs
 
@@ -70,8 +75,8 @@ add-close c = omega (arith, holds c)
 add-close-2 : tie.Need-add-close-2
 add-close-2 c = omega (arith, holds c)
 
-add-r : tie.Need-add-r
-add-r c = omega (arith, holds (c .before))
+add-fields : tie.Need-add-fields
+add-fields c = omega (arith, holds (c .before))
 
 row-of-requires : tie.Need-row-of-requires
 row-of-requires c κs = search needs
@@ -79,8 +84,11 @@ row-of-requires c κs = search needs
 inner-at-requires : tie.Need-inner-at-requires
 inner-at-requires c κs = search needs
 
+stepped-requires : tie.Need-stepped-requires
+stepped-requires c κs = search needs
+
 returns : tie.Need-returns
-returns c = λ s high b. enter-leaf _ _ _ _ _ (b .going) (b .reading) _ _ _ _ (header-is (c .before .before .before .before) s high b) refl (c .before .inner-at .ensures _ (c .before .before .row-of .ensures .0)) (c .if1 .taken)
+returns c = λ s high b. rw (c .stepped .ensures) (enter-leaf _ _ _ _ _ (b .going) (b .reading) _ _ _ _ (header-is (c .before .before .before .before .before) s high b) refl (c .before .before .inner-at .ensures _ (c .before .before .before .row-of .ensures .0)) (c .before .if1 .taken))
 
 mul-low : tie.Need-mul-low
 mul-low c = omega (arith, holds (c .before .before .before .before .before))
@@ -92,7 +100,7 @@ sub-push : tie.Need-sub-push
 sub-push c = search needs
 
 cast-push : tie.Need-cast-push
-cast-push c = omega (arith, gap-fits _ _ _ _ (start (c .before .before .before .before .before .before .before) .pre .2 .going) (start (c .before .before .before .before .before .before .before) .pre .2 .reading) (field (c .before .before .before .before .before .before .before) .header-fits))
+cast-push c = let k = c .before .before .before .before .before .before .before in omega (arith, gap-fits _ _ _ _ (start k .pre .2 .going) (start k .pre .2 .reading) (field k .header-fits))
 
 sub-push-2 : tie.Need-sub-push-2
 sub-push-2 c = search needs
@@ -103,41 +111,48 @@ cast-push-2 c = search needs
 push-requires : tie.Need-push-requires
 push-requires c κs = omega (arith, holds (c .before .before .before .before .before .before .before))
 
-add-r-2 : tie.Need-add-r-2
-add-r-2 c = omega (arith, holds (c .before .before .before .before .before .before .before .before .before .before))
+add-next : tie.Need-add-next
+add-next c = omega (arith, holds (c .before .before .before .before .before .before .before .before .before .before))
 
 least-at-requires : tie.Need-least-at-requires
 least-at-requires c κs = search needs
 
-cast-r : tie.Need-cast-r
-cast-r c = search needs
+cast-next : tie.Need-cast-next
+cast-next c = search needs
 
-add-r-3 : tie.Need-add-r-3
-add-r-3 c = omega (arith, holds (c .before .before .before .before .before .before .before .before .before .before .before), field (c .before .before .before .before .before .before .before .before .before .before .before), c .least-at .ensures _ (c .before .before .before .before .before .before .before .before .before .row-of .ensures .0))
+add-next-2 : tie.Need-add-next-2
+add-next-2 c = let k = c .before .before .before .before .before .before .before .before .before .before .before in omega (arith, holds k, field k, c .least-at .ensures _ (c .before .before .before .before .before .before .before .before .before .row-of .ensures .0))
 
-add-r-4 : tie.Need-add-r-4
-add-r-4 c = omega (arith, holds (c .before .before .before .before .before .before .before .before .before .before .before .before))
+add-stepped : tie.Need-add-stepped
+add-stepped c = omega (arith, holds (c .before .before .before .before .before .before .before .before .before .before .before .before))
+
+stepped-requires-2 : tie.Need-stepped-requires-2
+stepped-requires-2 c κs = search needs
 
 returns-2 : tie.Need-returns-2
-returns-2 c = λ s high b. enter-refused _ _ _ _ _ (b .going) (b .reading) _ _ (sym (b .header-is) ∙ c .before .header .given .1)
+returns-2 c = λ s high b. rw (c .refused .ensures) (enter-refused _ _ _ _ _ (b .going) (b .reading) _ _ (sym (b .header-is) ∙ c .before .before .header .given .1))
 
 same-length : tie.Need-same-length
 same-length c = search needs
 
 returns-3 : tie.Need-returns-3
-returns-3 c = λ s high b. enter-inner _ _ _ _ _ (b .going) (b .reading) _ _ _ _ (header-is (c .before .before .before .before .before .before .before .before .before .before .before .before) s high b) refl (c .before .before .before .before .before .before .before .before .before .inner-at .ensures _ (c .before .before .before .before .before .before .before .before .before .before .row-of .ensures .0)) _ (c .before .least-at .ensures _ (c .before .before .before .before .before .before .before .before .before .before .row-of .ensures .0)) (c .before .before .before .before .before .before .before .before .if1 .left) _ (c .before .before .before .before .push .ensures)
+returns-3 c =
+    let r = c .before .before .before .before .before .before .before .before .before .before .before .row-of .ensures .0 in
+    λ s high b. rw (c .stepped2 .ensures) (enter-inner _ _ _ _ _ (b .going) (b .reading) _ _ _ _ (header-is (c .before .before .before .before .before .before .before .before .before .before .before .before .before) s high b) refl (c .before .before .before .before .before .before .before .before .before .before .inner-at .ensures _ r) _ (c .before .before .least-at .ensures _ r) (c .before .before .before .before .before .before .before .before .before .if1 .left) _ (c .before .before .before .before .before .push .ensures))
 
 pub enter-spec : {M : Type 1} → statement M
 enter-spec =
     tie.close
     (tie.spec
     enum-known-header
+    refused-requires
     enum-known-header-2
     add-close
     add-close-2
-    add-r
+    add-fields
     row-of-requires
     inner-at-requires
+    stepped-requires
     returns
     mul-low
     add-low
@@ -146,11 +161,12 @@ enter-spec =
     sub-push-2
     cast-push-2
     push-requires
-    add-r-2
+    add-next
     least-at-requires
-    cast-r
-    add-r-3
-    add-r-4
+    cast-next
+    add-next-2
+    add-stepped
+    stepped-requires-2
     returns-2
     same-length
     returns-3)

@@ -12,6 +12,8 @@ use Rattle.format.proofs.waiting.leave.Statement.{statement}
 use Rattle.format.proofs.waiting.leave.Tie as tie
 use Rattle.format.proofs.waiting.leave.Reads as reads
 use Rattle.format.proofs.waiting.leave.Lts as lts
+use Rattle.format.proofs.state.refused.Reads as refused-reads
+use Rattle.format.proofs.state.stepped.Reads as stepped-reads
 use Rattle.words.proofs.load16.Reads as load16-reads
 use Rattle.words.proofs.store16.Reads as store16-reads
 
@@ -71,17 +73,27 @@ add-end-2 : tie.Need-add-end-2
 unfolding endOf
 add-end-2 c = omega (arith, holds (c .before .before .before), c .load163 .ensures)
 
+stepped-requires : tie.Need-stepped-requires
+stepped-requires c κs = search needs
+
 same-length : tie.Need-same-length
 same-length c = search needs
 
 returns : tie.Need-returns
-returns c = λ high. leave-ends _ _ high _ _ (c .before .before .before .before .before .before .before .before .before .before .before .pre .0) (c .before .before .before .before .before .before .before .before .before .before .before .pre .1) _ _ _ _ (omega (arith, c .before .before .before .before .before .before .before .before .before .before .before .pre .2)) (c .before .before .before .before .before .before .load16 .ensures) (c .before .before .before .before .load162 .ensures) (ends-at _ _ _ (c .before .before .before .load163 .ensures)) (c .before .before .if1 .taken) (c .if2 .taken)
+returns c =
+    let p = c .before .before .before .before .before .before .before .before .before .before .before .before .pre in
+    λ high. rw (c .stepped .ensures) (leave-ends _ _ high _ _ (p .0) (p .1) _ _ _ _ (omega (arith, p .2)) (c .before .before .before .before .before .before .before .load16 .ensures) (c .before .before .before .before .before .load162 .ensures) (ends-at _ _ _ (c .before .before .before .before .load163 .ensures)) (c .before .before .before .if1 .taken) (c .before .if2 .taken))
+
+refused-requires : tie.Need-refused-requires
+refused-requires c κs = search needs
 
 same-length-2 : tie.Need-same-length-2
 same-length-2 c = search needs
 
 returns-2 : tie.Need-returns-2
-returns-2 c = λ high. leave-refused _ _ high _ _ (c .before .before .before .before .before .before .before .before .before .before .before .pre .0) (c .before .before .before .before .before .before .before .before .before .before .before .pre .1) _ _ _ _ (omega (arith, c .before .before .before .before .before .before .before .before .before .before .before .pre .2)) (c .before .before .before .before .before .before .load16 .ensures) (c .before .before .before .before .load162 .ensures) (ends-at _ _ _ (c .before .before .before .load163 .ensures)) (c .before .before .if1 .taken) (c .if2 .left)
+returns-2 c =
+    let p = c .before .before .before .before .before .before .before .before .before .before .before .before .pre in
+    λ high. rw (c .refused .ensures) (leave-refused _ _ high _ _ (p .0) (p .1) _ _ _ _ (omega (arith, p .2)) (c .before .before .before .before .before .before .before .load16 .ensures) (c .before .before .before .before .before .load162 .ensures) (ends-at _ _ _ (c .before .before .before .before .load163 .ensures)) (c .before .before .before .if1 .taken) (c .before .if2 .left))
 
 add-store16 : tie.Need-add-store16
 add-store16 c = search needs
@@ -89,11 +101,16 @@ add-store16 c = search needs
 store16-requires : tie.Need-store16-requires
 store16-requires c κs = search needs
 
+stepped-requires-2 : tie.Need-stepped-requires-2
+stepped-requires-2 c κs = search needs
+
 same-length-3 : tie.Need-same-length-3
 same-length-3 c = search needs
 
 returns-3 : tie.Need-returns-3
-returns-3 c = λ high. leave-more _ _ high _ _ (c .before .before .before .before .before .before .before .before .before .before .before .before .before .pre .0) (c .before .before .before .before .before .before .before .before .before .before .before .before .before .pre .1) _ _ _ _ (omega (arith, c .before .before .before .before .before .before .before .before .before .before .before .before .before .pre .2)) (c .before .before .before .before .before .before .before .before .load16 .ensures) (c .before .before .before .before .before .before .load162 .ensures) (ends-at _ _ _ (c .before .before .before .before .before .load163 .ensures)) (c .before .before .before .before .if1 .left) _ (c .before .before .store16 .ensures)
+returns-3 c =
+    let p = c .before .before .before .before .before .before .before .before .before .before .before .before .before .before .pre in
+    λ high. rw (c .stepped2 .ensures) (leave-more _ _ high _ _ (p .0) (p .1) _ _ _ _ (omega (arith, p .2)) (c .before .before .before .before .before .before .before .before .before .load16 .ensures) (c .before .before .before .before .before .before .before .load162 .ensures) (ends-at _ _ _ (c .before .before .before .before .before .before .load163 .ensures)) (c .before .before .before .before .before .if1 .left) _ (c .before .before .before .store16 .ensures))
 
 pub leave-spec : {M : Type 1} → statement M
 leave-spec =
@@ -112,11 +129,14 @@ leave-spec =
     load16-requires-3
     cast-end
     add-end-2
+    stepped-requires
     same-length
     returns
+    refused-requires
     same-length-2
     returns-2
     add-store16
     store16-requires
+    stepped-requires-2
     same-length-3
     returns-3)
