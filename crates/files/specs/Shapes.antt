@@ -5,6 +5,7 @@ use lib.Dec.{eqb}
 use lib.ListN.{length}
 use Rattle.format.specs.declared.state.State.{State}
 use Rattle.format.specs.Results.{Result, told}
+use Rattle.format.specs.States.{modeRefused}
 use Rattle.format.specs.Terms.{fields}
 use Rattle.files.specs.declared.proofs.ProofParts.{ProofParts}
 use Rattle.files.specs.declared.proofs.ProofRead.{ProofRead}
@@ -32,7 +33,7 @@ proofShape x = told P.Refused (λ p. P.Read (partsOf p)) x
 
 -- what a state in which nothing is left to read tells of a proof
 unfoldable pub toldProof : State → ProofRead
-toldProof x = cond (eqb (x .mode) 0) (P.Refused (x .number) (x .place)) (P.Read (proofParts (x .goals) (x .from) (x .fields) (x .rest) (x .second)))
+toldProof x = cond (eqb (x .mode) modeRefused) (P.Refused (x .number) (x .place)) (P.Read (proofParts (x .goals) (x .from) (x .fields) (x .rest) (x .second)))
 
 -- the parts of a job: the number of goals, the place of the term, and its term fields
 abbrev pub jobParts : (goals term fields : ℕ) → JobParts
@@ -46,7 +47,7 @@ jobShape x = told J.Refused (λ j. J.Read (jobPartsOf j)) x
 
 -- the same of a job
 unfoldable pub toldJob : State → JobRead
-toldJob x = cond (eqb (x .mode) 0) (J.Refused (x .number) (x .place)) (J.Read (jobParts (x .goals) (x .from) (x .fields)))
+toldJob x = cond (eqb (x .mode) modeRefused) (J.Refused (x .number) (x .place)) (J.Read (jobParts (x .goals) (x .from) (x .fields)))
 
 -- the parts of a flat file: the number of roots, the place of the first entry, and the numbers of use and open entries
 abbrev pub flatParts : (roots first uses opens : ℕ) → FlatParts
@@ -60,4 +61,4 @@ flatShape x = told F.Refused (λ d. F.Read (flatPartsOf d)) x
 
 -- the same of a flat file
 unfoldable pub toldFlat : State → FlatRead
-toldFlat x = cond (eqb (x .mode) 0) (F.Refused (x .number) (x .place)) (F.Read (flatParts (x .goals) (x .from) (x .first) (x .second)))
+toldFlat x = cond (eqb (x .mode) modeRefused) (F.Refused (x .number) (x .place)) (F.Read (flatParts (x .goals) (x .from) (x .first) (x .second)))

@@ -13,9 +13,48 @@ use Rattle.format.specs.Refusals.{number, inputTooLong, limitPassed, len
 use Rattle.format.specs.Tags.{definitionKind, goalListKind, hiproofKind, tacticKind, entryKind}
 use Rattle.format.specs.Next.{fullTable, lowest, fullFlat}
 
+-- what comes next in a state: nothing after a refusal, a field, or what follows a term that was read
+abbrev pub modeRefused : ℕ
+modeRefused = 0
+
+abbrev pub modeReads : ℕ
+modeReads = 1
+
+abbrev pub modeGave : ℕ
+modeGave = 2
+
+-- the parts of the files: outside terms the roots and the entries of a flat file, the fields of a table, the goals of a job and of a proof, those remaining of a proof
+abbrev pub rootsPart : ℕ
+rootsPart = 0
+
+abbrev pub entriesPart : ℕ
+entriesPart = 1
+
+abbrev pub fieldsPart : ℕ
+fieldsPart = 2
+
+abbrev pub jobGoalsPart : ℕ
+jobGoalsPart = 3
+
+abbrev pub proofGoalsPart : ℕ
+proofGoalsPart = 4
+
+abbrev pub remainingPart : ℕ
+remainingPart = 5
+
+-- and from here on terms: the body of a definition, the term of a job, the hiproof of a proof
+abbrev pub bodyPart : ℕ
+bodyPart = 6
+
+abbrev pub jobTermPart : ℕ
+jobTermPart = 7
+
+abbrev pub proofTermPart : ℕ
+proofTermPart = 8
+
 -- a refusal
 abbrev pub refusing : State → (number place : ℕ) → State
-refusing x k p = record { mode = 0; part = x .part; at = x .at; end = x .end; fields = x .fields; depth = x .depth; top = x .top; goals = x .goals; first = x .first; second = x .second; from = x .from; rest = x .rest; field = x .field; number = k; place = p }
+refusing x k p = record { mode = modeRefused; part = x .part; at = x .at; end = x .end; fields = x .fields; depth = x .depth; top = x .top; goals = x .goals; first = x .first; second = x .second; from = x .from; rest = x .rest; field = x .field; number = k; place = p }
 
 -- within a term
 abbrev pub stepped : State → (mode at end fields depth top : ℕ) → State
@@ -31,31 +70,31 @@ counted x g a b f r d = record { mode = x .mode; part = x .part; at = x .at; end
 
 -- the lowest and the highest kind that may stand where a state is
 unfoldable pub lowOf : State → ℕ
-lowOf x = cond (ltb (x .part) 6) (cond (eqb (x .part) 2) (lowest (x .second)) (cond (eqb (x .part) 1) entryKind goalListKind)) hiproofKind
+lowOf x = cond (ltb (x .part) bodyPart) (cond (eqb (x .part) fieldsPart) (lowest (x .second)) (cond (eqb (x .part) entriesPart) entryKind goalListKind)) hiproofKind
 
 unfoldable pub highOf : (part : ℕ) → ℕ
-highOf part = cond (ltb part 6) (cond (eqb part 2) definitionKind (cond (eqb part 1) entryKind goalListKind)) (cond (eqb part 8) hiproofKind tacticKind)
+highOf part = cond (ltb part bodyPart) (cond (eqb part fieldsPart) definitionKind (cond (eqb part entriesPart) entryKind goalListKind)) (cond (eqb part proofTermPart) hiproofKind tacticKind)
 
 -- no more fields of the kind that begins there may come
 unfoldable pub fullOf : List ℕ → State → Bool
 fullOf s x =
-    cond (ltb (x .part) 6)
-    (cond (eqb (x .part) 2) (fullTable s (x .at) (x .first) (x .second)) (cond (eqb (x .part) 1) (fullFlat s (x .at) (x .first) (x .second)) false))
+    cond (ltb (x .part) bodyPart)
+    (cond (eqb (x .part) fieldsPart) (fullTable s (x .at) (x .first) (x .second)) (cond (eqb (x .part) entriesPart) (fullFlat s (x .at) (x .first) (x .second)) false))
     (leb mostTermFields (x .fields))
 
 -- the next field of a table is read at a place, or the file ends there
 unfoldable pub nextField : List ℕ → State → (at : ℕ) → State
-nextField s x at = cond (leb (length s) at) (asking x 2 2 at (length s)) (asking x 1 2 at (length s))
+nextField s x at = cond (leb (length s) at) (asking x modeGave fieldsPart at (length s)) (asking x modeReads fieldsPart at (length s))
 
 -- the next entry is read at a place, or the file ends there
 unfoldable pub nextEntry : List ℕ → State → (at : ℕ) → State
-nextEntry s x at = cond (leb (length s) at) (asking x 2 1 at (length s)) (asking x 1 1 at (length s))
+nextEntry s x at = cond (leb (length s) at) (asking x modeGave entriesPart at (length s)) (asking x modeReads entriesPart at (length s))
 
 -- behind a rule, or in the body of a definition
 unfoldable pub tableField : List ℕ → State → (tag close : ℕ) → State
 tableField s x tag close =
     cond (eqb tag 1) (nextField s (counted x (x .goals) (x .first + 1) (x .second) close (x .rest) (x .field)) close)
-    (asking (counted x (x .goals) (x .first) (x .second) (x .from) (x .rest) (x .at)) 1 6 (x .at + 5) close)
+    (asking (counted x (x .goals) (x .first) (x .second) (x .from) (x .rest) (x .at)) modeReads bodyPart (x .at + 5) close)
 
 -- behind a use or an open
 unfoldable pub entryTaken : List ℕ → State → (tag close : ℕ) → State
@@ -66,7 +105,7 @@ entryTaken s x tag close =
 -- the list of those remaining ends a proof file: nothing may be left behind it
 unfoldable pub remainingTaken : State → (count close : ℕ) → State
 remainingTaken x n close =
-    cond (eqb close (x .end)) (asking (counted x (x .goals) (x .first) n (x .from) (x .rest) (x .field)) 2 (x .part) close (x .end))
+    cond (eqb close (x .end)) (asking (counted x (x .goals) (x .first) n (x .from) (x .rest) (x .field)) modeGave (x .part) close (x .end))
     (refusing x (number lengthWrong) close)
 
 -- behind a goal list
@@ -74,17 +113,17 @@ unfoldable pub listTaken : List ℕ → State → (count close : ℕ) → State
 listTaken s x n close =
     let y = counted x n (x .first) (x .second) close (x .rest) (x .field) in
     cond (ltb mostGoals n) (refusing x (number limitPassed) (x .at))
-    (cond (eqb (x .part) 5) (remainingTaken x n close)
-    (cond (eqb (x .part) 0) (nextEntry s y close)
-    (cond (eqb (x .part) 3) (asking y 1 7 close (x .end))
-    (asking y 1 8 close (x .end)))))
+    (cond (eqb (x .part) remainingPart) (remainingTaken x n close)
+    (cond (eqb (x .part) rootsPart) (nextEntry s y close)
+    (cond (eqb (x .part) jobGoalsPart) (asking y modeReads jobTermPart close (x .end))
+    (asking y modeReads proofTermPart close (x .end)))))
 
 -- from the header of a field outside terms to what is read next
 unfoldable pub taken : List ℕ → State → HeaderRead → State
 taken s x (Refused k p) = refusing x k p
 taken s x (Field tag len) =
-    cond (eqb (x .part) 2) (tableField s x tag (x .at + 3 + len))
-    (cond (eqb (x .part) 1) (entryTaken s x tag (x .at + 3 + len))
+    cond (eqb (x .part) fieldsPart) (tableField s x tag (x .at + 3 + len))
+    (cond (eqb (x .part) entriesPart) (entryTaken s x tag (x .at + 3 + len))
     (listTaken s x (len / 2) (x .at + 3 + len)))
 
 -- the end of the field at a place
@@ -94,22 +133,22 @@ endOf s at = at + 3 + word s (at + 1)
 -- behind a term that no field encloses: the next definition, those remaining, or the end of the file
 unfoldable pub behindTerm : List ℕ → State → State
 behindTerm s x =
-    cond (eqb (x .part) 6)
+    cond (eqb (x .part) bodyPart)
     (cond (eqb (x .at) (endOf s (x .field))) (nextField s (counted x (x .goals) (x .first) (x .second + 1) (x .from) (x .rest) (x .field)) (x .at)) (refusing x (number lengthWrong) (x .field)))
-    (cond (eqb (x .part) 7)
+    (cond (eqb (x .part) jobTermPart)
     (cond (eqb (x .at) (length s)) x (refusing x (number lengthWrong) (x .at)))
-    (asking (counted x (x .goals) (x .first) (x .second) (x .from) (x .at) (x .field)) 1 5 (x .at) (length s)))
+    (asking (counted x (x .goals) (x .first) (x .second) (x .from) (x .at) (x .field)) modeReads remainingPart (x .at) (length s)))
 
 -- nothing of a file is read
 unfoldable pub blankState : (part : ℕ) → State
-blankState part = record { mode = 0; part = part; at = 0; end = 0; fields = 0; depth = 0; top = 0; goals = 0; first = 0; second = 0; from = 0; rest = 0; field = 0; number = 0; place = 0 }
+blankState part = record { mode = modeRefused; part = part; at = 0; end = 0; fields = 0; depth = 0; top = 0; goals = 0; first = 0; second = 0; from = 0; rest = 0; field = 0; number = 0; place = 0 }
 
 -- a file that begins with a goal list, unless it is too long
 unfoldable pub begunFile : List ℕ → (part : ℕ) → State
 begunFile s part =
-    let x = asking (blankState part) 1 part 0 (length s) in
+    let x = asking (blankState part) modeReads part 0 (length s) in
     cond (ltb mostBytes (length s)) (refusing x (number inputTooLong) 0) x
 
 -- a table
 unfoldable pub begunTable : List ℕ → State
-begunTable s = nextField s (blankState 2) 0
+begunTable s = nextField s (blankState fieldsPart) 0

@@ -16,7 +16,7 @@ use Rattle.format.specs.Tags.{hiproofKind}
 use Rattle.format.specs.Headers.{headerAt}
 use Rattle.format.specs.ReadTerms.{readTerm}
 use Rattle.format.specs.Shapes.{headerShape, termShape, ending}
-use Rattle.format.specs.States.{endOf}
+use Rattle.format.specs.States.{modeRefused, modeReads, modeGave, endOf}
 
 -- the bytes that the fields that wait take: at most every term field of a file waits, in four bytes
 abbrev pub readingRoom : ℕ
@@ -48,13 +48,13 @@ resumed s w high base top (suc k) r =
 
 -- what a state in which nothing is left to read comes to
 unfoldable pub told : State → TermRead
-told x = cond (eqb (x .mode) 0) (Refused (x .number) (x .place)) (Read (x .at) (x .fields))
+told x = cond (eqb (x .mode) modeRefused) (Refused (x .number) (x .place)) (Read (x .at) (x .fields))
 
 -- what the loop comes to from here on
 unfoldable pub outcome : (s w : List ℕ) (high base : ℕ) → State → TermRead
 outcome s w high base x =
-    cond (eqb (x .mode) 0) (Refused (x .number) (x .place))
-    (resumed s w high base (x .top) (x .depth) (cond (eqb (x .mode) 1) (reads s high (x .at) (x .end) (x .fields)) (Read (x .at) (x .fields))))
+    cond (eqb (x .mode) modeRefused) (Refused (x .number) (x .place))
+    (resumed s w high base (x .top) (x .depth) (cond (eqb (x .mode) modeReads) (reads s high (x .at) (x .end) (x .fields)) (Read (x .at) (x .fields))))
 
 -- fields that wait stand in one another, and the innermost, at the place top, holds what ends at `end`
 unfoldable pub Waits : (s w : List ℕ) (base top end depth : ℕ) → Type 0
@@ -69,9 +69,9 @@ pub record Going (s w : List ℕ) (base : ℕ) (x : State) : Type 0 where
   pub few : x .depth ≤ x .fields
   pub most : x .depth ≤ mostTermFields
   pub behind : x .top ≤ x .at
-  pub near : x .mode ≡ 1 → (x .at ≡ x .top) ⊎ (x .end ≤ x .top + 65538)
+  pub near : x .mode ≡ modeReads → (x .at ≡ x .top) ⊎ (x .end ≤ x .top + 65538)
   pub room : base + readingRoom ≤ length w
-  pub modes : x .mode ≤ 2
+  pub modes : x .mode ≤ modeGave
 
 -- what falls with each turn
 unfoldable pub weight : List ℕ → State → ℕ
@@ -98,11 +98,11 @@ pub record Moved (s w : List ℕ) (high base : ℕ) (x : State) (w′ : List ℕ
 -- what is known before a field: it is the one at the place of a term that is to be read
 pub record Enters (s w : List ℕ) (high base : ℕ) (x : State) (h : HeaderRead) : Type 0 where
   pub going : Going s w base x
-  pub reading : x .mode ≡ 1
+  pub reading : x .mode ≡ modeReads
   pub header-is : h ≡ headerShape (headerAt s (x .at) (x .end) hiproofKind high (leb mostTermFields (x .fields)))
 
 -- one turn: to the next term that is to be read, or to the end of the outermost
 pub record Turned (s w : List ℕ) (high base : ℕ) (x : State) (w′ : List ℕ) (r : State) : Type 0 where
   pub moved : Moved s w high base x w′ r
-  pub over : (r .mode ≡ 1 → ⊥) → outcome s w′ high base r ≡ told r
-  pub bare : r .mode ≡ 2 → r .depth ≡ 0
+  pub over : (r .mode ≡ modeReads → ⊥) → outcome s w′ high base r ≡ told r
+  pub bare : r .mode ≡ modeGave → r .depth ≡ 0

@@ -4,7 +4,7 @@ ghost use Prim.Native.Nat.{_+_, _≤_, _<_};
 ghost use lib.ListN.{length};
 ghost use Rattle.format.specs.Next.{fullTable, fullFlat};
 ghost use Rattle.format.specs.Reader.{Encloses};
-ghost use Rattle.format.specs.States.{lowOf, highOf, fullOf, nextField, nextEntry, tableField, entryTaken, remainingTaken, listTaken, taken, behindTerm, blankState, begunFile, begunTable};
+ghost use Rattle.format.specs.States.{entriesPart, fieldsPart, bodyPart, lowOf, highOf, fullOf, nextField, nextEntry, tableField, entryTaken, remainingTaken, listTaken, taken, behindTerm, blankState, begunFile, begunTable};
 use crate::headers::HeaderRead;
 use crate::state::BODY;
 use crate::state::ENTRIES;
@@ -108,7 +108,7 @@ pub fn high_of(x: State) -> u8
 
 // Whether no more fields of the kind that begins there may come.
 pub fn is_full(x: State, s: &[u8]) -> bool
-    requires { ⌜ (x .part ≡ 1 → x .at < length (now s)) × (x .part ≡ 2 → x .at < length (now s)) ⌝ }
+    requires { ⌜ (x .part ≡ entriesPart → x .at < length (now s)) × (x .part ≡ fieldsPart → x .at < length (now s)) ⌝ }
     ensures { λ r. ⌜ r ≡ fullOf (now (s .entry)) x ⌝ }
 {
     if x.part < BODY {
@@ -224,7 +224,7 @@ pub fn take(x: State, header: HeaderRead, s: &[u8]) -> State
 
 // Behind a term that no field encloses: the next definition, those remaining, or the end of the file. Nothing may be left in the definition, and nothing behind the term of a job.
 pub fn behind_term(x: State, s: &[u8]) -> State
-    requires { ⌜ (x .part ≡ 6 → x .field + 2 < length (now s)) × (x .at ≤ length (now s)) × (x .second ≤ x .at) ⌝ }
+    requires { ⌜ (x .part ≡ bodyPart → x .field + 2 < length (now s)) × (x .at ≤ length (now s)) × (x .second ≤ x .at) ⌝ }
     ensures { λ r. ⌜ r ≡ behindTerm (now (s .entry)) x ⌝ }
 {
     let end = s.len();

@@ -1,5 +1,6 @@
 // Reading a file: one reader moves through it, from each field to the next.
 ghost use mathlib.Core.Path.{_≡_};
+ghost use Rattle.format.specs.States.{modeReads};
 ghost use Rattle.format.specs.Reading.{Reading, Reads, Step, Reaches};
 use crate::headers::HeaderRead;
 use crate::parts::behind_term;
@@ -34,7 +35,7 @@ fn turn(x: State, header: HeaderRead, s: &[u8], work: &mut [u8], base: usize) ->
 // Reads on from a state to the end of the file or to a refusal.
 pub fn read_on(file: &[u8], start: State, work: &mut [u8], base: usize) -> State
     requires { ⌜ Reading (now file) (now work) base start ⌝ }
-    ensures { λ r. ⌜ Reaches (now (file .entry)) base (now (work .entry)) start (now (work .exit)) r × (r .mode ≡ 1 → ⊥) ⌝ }
+    ensures { λ r. ⌜ Reaches (now (file .entry)) base (now (work .entry)) start (now (work .exit)) r × (r .mode ≡ modeReads → ⊥) ⌝ }
 {
     let mut reader = new(file, start.at, start.end);
     let mut x = start;

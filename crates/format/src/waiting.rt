@@ -3,6 +3,7 @@ ghost use mathlib.Core.Path.{_≡_};
 ghost use mathlib.Core.List.{List};
 ghost use Prim.Native.Nat.{ℕ, _+_, _≤_, _<_};
 ghost use lib.ListN.{length};
+ghost use Rattle.format.specs.States.{modeGave};
 ghost use Rattle.format.specs.Waiting.{putWaiting, Going, Moved, Enters, Turned};
 use crate::headers::HeaderRead;
 use crate::state::GAVE;
@@ -51,7 +52,7 @@ fn enter(x: State, header: HeaderRead, work: &mut [u8], base: usize) -> State
 
 // Behind a term that was read: the field that waits last goes on to its second inner term, or ends there, or has leftovers.
 fn leave(x: State, s: &[u8], work: &mut [u8], base: usize) -> State
-    requires { ⌜ Going (now s) (now work) base x × (2 ≤ x .mode) × (0 < x .depth) ⌝ }
+    requires { ⌜ Going (now s) (now work) base x × (modeGave ≤ x .mode) × (0 < x .depth) ⌝ }
     ensures { λ r. ⌜ ((high : ℕ) → Moved (now (s .entry)) (now (work .entry)) high base x (now (work .exit)) r) ⌝ }
 {
     let top = x.top;

@@ -4,6 +4,7 @@ use lib.Dec.{eqb}
 use lib.ListN.{length}
 use Rattle.format.specs.declared.state.State.{State}
 use Rattle.format.specs.Results.{Result, told}
+use Rattle.format.specs.States.{modeRefused}
 use Rattle.tables.specs.declared.fields.TableRead.{TableRead}
 use Rattle.tables.specs.declared.fields.TableRead.the-variants as R
 use Rattle.tables.specs.Tables.{Table}
@@ -15,4 +16,4 @@ tableShape x = told R.Refused (λ T. R.Read (length (T .rules)) (length (T .defi
 
 -- what a state in which nothing is left to read tells of a table
 unfoldable pub toldTable : State → TableRead
-toldTable x = cond (eqb (x .mode) 0) (R.Refused (x .number) (x .place)) (R.Read (x .first) (x .second) (x .from))
+toldTable x = cond (eqb (x .mode) modeRefused) (R.Refused (x .number) (x .place)) (R.Read (x .first) (x .second) (x .from))
