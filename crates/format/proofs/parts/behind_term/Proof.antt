@@ -1,11 +1,13 @@
 -- `parts::behind_term` meets its contract: the tests of the part and of the place say which case of `behindTerm` holds.
 -- Assumes nothing.
-use mathlib.Core.Path.{sym, ap, _∙_}
+use mathlib.Core.Path.{ap, _∙_}
+use Prim.Native.Nat.{_+_}
 use native.Mathlib.Omega.{arith}
 use denote.Ref.{now}
 use lib.ListN.{length}
 use borrow.Author.Needs.{needs}
 use borrow.Author.Tests.{eq-eqb, ne-eqb}
+use Rattle.words.specs.Word.{word}
 use Rattle.format.specs.declared.state.State.{State}
 use Rattle.format.specs.Refusals.{number}
 use Rattle.format.specs.States.{asking, behindTerm, endOf}
@@ -32,7 +34,9 @@ refused-requires c κs = search needs
 
 returns : tie.Need-returns
 unfolding behindTerm endOf number
-returns c = rw (eq-eqb _ _ (c .before .before .before .before .before .before .if1 .taken), sym (c .before .before .before .load16 .ensures), ne-eqb _ _ (c .before .if2 .taken)) (c .refused .ensures)
+returns c =
+    let a = c .before .before .before .before .before .before .before .before .before .args in
+    rw (eq-eqb _ _ (c .before .before .before .before .before .before .if1 .taken), ne-eqb (a .x .at) (a .x .field + 3 + word (now (a .s)) (a .x .field + 1)) (λ z. omega (arith, c .before .if2 .taken, c .before .before .before .load16 .ensures, z))) (c .refused .ensures)
 
 add-counted : tie.Need-add-counted
 add-counted c = search needs
@@ -45,7 +49,9 @@ next-field-requires c κs = search needs
 
 returns-2 : tie.Need-returns-2
 unfolding behindTerm endOf
-returns-2 c = rw (eq-eqb _ _ (c .before .before .before .before .before .before .before .before .if1 .taken), sym (c .before .before .before .before .before .load16 .ensures), eq-eqb _ _ (c .before .before .before .if2 .left), ← c .before .counted .ensures) (c .next-field .ensures)
+returns-2 c =
+    let a = c .before .before .before .before .before .before .before .before .before .before .before .args in
+    rw (eq-eqb _ _ (c .before .before .before .before .before .before .before .before .if1 .taken), eq-eqb (a .x .at) (a .x .field + 3 + word (now (a .s)) (a .x .field + 1)) (omega (arith, c .before .before .before .if2 .left, c .before .before .before .before .before .load16 .ensures)), ← c .before .counted .ensures) (c .next-field .ensures)
 
 refused-requires-2 : tie.Need-refused-requires-2
 refused-requires-2 c κs = search needs

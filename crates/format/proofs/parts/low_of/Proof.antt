@@ -1,5 +1,6 @@
 -- `parts::low_of` meets its contract: the tests of the part say which case of `lowOf` holds.
 -- Assumes nothing.
+use native.Mathlib.Omega.{arith}
 use borrow.Author.Tests.{lt-ltb, le-ltb, eq-eqb, ne-eqb}
 use Rattle.format.specs.Next.{lowest}
 use Rattle.format.specs.States.{lowOf}
@@ -8,11 +9,11 @@ use Rattle.format.proofs.parts.low_of.Tie as tie
 
 returns : tie.Need-returns
 unfolding lowOf lowest
-returns c = rw (lt-ltb _ _ (c .before .before .before .before .if1 .taken), eq-eqb _ _ (c .before .before .if2 .taken), eq-eqb _ _ (c .if3 .taken))
+returns c = rw (lt-ltb _ _ (c .before .before .before .before .if1 .taken), eq-eqb _ _ (c .before .before .if2 .taken), eq-eqb (c .before .before .before .before .before .before .args .x .second) 0 (omega (arith, c .if3 .taken)))
 
 returns-2 : tie.Need-returns-2
 unfolding lowOf lowest
-returns-2 c = rw (lt-ltb _ _ (c .before .before .before .before .if1 .taken), eq-eqb _ _ (c .before .before .if2 .taken), ne-eqb _ _ (c .if3 .left))
+returns-2 c = rw (lt-ltb _ _ (c .before .before .before .before .if1 .taken), eq-eqb _ _ (c .before .before .if2 .taken), ne-eqb (c .before .before .before .before .before .before .args .x .second) 0 (λ z. omega (arith, c .if3 .left, z)))
 
 returns-3 : tie.Need-returns-3
 unfolding lowOf
