@@ -19,13 +19,14 @@ use Rattle.format.specs.States.{asking, counted, nextEntry, entryTaken, taken, 
 use Rattle.format.specs.Waiting.{readingRoom}
 use Rattle.format.specs.Reading.{Reading, headerOf, Step, Reaches}
 use Rattle.format.proofs.HeaderLaws.{told-field}
+use Rattle.format.proofs.ReachLaws.{holds-on}
 use Rattle.format.proofs.AskLaws.{asks-entry}
 use Rattle.format.proofs.StepCases.{field-step}
 use Rattle.files.specs.declared.flats.FlatRead.{FlatRead}
 use Rattle.files.specs.declared.flats.FlatRead.the-variants as F
 use Rattle.files.specs.Derivations.{readEntries, readFlat}
 use Rattle.files.specs.Shapes.{flatShape, toldFlat}
-use Rattle.files.proofs.ListSteps.{stated, ListStep, stops, reads, First, Begins, long, first, begins, start-reading, first-step, holds-on}
+use Rattle.files.proofs.ListSteps.{stated, ListStep, stops, reads, First, Begins, long, first, begins, start-reading, first-step}
 use Rattle.files.proofs.FlatLaws.{entriesTold, at-end, turn-refused, turn-use, turn-open, roots-refused, roots-read}
 use Rattle.files.proofs.EntriesLaw.{same-bound}
 

@@ -16,8 +16,9 @@ use Rattle.format.specs.Reading.{Reading, Step, Reaches}
 use Rattle.files.specs.declared.jobs.JobRead.the-variants as J
 use Rattle.files.specs.Jobs.{readJob}
 use Rattle.files.specs.Shapes.{jobParts, jobShape, toldJob}
+use Rattle.format.proofs.ReachLaws.{holds-on}
 use Rattle.format.proofs.AskLaws.{high-of-job}
-use Rattle.files.proofs.ListSteps.{stated, ListStep, stops, reads, First, Begins, long, first, begins, first-step, holds-on}
+use Rattle.files.proofs.ListSteps.{stated, ListStep, stops, reads, First, Begins, long, first, begins, first-step}
 use Rattle.files.proofs.TermSteps.{InTerm, Turn, goes-on, refuses, leaves, term-begun, term-turn}
 use Rattle.files.proofs.JobLaws.{stated-refused, tactic-refused, bytes-left, job-read}
 

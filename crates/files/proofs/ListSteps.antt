@@ -17,18 +17,17 @@ use Rattle.format.specs.Limits.{mostBytes, mostGoals}
 use Rattle.format.specs.Refusals.{number, inputTooLong, limitPassed}
 use Rattle.format.specs.Results.{told}
 use Rattle.format.specs.Inputs.{ofSize}
-use Rattle.format.specs.Tags.{goalListKind, hiproofKind, tacticKind}
+use Rattle.format.specs.Tags.{goalListKind}
 use Rattle.format.specs.Headers.{headerAt}
 use Rattle.format.specs.Goals.{readGoals}
 use Rattle.format.specs.Shapes.{headerShape, goalsShape}
 use Rattle.format.specs.States.{refusing, asking, counted, nextEntry, remainingTaken, listTaken, taken, blankState, begunFile}
 use Rattle.format.specs.Waiting.{readingRoom}
-use Rattle.format.specs.Reading.{Reading, headerOf, Step, Reaches, none, more}
+use Rattle.format.specs.Reading.{Reading, headerOf, Step}
 use Rattle.format.proofs.GoalsLaws.{header-refused, header-read, many-goals, few-goals}
 use Rattle.format.proofs.AskLaws.{asks-list}
 use Rattle.format.proofs.StepCases.{field-step}
 use Rattle.format.proofs.StepLaws.{fresh-list, refused-reading}
-use Rattle.format.proofs.ReachLaws.{reaches-reading}
 
 -- what is told of the goal list at the beginning of a file
 abbrev pub stated : List ℕ → GoalsRead
@@ -112,9 +111,3 @@ module _ (s w : List ℕ) (base part : ℕ) (o : part < 6) (i : part ≡ 1 → �
       let l = list-step s w base x h (f .mode-is) (omega (arith, p, o)) (λ z. i (sym p ∙ z)) (λ z. j (sym p ∙ z)) w′ r step in
       let e : goalsShape (readGoals s (x .at) (length s)) ≡ stated s = rw (f .at-start, le-ltb mostBytes (length s) (f .short)) in
       (l .0, subst (λ (t : GoalsRead). ListStep s x t r) e (l .1))
-
--- what each turn keeps holds at the end of any number of turns
-module _ (s : List ℕ) (base : ℕ) (P : List ℕ → State → Type 0) (keeps : (v : List ℕ) (y : State) (w′ : List ℕ) (r : State) → Reading s v base y → y .mode ≡ 1 → Step s v base y w′ r → P v y → P w′ r) where
-  pub holds-on : (w : List ℕ) (x : State) → Reading s w base x → P w x → (w′ : List ℕ) (y : State) → Reaches s base w x w′ y → P w′ y
-  holds-on w x h p _ _ none = p
-  holds-on w x h p _ _ (more v y w′ r before m step) = keeps v y w′ r (reaches-reading s base w x v y before h) m step (holds-on w x h p v y before)

@@ -20,8 +20,9 @@ use Rattle.format.specs.Reading.{Reading, Step, Reaches}
 use Rattle.files.specs.declared.proofs.ProofRead.the-variants as P
 use Rattle.files.specs.Proofs.{readProof}
 use Rattle.files.specs.Shapes.{proofParts, proofShape, toldProof}
+use Rattle.format.proofs.ReachLaws.{holds-on}
 use Rattle.format.proofs.AskLaws.{high-of-proof}
-use Rattle.files.proofs.ListSteps.{stated, ListStep, stops, reads, list-step, First, Begins, long, first, begins, first-step, holds-on}
+use Rattle.files.proofs.ListSteps.{stated, ListStep, stops, reads, list-step, First, Begins, long, first, begins, first-step}
 use Rattle.files.proofs.TermSteps.{termAt, InTerm, Turn, goes-on, refuses, leaves, term-begun, term-turn}
 use Rattle.files.proofs.ProofLaws.{stated-refused, hiproof-refused, list-refused, bytes-left, proof-read}
 

@@ -1,24 +1,22 @@
 -- What is known of a goal list that was read, and what the code tells of it: by its header and the test of its count.
 -- Assumes nothing.
-use mathlib.Core.Path.{_≡_, refl, ap, sym}
-use mathlib.Core.Bool.{Bool, true, false, cond}
+use mathlib.Core.Path.{_≡_, refl, ap}
+use mathlib.Core.Bool.{true, false}
 use mathlib.Core.List.{List}
-use Prim.Native.Nat.{ℕ, zero, suc, _+_, _≤_, _/_, _%_, _*_}
+use Prim.Native.Nat.{ℕ, zero, suc, _+_, _/_}
 use native.Mathlib.Omega.{arith}
 use lib.Dec.{ltb}
 use lib.ListN.{length}
-use borrow.Author.Tests.{ltb-false}
 use Rattle.format.specs.declared.headers.HeaderRead.the-variants as H
 use Rattle.format.specs.GoalsRead.{Refused, Read}
 use Rattle.format.specs.Limits.{mostGoals}
-use Rattle.format.specs.Refusals.{number, limitPassed}
-use Rattle.format.specs.Results.{Result, gives, refused, andThen, told}
-use Rattle.format.specs.Tags.{goalListKind}
-use Rattle.format.specs.Headers.{Header, header, headerAt}
-use Rattle.format.specs.Goals.{goalsAt, ParsedGoals, goalsOf, readGoals}
+use Rattle.format.specs.Refusals.{number}
+use Rattle.format.specs.Results.{Result, refused, andThen, told}
+use Rattle.format.specs.Headers.{Header, header}
+use Rattle.format.specs.Goals.{goalsAt, goalsOf}
 use Rattle.format.specs.Shapes.{headerShape, goalsShape}
-use Rattle.format.proofs.ResultLaws.{told-refused, told-gives}
-use Rattle.format.proofs.HeaderLaws.{IsField, is-field, told-field}
+use Rattle.format.proofs.ResultLaws.{told-refused}
+use Rattle.format.proofs.HeaderLaws.{told-field}
 
 pub length-goalsAt : (k : ℕ) (s : List ℕ) (at : ℕ) → length (goalsAt s at k) ≡ k
 unfolding goalsAt

@@ -1,11 +1,11 @@
 -- A header that is read ends within what encloses it, by the tests of `headerAt`.
 -- Assumes nothing.
-use mathlib.Core.Path.{_≡_, refl, ap, subst}
+use mathlib.Core.Path.{_≡_, refl, subst}
 use mathlib.Core.Bool.{Bool}
 use mathlib.Core.List.{List}
 use Prim.Native.Nat.{ℕ, _+_, _≤_}
 use Rattle.format.specs.declared.headers.HeaderRead.{HeaderRead}
-use Rattle.format.specs.declared.headers.HeaderRead.the-variants.{Refused, Field}
+use Rattle.format.specs.declared.headers.HeaderRead.the-variants.{Field}
 use Rattle.format.specs.Results.{Result, gives, refused, told}
 use Rattle.format.specs.Headers.{Header, headerAt}
 use Rattle.format.specs.Shapes.{headerShape}

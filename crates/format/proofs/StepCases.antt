@@ -1,6 +1,6 @@
 -- The cases of a turn, as the laws of each kind of file take them: a field outside terms, or within a term a turn that goes on, stops or ends the term.
 -- Assumes nothing.
-use mathlib.Core.Path.{_≡_, refl, sym, ap, _∙_}
+use mathlib.Core.Path.{_≡_, refl, sym, _∙_}
 use mathlib.Core.Bool.{Bool, true, false, cond}
 use mathlib.Core.List.{List}
 use Prim.Native.Nat.{ℕ, _≤_, _<_}
@@ -9,10 +9,10 @@ use lib.Dec.{eqb}
 use lib.ListN.{length}
 use borrow.Author.Tests.{eq-eqb, ne-eqb, eqb-true, eqb-false}
 use Rattle.format.specs.declared.state.State.{State}
-use Rattle.format.specs.TermRead.{TermRead, Refused, Read}
+use Rattle.format.specs.TermRead.{Refused, Read}
 use Rattle.format.specs.States.{highOf, taken, behindTerm}
 use Rattle.format.specs.Waiting.{told, outcome, Held, Turned}
-use Rattle.format.specs.Reading.{Reading, headerOf, settled, Turns, field, term, Step}
+use Rattle.format.specs.Reading.{headerOf, settled, Turns, field, term, Step}
 use Rattle.format.proofs.TurnLaws.{inside}
 
 -- what a turn within a term leaves: the rest of the term, a refusal, or what follows the term

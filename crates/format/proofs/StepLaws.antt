@@ -13,11 +13,8 @@ use Rattle.words.proofs.KeptLaws.{kept-same}
 use Rattle.format.specs.declared.headers.HeaderRead.{HeaderRead}
 use Rattle.format.specs.declared.headers.HeaderRead.the-variants as H
 use Rattle.format.specs.declared.state.State.{State}
-use Rattle.format.specs.Limits.{mostGoals, mostTermFields}
+use Rattle.format.specs.Limits.{mostGoals}
 use Rattle.format.specs.Refusals.{number, lengthWrong, limitPassed}
-use Rattle.format.specs.Tags.{ruleKind, definitionKind, hiproofKind, tacticKind, entryKind}
-use Rattle.format.specs.Shapes.{headerShape}
-use Rattle.format.specs.Headers.{headerAt}
 use Rattle.format.specs.States.{lowOf, highOf, fullOf, refusing, asking, counted, nextField, nextEntry, tableField, entryTaken, remainingTaken, listTaken, taken, endOf, behindTerm}
 use Rattle.format.specs.Waiting.{readingRoom, Waits, Going, weight, Enters, Turned}
 use Rattle.format.specs.Reading.{Reading, headerOf, settled, field, term, Step}

@@ -6,7 +6,7 @@ use native.Mathlib.Omega.{arith}
 use lib.Dec.{eqb}
 use Rattle.format.specs.Tags.{rows, findRow, rowOf, kindOf, leastOf, ruleKind, definitionKind}
 use Rattle.format.specs.Next.{lowest}
-use Rattle.format.proofs.TermTags.{tagsBetween, All, no-more, _&_, found-tag}
+use Rattle.format.proofs.TermTags.{tagsBetween, no-more, _&_, found-tag}
 
 -- the tags of a table's fields
 pub data TableTag : ℕ → Type 0 where

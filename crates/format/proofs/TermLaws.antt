@@ -13,7 +13,7 @@ use Rattle.format.specs.Limits.{mostTermFields}
 use Rattle.format.specs.Refusals.{number, lengthWrong}
 use Rattle.format.specs.Results.{Result, gives, refused, andThen, told}
 use Rattle.format.specs.Tags.{leastOf, innerOf, hiproofKind}
-use Rattle.format.specs.Headers.{Header, header, headerAt}
+use Rattle.format.specs.Headers.{Header, header}
 use Rattle.format.specs.Terms.{Term}
 use Rattle.format.specs.ReadTerms.{ParsedTerm, parsedTerm, closed, contents, termOf, readTerm}
 use Rattle.format.specs.Shapes.{headerShape, termShape, ending, Within}

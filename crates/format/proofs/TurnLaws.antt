@@ -1,7 +1,6 @@
 -- One turn within a term: a law for each return of `enter`, `leave` and `turn_within`.
 -- Assumes nothing.
 use mathlib.Core.Path.{_≡_, refl, sym, ap, subst, _∙_}
-use mathlib.Core.Bool.{Bool}
 use mathlib.Core.List.{List}
 use mathlib.Core.Logic.{_⊎_, inl, inr}
 use Prim.Native.Nat.{ℕ, zero, suc, _+_, _*_, _-_, _≤_, _<_}
@@ -13,7 +12,6 @@ use Rattle.words.specs.Word.{word, putWord}
 use Rattle.words.specs.Kept.{Kept}
 use Rattle.words.proofs.WordLaws.{length-putWord, word-same, word-other}
 use Rattle.words.proofs.KeptLaws.{kept-put, kept-both, kept-same}
-use Rattle.format.specs.declared.headers.HeaderRead.{HeaderRead}
 use Rattle.format.specs.declared.headers.HeaderRead.the-variants as H
 use Rattle.format.specs.TermRead.{TermRead, Refused, Read}
 use Rattle.format.specs.Limits.{mostTermFields}
@@ -21,15 +19,14 @@ use Rattle.format.specs.Refusals.{number}
 use Rattle.format.specs.Results.{gives}
 use Rattle.format.specs.Tags.{leastOf, innerOf, hiproofKind}
 use Rattle.format.specs.Headers.{header, headerAt}
-use Rattle.format.specs.ReadTerms.{readTerm}
-use Rattle.format.specs.Shapes.{headerShape, termShape, ending, Within}
+use Rattle.format.specs.Shapes.{headerShape, ending}
 use Rattle.format.proofs.HeaderLaws.{IsField, is-field}
 use Rattle.format.specs.declared.state.State.{State}
 use Rattle.format.specs.States.{refusing, stepped, endOf}
 use Rattle.format.specs.Waiting.{readingRoom, goOn, reads, closing, putWaiting, resumed, told, outcome, Waits, Going, weight, Held, Moved, Turned}
 use Rattle.format.proofs.Lengths.{short-field}
 use Rattle.format.proofs.TermLaws.{within}
-use Rattle.format.proofs.ShapeLaws.{reads-refused, reads-leaf, reads-inner, reads-any}
+use Rattle.format.proofs.ShapeLaws.{reads-refused, reads-leaf, reads-inner}
 use Rattle.format.proofs.WaitLaws.{resumed-refused, resumed-top, waits-top, waits-on, waits-lower, waits-inside, resumed-below, waits-below, waiting-kept, waiting-length, waiting-place, waiting-left}
 
 -- the outcome by the mode

@@ -20,11 +20,11 @@ use Rattle.format.specs.Headers.{headerAt}
 use Rattle.format.specs.Shapes.{headerShape}
 use Rattle.format.specs.States.{highOf, refusing, asking, counted, nextField, tableField, taken, endOf, behindTerm, blankState, begunTable}
 use Rattle.format.specs.Waiting.{readingRoom, reads, resumed, outcome, Held}
-use Rattle.format.specs.Reading.{Reading, headerOf, Step, Reaches, none, more}
+use Rattle.format.specs.Reading.{Reading, headerOf, Step, Reaches}
 use Rattle.format.proofs.AskLaws.{asks-field}
 use Rattle.format.proofs.StepCases.{TermStep, goes, stops, ends, field-step, term-step}
 use Rattle.format.proofs.BegunTable.{begun-table}
-use Rattle.format.proofs.ReachLaws.{reaches-reading}
+use Rattle.format.proofs.ReachLaws.{reaches-reading, holds-on}
 use Rattle.tables.specs.declared.fields.TableRead.{TableRead}
 use Rattle.tables.specs.declared.fields.TableRead.the-variants as R
 use Rattle.tables.specs.ReadTables.{readFields}
@@ -143,10 +143,9 @@ module _ (s w : List ℕ) (base : ℕ) (x : State) (r : Reading s w base x) (m :
 module _ (s : List ℕ) (base : ℕ) (w : List ℕ) (x : State) (r : Reading s w base x) (o : OfTable s x) where
   -- any number of turns
   reaches-means : (w′ : List ℕ) (y : State) → Reaches s base w x w′ y → Means s w′ base (meaning s w base x) y
-  reaches-means _ _ none = record { of-table = o; meaning-is = refl }
-  reaches-means _ _ (more v y w′ z earlier m step) =
-      let h = reaches-means v y earlier in
-      subst (λ (t : TableRead). Means s w′ base t z) (h .meaning-is) (step-means s v base y (reaches-reading s base w x v y earlier r) m (h .of-table) w′ z step)
+  reaches-means =
+      holds-on s base (λ v y. Means s v base (meaning s w base x) y) (λ v y w′ z h m step k. subst (λ (t : TableRead). Means s w′ base t z) (k .meaning-is) (step-means s v base y h m (k .of-table) w′ z step))
+      w x r (record { of-table = o; meaning-is = refl })
 
 -- a state in which nothing is left to read tells what it means
 told-last : (s w : List ℕ) (base : ℕ) (x : State) → OfTable s x → x .mode ≤ 2 → (x .mode ≡ 1 → ⊥) → toldTable x ≡ meaning s w base x

@@ -1,6 +1,5 @@
 -- `parts::is_full` meets its contract: the tests of the part say which case of `fullOf` holds.
 -- Assumes nothing.
-use native.Mathlib.Omega.{arith}
 use borrow.Author.Tests.{lt-ltb, le-ltb, eq-eqb, ne-eqb}
 use Rattle.format.specs.States.{fullOf}
 use Rattle.format.proofs.parts.is_full.Statement.{statement}

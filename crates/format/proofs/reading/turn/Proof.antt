@@ -1,6 +1,5 @@
 -- `reading::turn` meets its contract: the part says whether it is a field outside terms or a turn within one.
 -- Assumes nothing.
-use mathlib.Core.Path.{_≡_, refl, sym, _∙_}
 use Prim.Native.Nat.{_≤_}
 use native.Mathlib.Omega.{arith}
 use denote.Ref.{now}

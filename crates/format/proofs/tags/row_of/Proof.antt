@@ -1,7 +1,7 @@
 -- `tags::row_of` meets its contract: between two tests the number is computed in one way, which is tested at each tag there; a number past the last tag has no row.
 -- Assumes nothing.
 use mathlib.Core.Path.{sym}
-use Prim.Native.Nat.{ℕ, _-_}
+use Prim.Native.Nat.{_-_}
 use native.Mathlib.Omega.{arith}
 use borrow.Author.Needs.{needs}
 use Rattle.format.specs.Tags.{rows}

@@ -15,7 +15,7 @@ use Rattle.format.specs.Tags.{hiproofKind}
 use Rattle.format.specs.Headers.{header, headerAt}
 use Rattle.format.specs.Waiting.{Enters}
 use Rattle.format.proofs.HeaderLaws.{IsField, is-field, told-field}
-use Rattle.format.proofs.TurnLaws.{inside, gap-fits, enter-refused, enter-leaf, enter-inner}
+use Rattle.format.proofs.TurnLaws.{gap-fits, enter-refused, enter-leaf, enter-inner}
 use Rattle.format.proofs.waiting.enter.Statement.{statement}
 use Rattle.format.proofs.waiting.enter.Tie as tie
 use Rattle.format.proofs.waiting.enter.Reads as reads
