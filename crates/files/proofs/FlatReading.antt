@@ -15,7 +15,7 @@ use Rattle.format.specs.Tags.{entryKind}
 use Rattle.format.specs.Next.{fullFlat}
 use Rattle.format.specs.Headers.{headerAt}
 use Rattle.format.specs.Shapes.{headerShape}
-use Rattle.format.specs.States.{asking, counted, nextEntry, entryTaken, taken, begunFile}
+use Rattle.format.specs.States.{asking, counted, nextOf, nextEntry, entryTaken, taken, begunFile}
 use Rattle.format.specs.Waiting.{readingRoom}
 use Rattle.format.specs.Reading.{Reading, headerOf, Step, Reaches}
 use Rattle.format.proofs.HeaderLaws.{told-field}
@@ -47,7 +47,7 @@ module _ (s : List ℕ) where
 
   -- the next entry, or the end of the file
   next : (y : State) (at : ℕ) → whole ≡ entriesFrom y at → FlatState (nextEntry s y at)
-  unfolding nextEntry
+  unfolding nextOf
   next y at e = go (leb (length s) at) refl
     where
       go : (b : Bool) → leb (length s) at ≡ b → FlatState (cond b (asking y 2 1 at (length s)) (asking y 1 1 at (length s)))

@@ -8,8 +8,8 @@ use lib.ListN.{length}
 use Rattle.format.specs.States.{blankState, begunTable}
 use Rattle.format.specs.Waiting.{readingRoom}
 use Rattle.format.specs.Reading.{Reading}
-use Rattle.format.proofs.StepLaws.{fresh-field}
+use Rattle.format.proofs.StepLaws.{fresh-next}
 
 pub begun-table : (s w : List ℕ) (base : ℕ) → base + readingRoom ≤ length w → Reading s w base (begunTable s)
 unfolding begunTable blankState
-begun-table s w base room = fresh-field s w base room (blankState 2) 0 refl (omega arith) (omega arith) (omega arith) .0
+begun-table s w base room = fresh-next s w base room (blankState 2) 0 refl (omega arith) (omega arith) 2 (omega arith) (omega arith) .0

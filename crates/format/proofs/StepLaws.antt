@@ -15,7 +15,7 @@ use Rattle.format.specs.declared.headers.HeaderRead.the-variants as H
 use Rattle.format.specs.declared.state.State.{State}
 use Rattle.format.specs.Limits.{mostGoals}
 use Rattle.format.specs.Refusals.{number, lengthWrong, limitPassed}
-use Rattle.format.specs.States.{lowOf, highOf, fullOf, refusing, asking, counted, nextField, nextEntry, tableField, entryTaken, remainingTaken, listTaken, taken, endOf, behindTerm}
+use Rattle.format.specs.States.{lowOf, highOf, fullOf, refusing, asking, counted, nextOf, nextField, nextEntry, tableField, entryTaken, remainingTaken, listTaken, taken, endOf, behindTerm}
 use Rattle.format.specs.Waiting.{readingRoom, Waits, Going, weight, Enters, Turned}
 use Rattle.format.specs.Reading.{Reading, headerOf, settled, field, term, Step}
 use Rattle.format.specs.Reader.{Encloses}
@@ -61,21 +61,13 @@ module _ (s w : List ℕ) (base : ℕ) (room : base + readingRoom ≤ length w) 
       omega (arith, d, m),
     )
 
-    pub fresh-field : at ≤ length s → Fresh at (nextField s x at)
-    unfolding nextField
-    fresh-field l = go (leb (length s) at) refl
+    pub fresh-next : (part : ℕ) → part < 6 → at ≤ length s → Fresh at (nextOf s x part at)
+    unfolding nextOf
+    fresh-next part p l = go (leb (length s) at) refl
       where
-        go : (t : Bool) → leb (length s) at ≡ t → Fresh at (cond t (asking x 2 2 at (length s)) (asking x 1 2 at (length s)))
-        go true e = fresh 2 2 (length s) (omega arith) l (omega arith) (λ z. refl) (λ z. absurd (omega arith)) (λ z. absurd (omega arith)) (λ z n. absurd (omega arith))
-        go false e = fresh 1 2 (length s) (omega arith) l (omega arith) (λ z. refl) (λ z. absurd (omega arith)) (λ z. absurd (omega arith)) (λ z n. leb-false (length s) at e)
-
-    fresh-entry : at ≤ length s → Fresh at (nextEntry s x at)
-    unfolding nextEntry
-    fresh-entry l = go (leb (length s) at) refl
-      where
-        go : (t : Bool) → leb (length s) at ≡ t → Fresh at (cond t (asking x 2 1 at (length s)) (asking x 1 1 at (length s)))
-        go true e = fresh 2 1 (length s) (omega arith) l (omega arith) (λ z. refl) (λ z. absurd (omega arith)) (λ z n. absurd (omega arith)) (λ z. absurd (omega arith))
-        go false e = fresh 1 1 (length s) (omega arith) l (omega arith) (λ z. refl) (λ z. absurd (omega arith)) (λ z n. leb-false (length s) at e) (λ z. absurd (omega arith))
+        go : (t : Bool) → leb (length s) at ≡ t → Fresh at (cond t (asking x 2 part at (length s)) (asking x 1 part at (length s)))
+        go true e = fresh 2 part (length s) (omega arith) l (omega arith) (λ z. refl) (λ z. absurd (omega (arith, z, p))) (λ z n. absurd (omega arith)) (λ z n. absurd (omega arith))
+        go false e = fresh 1 part (length s) (omega arith) l (omega arith) (λ z. refl) (λ z. absurd (omega (arith, z, p))) (λ z n. leb-false (length s) at e) (λ z n. leb-false (length s) at e)
 
     pub fresh-list : (part : ℕ) → part < 6 → (part ≡ 1 → ⊥) → (part ≡ 2 → ⊥) → at ≤ length s → Fresh at (asking x 1 part at (length s))
     fresh-list part p i j l = fresh 1 part (length s) (omega arith) l (omega arith) (λ z. refl) (λ z. absurd (omega (arith, z, p))) (λ z. absurd (i z)) (λ z. absurd (j z))
@@ -133,7 +125,7 @@ module _ (s w : List ℕ) (base : ℕ) (x : State) (r : Reading s w base x) (m :
         two = let f = asks-field s x p in omega (arith, F .least, two-bytes (table-tag tag (omega (arith, F .above, f .0, lowest-least (x .second))) (omega (arith, F .below, f .1))))
 
         go : (t : Bool) → Good (cond t (nextField s (counted x (x .goals) (x .first + 1) (x .second) close (x .rest) (x .field)) close) (asking (counted x (x .goals) (x .first) (x .second) (x .from) (x .rest) (x .at)) 1 6 (x .at + 5) close))
-        go true = from-fresh close _ (omega arith) closes (fresh-field s w base (r .going .room) (counted x (x .goals) (x .first + 1) (x .second) close (x .rest) (x .field)) close none-waits (omega (arith, r .counts)) (omega (arith, r .counts)) closes)
+        go true = from-fresh close _ (omega arith) closes (fresh-next s w base (r .going .room) (counted x (x .goals) (x .first + 1) (x .second) close (x .rest) (x .field)) close none-waits (omega (arith, r .counts)) (omega (arith, r .counts)) 2 (omega arith) closes)
         go false =
             from-fresh (x .at + 5) _ (omega arith) (omega (arith, two, closes))
             (fresh-term s w base (r .going .room) (counted x (x .goals) (x .first) (x .second) (x .from) (x .rest) (x .at)) (x .at + 5) none-waits (omega (arith, r .counts)) (omega (arith, r .counts)) 6 close (omega arith) (omega (arith, two)) closes (λ z. (omega (arith, F .the-length, closes), omega (arith, r .counts))))
@@ -143,8 +135,8 @@ module _ (s w : List ℕ) (base : ℕ) (x : State) (r : Reading s w base x) (m :
     entry-good p = go (eqb tag 32)
       where
         go : (t : Bool) → Good (cond t (nextEntry s (counted x (x .goals) (x .first + 1) (x .second) (x .from) (x .rest) (x .field)) close) (nextEntry s (counted x (x .goals) (x .first) (x .second + 1) (x .from) (x .rest) (x .field)) close))
-        go true = from-fresh close _ (omega arith) closes (fresh-entry s w base (r .going .room) _ close none-waits (omega (arith, r .counts)) (omega (arith, r .counts)) closes)
-        go false = from-fresh close _ (omega arith) closes (fresh-entry s w base (r .going .room) _ close none-waits (omega (arith, r .counts)) (omega (arith, r .counts)) closes)
+        go true = from-fresh close _ (omega arith) closes (fresh-next s w base (r .going .room) _ close none-waits (omega (arith, r .counts)) (omega (arith, r .counts)) 1 (omega arith) closes)
+        go false = from-fresh close _ (omega arith) closes (fresh-next s w base (r .going .room) _ close none-waits (omega (arith, r .counts)) (omega (arith, r .counts)) 1 (omega arith) closes)
 
     remaining-good : (n : ℕ) → n ≤ close → Good (remainingTaken x n close)
     unfolding remainingTaken weight
@@ -174,7 +166,7 @@ module _ (s w : List ℕ) (base : ℕ) (x : State) (r : Reading s w base x) (m :
         go : (b c d e : Bool) → Good (cond b (refusing x (number limitPassed) (x .at)) (cond c (remainingTaken x n close) (cond d (nextEntry s y close) (cond e (asking y 1 7 close (x .end)) (asking y 1 8 close (x .end))))))
         go true c d e = refused-good _ _
         go false true d e = remaining-good n h
-        go false false true e = from-fresh close _ (omega arith) closes (fresh-entry s w base (r .going .room) y close none-waits (omega (arith, r .counts)) (omega (arith, r .counts)) closes)
+        go false false true e = from-fresh close _ (omega arith) closes (fresh-next s w base (r .going .room) y close none-waits (omega (arith, r .counts)) (omega (arith, r .counts)) 1 (omega arith) closes)
         go false false false true =
             from-fresh close _ (omega arith) closes
             (fresh-term s w base (r .going .room) y close none-waits (omega (arith, r .counts)) (omega (arith, r .counts)) 7 (x .end) (omega arith) (F .contents) (omega (arith, whole-file)) (λ z. absurd (omega arith)))
@@ -253,7 +245,7 @@ module _ (s w : List ℕ) (base : ℕ) (x : State) (r : Reading s w base x) (m :
           go : (b c d e : Bool) → eqb (y .part) 6 ≡ b
               → Good′ (cond b (cond d (nextField s (counted y (y .goals) (y .first) (y .second + 1) (y .from) (y .rest) (y .field)) (y .at)) (refusing y (number lengthWrong) (y .field)))
               (cond c (cond e y (refusing y (number lengthWrong) (y .at))) (asking (counted y (y .goals) (y .first) (y .second) (y .from) (y .at) (y .field)) 1 5 (y .at) (length s))))
-          go true c true e p = from-behind _ (fresh-field s w′ base (t .moved .going .room) (counted y (y .goals) (y .first) (y .second + 1) (y .from) (y .rest) (y .field)) (y .at) (t .bare n) (counted-less .0) (omega (arith, in-body (eqb-true (y .part) 6 p) .1)) inside-file)
+          go true c true e p = from-behind _ (fresh-next s w′ base (t .moved .going .room) (counted y (y .goals) (y .first) (y .second + 1) (y .from) (y .rest) (y .field)) (y .at) (t .bare n) (counted-less .0) (omega (arith, in-body (eqb-true (y .part) 6 p) .1)) 2 (omega arith) inside-file)
           go true c false e p = refused-behind _ _
           go false true d true p = (same-reading, t .moved .less)
           go false true d false p = refused-behind _ _

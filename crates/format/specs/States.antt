@@ -82,13 +82,16 @@ fullOf s x =
     (cond (eqb (x .part) fieldsPart) (fullTable s (x .at) (x .first) (x .second)) (cond (eqb (x .part) entriesPart) (fullFlat s (x .at) (x .first) (x .second)) false))
     (leb mostTermFields (x .fields))
 
--- the next field of a table is read at a place, or the file ends there
-unfoldable pub nextField : List ℕ → State → (at : ℕ) → State
-nextField s x at = cond (leb (length s) at) (asking x modeGave fieldsPart at (length s)) (asking x modeReads fieldsPart at (length s))
+-- the next field of a part that has any number of fields is read at a place, or the file ends there
+unfoldable pub nextOf : List ℕ → State → (part at : ℕ) → State
+nextOf s x part at = cond (leb (length s) at) (asking x modeGave part at (length s)) (asking x modeReads part at (length s))
 
--- the next entry is read at a place, or the file ends there
-unfoldable pub nextEntry : List ℕ → State → (at : ℕ) → State
-nextEntry s x at = cond (leb (length s) at) (asking x modeGave entriesPart at (length s)) (asking x modeReads entriesPart at (length s))
+-- of a table, and of a flat file
+abbrev pub nextField : List ℕ → State → (at : ℕ) → State
+nextField s x at = nextOf s x fieldsPart at
+
+abbrev pub nextEntry : List ℕ → State → (at : ℕ) → State
+nextEntry s x at = nextOf s x entriesPart at
 
 -- behind a rule, or in the body of a definition
 unfoldable pub tableField : List ℕ → State → (tag close : ℕ) → State

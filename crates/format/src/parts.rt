@@ -4,7 +4,7 @@ ghost use Prim.Native.Nat.{_+_, _≤_, _<_};
 ghost use lib.ListN.{length};
 ghost use Rattle.format.specs.Next.{fullTable, fullFlat};
 ghost use Rattle.format.specs.Reader.{Encloses};
-ghost use Rattle.format.specs.States.{entriesPart, fieldsPart, bodyPart, lowOf, highOf, fullOf, nextField, nextEntry, tableField, entryTaken, remainingTaken, listTaken, taken, behindTerm, blankState, begunFile, begunTable};
+ghost use Rattle.format.specs.States.{entriesPart, fieldsPart, bodyPart, lowOf, highOf, fullOf, nextOf, tableField, entryTaken, remainingTaken, listTaken, taken, behindTerm, blankState, begunFile, begunTable};
 use crate::headers::HeaderRead;
 use crate::state::BODY;
 use crate::state::ENTRIES;
@@ -123,26 +123,15 @@ pub fn is_full(x: State, s: &[u8]) -> bool
     MOST_TERM_FIELDS <= x.fields
 }
 
-// The next field of a table is read at a place, or the file ends there.
-fn next_field(x: State, at: usize, s: &[u8]) -> State
-    ensures { λ r. ⌜ r ≡ nextField (now (s .entry)) x at ⌝ }
+// The next field of a part that has any number of fields is read at a place, or the file ends there.
+fn next_of(x: State, part: u8, at: usize, s: &[u8]) -> State
+    ensures { λ r. ⌜ r ≡ nextOf (now (s .entry)) x part at ⌝ }
 {
     let end = s.len();
     if end <= at {
-        return asking(x, GAVE, FIELDS, at, end);
+        return asking(x, GAVE, part, at, end);
     }
-    asking(x, READS, FIELDS, at, end)
-}
-
-// The next entry is read at a place, or the file ends there.
-fn next_entry(x: State, at: usize, s: &[u8]) -> State
-    ensures { λ r. ⌜ r ≡ nextEntry (now (s .entry)) x at ⌝ }
-{
-    let end = s.len();
-    if end <= at {
-        return asking(x, GAVE, ENTRIES, at, end);
-    }
-    asking(x, READS, ENTRIES, at, end)
+    asking(x, READS, part, at, end)
 }
 
 // A rule, or a definition, whose body is read next.
@@ -152,7 +141,7 @@ fn table_field(x: State, tag: u8, close: usize, s: &[u8]) -> State
 {
     if tag == RULE_TAG {
         let r = counted(x, x.goals, x.first + 1, x.second, close, x.rest, x.field);
-        return next_field(r, close, s);
+        return next_of(r, FIELDS, close, s);
     }
     let r = counted(x, x.goals, x.first, x.second, x.from, x.rest, x.at);
     asking(r, READS, BODY, x.at + 5, close)
@@ -165,10 +154,10 @@ fn entry(x: State, tag: u8, close: usize, s: &[u8]) -> State
 {
     if tag == USE_TAG {
         let r = counted(x, x.goals, x.first + 1, x.second, x.from, x.rest, x.field);
-        return next_entry(r, close, s);
+        return next_of(r, ENTRIES, close, s);
     }
     let r = counted(x, x.goals, x.first, x.second + 1, x.from, x.rest, x.field);
-    next_entry(r, close, s)
+    next_of(r, ENTRIES, close, s)
 }
 
 // The list of those remaining ends a proof file: nothing may be left behind it.
@@ -194,7 +183,7 @@ fn goal_list(x: State, count: usize, close: usize, s: &[u8]) -> State
     }
     let r = counted(x, count, x.first, x.second, close, x.rest, x.field);
     if x.part == ROOTS {
-        return next_entry(r, close, s);
+        return next_of(r, ENTRIES, close, s);
     }
     if x.part == JOB_GOALS {
         return asking(r, READS, JOB_TERM, close, x.end);
@@ -233,7 +222,7 @@ pub fn behind_term(x: State, s: &[u8]) -> State
             return refused(x, 4, x.field);
         }
         let r = counted(x, x.goals, x.first, x.second + 1, x.from, x.rest, x.field);
-        return next_field(r, x.at, s);
+        return next_of(r, FIELDS, x.at, s);
     }
     if x.part == JOB_TERM {
         if x.at != end {
@@ -286,5 +275,5 @@ pub fn begin_table(s: &[u8]) -> State
     ensures { λ r. ⌜ r ≡ begunTable (now (s .entry)) ⌝ }
 {
     let x = blank(FIELDS);
-    next_field(x, 0, s)
+    next_of(x, FIELDS, 0, s)
 }

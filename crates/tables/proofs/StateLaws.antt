@@ -18,7 +18,7 @@ use Rattle.format.specs.Tags.{definitionKind, tacticKind}
 use Rattle.format.specs.Next.{fullTable, lowest}
 use Rattle.format.specs.Headers.{headerAt}
 use Rattle.format.specs.Shapes.{headerShape}
-use Rattle.format.specs.States.{highOf, refusing, asking, counted, nextField, tableField, taken, endOf, behindTerm, blankState, begunTable}
+use Rattle.format.specs.States.{highOf, refusing, asking, counted, nextOf, nextField, tableField, taken, endOf, behindTerm, blankState, begunTable}
 use Rattle.format.specs.Waiting.{readingRoom, reads, resumed, outcome, Held}
 use Rattle.format.specs.Reading.{Reading, headerOf, Step, Reaches}
 use Rattle.format.proofs.AskLaws.{asks-field}
@@ -59,7 +59,7 @@ module _ (s w : List ℕ) (base : ℕ) where
   refused-means x k p o = record { of-table = record { parts = o .parts; rules-end = o .rules-end; all-read = λ z. absurd (omega arith) }; meaning-is = refl }
 
   next-means : (x : State) (at : ℕ) → (x .second ≡ 0 → x .from ≡ at) → Means (tableAt s (x .first) (x .second) (x .from) at (x .fields)) (nextField s x at)
-  unfolding nextField meaning
+  unfolding nextOf meaning
   next-means x at f = go (leb (length s) at) refl
     where
       go : (t : Bool) → leb (length s) at ≡ t

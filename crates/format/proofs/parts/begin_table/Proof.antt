@@ -8,12 +8,12 @@ use Rattle.format.proofs.parts.begin_table.Tie as tie
 blank-requires : tie.Need-blank-requires
 blank-requires c κs = search needs
 
-next-field-requires : tie.Need-next-field-requires
-next-field-requires c κs = search needs
+next-of-requires : tie.Need-next-of-requires
+next-of-requires c κs = search needs
 
 returns : tie.Need-returns
 unfolding begunTable
-returns c = rw (c .next-field .ensures, c .before .blank .ensures)
+returns c = rw (c .next-of .ensures, c .before .blank .ensures)
 
 pub begin-table-spec : {M : Type 1} → statement M
-begin-table-spec = tie.close (tie.spec blank-requires next-field-requires returns)
+begin-table-spec = tie.close (tie.spec blank-requires next-of-requires returns)

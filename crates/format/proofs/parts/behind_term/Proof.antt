@@ -44,14 +44,14 @@ add-counted c = search needs
 counted-requires : tie.Need-counted-requires
 counted-requires c κs = search needs
 
-next-field-requires : tie.Need-next-field-requires
-next-field-requires c κs = search needs
+next-of-requires : tie.Need-next-of-requires
+next-of-requires c κs = search needs
 
 returns-2 : tie.Need-returns-2
 unfolding behindTerm endOf
 returns-2 c =
     let a = c .before .before .before .before .before .before .before .before .before .before .before .args in
-    rw (eq-eqb _ _ (c .before .before .before .before .before .before .before .before .if1 .taken), eq-eqb (a .x .at) (a .x .field + 3 + word (now (a .s)) (a .x .field + 1)) (omega (arith, c .before .before .before .if2 .left, c .before .before .before .before .before .load16 .ensures)), ← c .before .counted .ensures) (c .next-field .ensures)
+    rw (eq-eqb _ _ (c .before .before .before .before .before .before .before .before .if1 .taken), eq-eqb (a .x .at) (a .x .field + 3 + word (now (a .s)) (a .x .field + 1)) (omega (arith, c .before .before .before .if2 .left, c .before .before .before .before .before .load16 .ensures)), ← c .before .counted .ensures) (c .next-of .ensures)
 
 refused-requires-2 : tie.Need-refused-requires-2
 refused-requires-2 c κs = search needs
@@ -77,4 +77,4 @@ returns-5 c =
     rw (ne-eqb _ _ (c .before .before .before .before .if1 .left), ne-eqb _ _ (c .before .before .if3 .left)) (c .asking .ensures ∙ ap (λ (y : State). asking y 1 5 (a .x .at) (length (now (a .s)))) (c .before .counted2 .ensures))
 
 pub behind-term-spec : {M : Type 1} → statement M
-behind-term-spec = tie.close (tie.spec add-if2 add-load16 load16-requires cast-if2 add-if2-2 refused-requires returns add-counted counted-requires next-field-requires returns-2 refused-requires-2 returns-3 returns-4 counted-requires-2 asking-requires returns-5)
+behind-term-spec = tie.close (tie.spec add-if2 add-load16 load16-requires cast-if2 add-if2-2 refused-requires returns add-counted counted-requires next-of-requires returns-2 refused-requires-2 returns-3 returns-4 counted-requires-2 asking-requires returns-5)

@@ -13,12 +13,12 @@ add-counted c = search needs
 counted-requires : tie.Need-counted-requires
 counted-requires c κs = search needs
 
-next-entry-requires : tie.Need-next-entry-requires
-next-entry-requires c κs = search needs
+next-of-requires : tie.Need-next-of-requires
+next-of-requires c κs = search needs
 
 returns : tie.Need-returns
 unfolding entryTaken
-returns c = rw (eq-eqb (c .before .before .before .before .before .args .tag) 32 (omega (arith, c .before .before .before .if1 .taken)), ← c .before .counted .ensures) (c .next-entry .ensures)
+returns c = rw (eq-eqb (c .before .before .before .before .before .args .tag) 32 (omega (arith, c .before .before .before .if1 .taken)), ← c .before .counted .ensures) (c .next-of .ensures)
 
 add-counted-2 : tie.Need-add-counted-2
 add-counted-2 c = search needs
@@ -26,12 +26,12 @@ add-counted-2 c = search needs
 counted-requires-2 : tie.Need-counted-requires-2
 counted-requires-2 c κs = search needs
 
-next-entry-requires-2 : tie.Need-next-entry-requires-2
-next-entry-requires-2 c κs = search needs
+next-of-requires-2 : tie.Need-next-of-requires-2
+next-of-requires-2 c κs = search needs
 
 returns-2 : tie.Need-returns-2
 unfolding entryTaken
-returns-2 c = rw (ne-eqb _ _ (c .before .before .before .if1 .left), ← c .before .counted2 .ensures) (c .next-entry2 .ensures)
+returns-2 c = rw (ne-eqb _ _ (c .before .before .before .if1 .left), ← c .before .counted2 .ensures) (c .next-of2 .ensures)
 
 pub entry-spec : {M : Type 1} → statement M
-entry-spec = tie.close (tie.spec add-counted counted-requires next-entry-requires returns add-counted-2 counted-requires-2 next-entry-requires-2 returns-2)
+entry-spec = tie.close (tie.spec add-counted counted-requires next-of-requires returns add-counted-2 counted-requires-2 next-of-requires-2 returns-2)

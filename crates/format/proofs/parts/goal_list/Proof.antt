@@ -37,12 +37,12 @@ returns-2 c = rw (few (c .before .before .before), eq-eqb _ _ (c .before .if2 .t
 counted-requires : tie.Need-counted-requires
 counted-requires c κs = search needs
 
-next-entry-requires : tie.Need-next-entry-requires
-next-entry-requires c κs = search needs
+next-of-requires : tie.Need-next-of-requires
+next-of-requires c κs = search needs
 
 returns-3 : tie.Need-returns-3
 unfolding listTaken
-returns-3 c = rw (few (c .before .before .before .before .before .before), ne-eqb _ _ (c .before .before .before .before .if2 .left), eq-eqb _ _ (c .before .if3 .taken), ← c .before .before .before .counted .ensures) (c .next-entry .ensures)
+returns-3 c = rw (few (c .before .before .before .before .before .before), ne-eqb _ _ (c .before .before .before .before .if2 .left), eq-eqb _ _ (c .before .if3 .taken), ← c .before .before .before .counted .ensures) (c .next-of .ensures)
 
 asking-requires : tie.Need-asking-requires
 asking-requires c κs = search needs
@@ -65,4 +65,4 @@ returns-5 c =
     (c .asking2 .ensures ∙ ap (λ (y : State). asking y 1 8 (a .close) (a .x .end)) (c .before .before .before .before .before .counted .ensures))
 
 pub goal-list-spec : {M : Type 1} → statement M
-goal-list-spec = tie.close (tie.spec refused-requires returns remaining-requires returns-2 counted-requires next-entry-requires returns-3 asking-requires returns-4 asking-requires-2 returns-5)
+goal-list-spec = tie.close (tie.spec refused-requires returns remaining-requires returns-2 counted-requires next-of-requires returns-3 asking-requires returns-4 asking-requires-2 returns-5)

@@ -15,12 +15,12 @@ add-counted c = search needs
 counted-requires : tie.Need-counted-requires
 counted-requires c κs = search needs
 
-next-field-requires : tie.Need-next-field-requires
-next-field-requires c κs = search needs
+next-of-requires : tie.Need-next-of-requires
+next-of-requires c κs = search needs
 
 returns : tie.Need-returns
 unfolding tableField
-returns c = rw (eq-eqb _ _ (c .before .before .before .if1 .taken), ← c .before .counted .ensures) (c .next-field .ensures)
+returns c = rw (eq-eqb _ _ (c .before .before .before .if1 .taken), ← c .before .counted .ensures) (c .next-of .ensures)
 
 counted-requires-2 : tie.Need-counted-requires-2
 counted-requires-2 c κs = search needs
@@ -38,4 +38,4 @@ returns-2 c =
     rw (ne-eqb _ _ (c .before .before .before .if1 .left)) (c .asking .ensures ∙ ap (λ (y : State). asking y 1 6 (a .x .at + 5) (a .close)) (c .before .before .counted2 .ensures))
 
 pub table-field-spec : {M : Type 1} → statement M
-table-field-spec = tie.close (tie.spec add-counted counted-requires next-field-requires returns counted-requires-2 add-asking asking-requires returns-2)
+table-field-spec = tie.close (tie.spec add-counted counted-requires next-of-requires returns counted-requires-2 add-asking asking-requires returns-2)
