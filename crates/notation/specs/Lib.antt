@@ -1,0 +1,9 @@
+pub mod Letters
+pub mod Marks
+pub mod Grammar
+pub mod Written
+pub mod FromRight
+pub mod Scans
+pub mod Passing
+pub mod Meets
+pub mod Parse

@@ -1,0 +1,24 @@
+use borrow.Author.Tests.{eq-eqb, ne-eqb, lt-ltb, le-ltb, le-leb, lt-leb}
+use Rattle.text_reader.specs.Held.{rankTag}
+use Rattle.text_reader.proofs.term.rank_of.Statement.{statement}
+use Rattle.text_reader.proofs.term.rank_of.Tie as tie
+use Rattle.text_reader.proofs.term.rank_of.Reads as reads
+use Rattle.text_reader.proofs.term.rank_of.Lts as lts
+
+-- src/term.rt:44:9
+returns : tie.Need-returns
+unfolding rankTag
+returns c = simp (eq-eqb _ _ (c .if1 .taken))
+
+-- src/term.rt:47:9
+returns-2 : tie.Need-returns-2
+unfolding rankTag
+returns-2 c = simp (ne-eqb _ _ (c .before .if1 .left), eq-eqb _ _ (c .if2 .taken))
+
+-- src/term.rt:40:1
+returns-3 : tie.Need-returns-3
+unfolding rankTag
+returns-3 c = simp (ne-eqb _ _ (c .before .if1 .left), ne-eqb _ _ (c .if2 .left))
+
+pub rank-of-spec : {M : Type 1} → statement M
+rank-of-spec = tie.close (tie.spec returns returns-2 returns-3)
