@@ -17,7 +17,8 @@ use Rattle.format.specs.Terms.{Term, fields, size}
 use Rattle.format.specs.Encoding.{TermValues}
 use Rattle.notation.specs.Scans.{Scan}
 use Rattle.notation.specs.Grammar.{ReadsAs}
-use Rattle.notation.specs.FromRight.{termOf, fromRight}
+use Rattle.notation.specs.MarksIn.{marksIn}
+use Rattle.notation.specs.FromRight.{stateOf, termOf}
 use Rattle.notation.specs.Meets.{Viable, Large, Full, Wrong, Fits}
 use Rattle.notation.specs.Scans.{start, scan}
 use Rattle.notation.specs.Parse.{termFound, parse}
@@ -85,36 +86,36 @@ pub reads-text : (s : List ℕ) (t : Term) → length s ≤ mostBytes → ReadsA
 unfolding parse andThen termFound
 reads-text s t h r v f =
     let x = fits-scan (record { term = t; reads = r; values = v; few = f }) in
-    sized s _ h ∙ ap (λ (y : Result Scan). andThen y (λ σ. termFound (length s) (termOf (fromRight s)))) (x .1) ∙ ap (termFound (length s)) (text-term r)
+    sized s _ h ∙ ap (λ (y : Result Scan). andThen y (λ σ. termFound (length s) (termOf (stateOf (marksIn s))))) (x .1) ∙ ap (termFound (length s)) (text-term r)
 
 pub text-reads : (s : List ℕ) (t : Term) → parse s ≡ gives t → (length s ≤ mostBytes) × ReadsAs s t × TermValues t × (fields t ≤ mostTermFields)
 unfolding parse andThen termFound
 text-reads s t e = size-go (ltb mostBytes (length s)) refl e
   where
-    found : (f : Fits s) (o : Option Term) → termOf (fromRight s) ≡ o → termFound (length s) o ≡ gives t → f .term ≡ t
+    found : (f : Fits s) (o : Option Term) → termOf (stateOf (marksIn s)) ≡ o → termFound (length s) o ≡ gives t → f .term ≡ t
     found f none p q = let z : _≡_ {A = ℕ} 0 1 = cc in absurd (omega arith)
     found f (some u) p q = let a = text-term (f .reads) in cc
 
-    go : (y : Result Scan) → Told s y → andThen y (λ σ. termFound (length s) (termOf (fromRight s))) ≡ gives t → ReadsAs s t × TermValues t × (fields t ≤ mostTermFields)
-    go (gives σ) x q = let f = x .fits in subst (λ (u : Term). ReadsAs s u × TermValues u × (fields u ≤ mostTermFields)) (found f (termOf (fromRight s)) refl q) (f .reads, f .values, f .few)
+    go : (y : Result Scan) → Told s y → andThen y (λ σ. termFound (length s) (termOf (stateOf (marksIn s)))) ≡ gives t → ReadsAs s t × TermValues t × (fields t ≤ mostTermFields)
+    go (gives σ) x q = let f = x .fits in subst (λ (u : Term). ReadsAs s u × TermValues u × (fields u ≤ mostTermFields)) (found f (termOf (stateOf (marksIn s))) refl q) (f .reads, f .values, f .few)
     go (refused c p) x q = let z : _≡_ {A = ℕ} 0 1 = cc in absurd (omega arith)
 
-    size-go : (c : Bool) → ltb mostBytes (length s) ≡ c → cond c (refused inputTooLong 0) (andThen (scan start 0 s) (λ σ. termFound (length s) (termOf (fromRight s)))) ≡ gives t → (length s ≤ mostBytes) × ReadsAs s t × TermValues t × (fields t ≤ mostTermFields)
+    size-go : (c : Bool) → ltb mostBytes (length s) ≡ c → cond c (refused inputTooLong 0) (andThen (scan start 0 s) (λ σ. termFound (length s) (termOf (stateOf (marksIn s))))) ≡ gives t → (length s ≤ mostBytes) × ReadsAs s t × TermValues t × (fields t ≤ mostTermFields)
     size-go true h q = let z : _≡_ {A = ℕ} 0 1 = cc in absurd (omega arith)
     size-go false h q = let x = go (scan start 0 s) (text-told s) q in (ltb-false mostBytes (length s) h, x .0, x .1, x .2)
 
 -- 36, 37 and 5 of the reading: exactly where they are met
 pub reads-large : (s : List ℕ) (p : ℕ) → length s ≤ mostBytes → Large s p → parse s ≡ refused valueTooLarge p
 unfolding parse andThen
-reads-large s p h x = sized s _ h ∙ ap (λ (y : Result Scan). andThen y (λ σ. termFound (length s) (termOf (fromRight s)))) (large-scan x)
+reads-large s p h x = sized s _ h ∙ ap (λ (y : Result Scan). andThen y (λ σ. termFound (length s) (termOf (stateOf (marksIn s))))) (large-scan x)
 
 pub reads-full : (s : List ℕ) (p : ℕ) → length s ≤ mostBytes → Full s p → parse s ≡ refused limitPassed p
 unfolding parse andThen
-reads-full s p h x = sized s _ h ∙ ap (λ (y : Result Scan). andThen y (λ σ. termFound (length s) (termOf (fromRight s)))) (full-scan x)
+reads-full s p h x = sized s _ h ∙ ap (λ (y : Result Scan). andThen y (λ σ. termFound (length s) (termOf (stateOf (marksIn s))))) (full-scan x)
 
 pub reads-wrong : (s : List ℕ) (p : ℕ) → length s ≤ mostBytes → Wrong s p → ((q : ℕ) → Large s q → ⊥) → ((q : ℕ) → Full s q → ⊥) → parse s ≡ refused textWrong p
 unfolding parse andThen
-reads-wrong s p h x a b = sized s _ h ∙ ap (λ (y : Result Scan). andThen y (λ σ. termFound (length s) (termOf (fromRight s)))) (wrong-scan x a b)
+reads-wrong s p h x a b = sized s _ h ∙ ap (λ (y : Result Scan). andThen y (λ σ. termFound (length s) (termOf (stateOf (marksIn s))))) (wrong-scan x a b)
 
 pub text-refused : (s : List ℕ) (c : Cause) (p : ℕ) → length s ≤ mostBytes → parse s ≡ refused c p → Verdict s c p
 unfolding parse andThen termFound
@@ -123,6 +124,6 @@ text-refused s c p h e = go (scan start 0 s) (text-told s) (sym (sized s _ h) �
     same : {a b : Cause} {i j : ℕ} → _≡_ {A = Result Term} (refused a i) (refused b j) → Verdict s a i → Verdict s b j
     same {a} {b} {i} {j} q v = let x : a ≡ b = cc in let y : i ≡ j = cc in subst (λ (k : Cause). Verdict s k j) x (subst (λ (k : ℕ). Verdict s a k) y v)
 
-    go : (y : Result Scan) → Told s y → andThen y (λ σ. termFound (length s) (termOf (fromRight s))) ≡ refused c p → Verdict s c p
+    go : (y : Result Scan) → Told s y → andThen y (λ σ. termFound (length s) (termOf (stateOf (marksIn s)))) ≡ refused c p → Verdict s c p
     go (gives σ) x q = let f = text-term (x .fits .reads) in let z : _≡_ {A = Result Term} (gives (x .fits .term)) (refused c p) = ap (termFound (length s)) (sym f) ∙ q in let k : _≡_ {A = ℕ} 0 1 = cc in absurd (omega arith)
     go (refused a i) x q = same q x

@@ -14,7 +14,8 @@ use Rattle.notation.specs.Letters.{IsDigit, isDigit}
 use Rattle.notation.specs.Marks.{Sign, semicolon, bar, star, Leaf, ruleLeaf, idLeaf, emptyLeaf, goalLeaf, tacticLeaf, Mark, leaf, labelMark, sign, opening, closing, Digits, no-more, more, Number, number, Spells, rule, identity, nothing, assertion, tactic, labelling, between, opens, closes, Spelled, ends, blanked, marked}
 use Rattle.notation.specs.Grammar.{ReadsAs}
 use Rattle.notation.specs.Meets.{NoDigit}
-use Rattle.notation.specs.FromRight.{State, due, had, stuck, onMark, stateOf, termOf, numberIn, markAt, onByte, fromRight}
+use Rattle.notation.specs.MarksIn.{numberIn, markAt, withMark, marksIn}
+use Rattle.notation.specs.FromRight.{stateOf, termOf}
 use Rattle.notation.proofs.FromRightLaws.{reads-term}
 
 pub digit-yes : (b : ℕ) → IsDigit b → isDigit b ≡ true
@@ -67,45 +68,45 @@ unfolding markAt
 digit-none b s d =
     rw (ne-eqb b 97 (omega arith), ne-eqb b 105 (omega arith), ne-eqb b 91 (omega arith), ne-eqb b 59 (omega arith), ne-eqb b 124 (omega arith), ne-eqb b 42 (omega arith), ne-eqb b 60 (omega arith), ne-eqb b 63 (omega arith), ne-eqb b 84 (omega arith), ne-eqb b 40 (omega arith), ne-eqb b 41 (omega arith))
 
-digits-skipped : {v n : ℕ} {ds : List ℕ} → Digits v ds n → (s : List ℕ) → fromRight (ds ++ s) ≡ fromRight s
-unfolding fromRight onByte
+pub digits-skipped : {v n : ℕ} {ds : List ℕ} → Digits v ds n → (s : List ℕ) → marksIn (ds ++ s) ≡ marksIn s
+unfolding marksIn withMark
 digits-skipped no-more s = refl
-digits-skipped (more {b = b} {ds = ds} d p) s = ap (λ (o : Option Mark). onByte o (fromRight (ds ++ s))) (digit-none b (ds ++ s) d) ∙ digits-skipped p s
+digits-skipped (more {b = b} {ds = ds} d p) s = ap (λ (o : Option Mark). withMark o (marksIn (ds ++ s))) (digit-none b (ds ++ s) d) ∙ digits-skipped p s
 
-number-skipped : {n : ℕ} {ds : List ℕ} → Number ds n → (s : List ℕ) → fromRight (ds ++ s) ≡ fromRight s
-unfolding fromRight onByte
-number-skipped (number {b = b} {ds = ds} d p) s = ap (λ (o : Option Mark). onByte o (fromRight (ds ++ s))) (digit-none b (ds ++ s) d) ∙ digits-skipped p s
+pub number-skipped : {n : ℕ} {ds : List ℕ} → Number ds n → (s : List ℕ) → marksIn (ds ++ s) ≡ marksIn s
+unfolding marksIn withMark
+number-skipped (number {b = b} {ds = ds} d p) s = ap (λ (o : Option Mark). withMark o (marksIn (ds ++ s))) (digit-none b (ds ++ s) d) ∙ digits-skipped p s
 
 -- a mark with a number, in front of what begins with no digit
-numbered-state : {n : ℕ} {ds : List ℕ} (f : ℕ → Mark) → Number ds n → (s : List ℕ) → NoDigit s → onMark (f (numberIn 0 (ds ++ s))) (fromRight (ds ++ s)) ≡ onMark (f n) (fromRight s)
-numbered-state {n} {ds} f p s h = ap (λ (v : ℕ). onMark (f v) (fromRight (ds ++ s))) (number-in p s h) ∙ ap (onMark (f n)) (number-skipped p s)
+numbered-marks : {n : ℕ} {ds : List ℕ} (f : ℕ → Mark) → Number ds n → (s : List ℕ) → NoDigit s → _≡_ {A = List Mark} (f (numberIn 0 (ds ++ s)) ∷ marksIn (ds ++ s)) (f n ∷ marksIn s)
+numbered-marks {n} {ds} f p s h = ap {B = List Mark} (λ v. f v ∷ marksIn (ds ++ s)) (number-in p s h) ∙ ap {B = List Mark} (λ l. f n ∷ l) (number-skipped p s)
 
-spells-state : {m : Mark} {w : List ℕ} → Spells m w → (s : List ℕ) → NoDigit s → fromRight (w ++ s) ≡ onMark m (fromRight s)
-unfolding fromRight onByte markAt isDigit
-spells-state (rule n) s h = numbered-state (λ v. leaf (ruleLeaf v)) n s h
-spells-state identity s h = refl
-spells-state nothing s h = refl
-spells-state (assertion n) s h = numbered-state (λ v. leaf (goalLeaf v)) n s h
-spells-state (tactic n) s h = numbered-state (λ v. leaf (tacticLeaf v)) n s h
-spells-state (labelling {n = n} {ds = ds} p) s h =
-    ap (λ (l : List ℕ). onMark (labelMark (numberIn 0 l)) (fromRight l)) (append-assoc ds (93 ∷ []) s)
-    ∙ numbered-state labelMark p (93 ∷ s) refl
-spells-state (between semicolon) s h = refl
-spells-state (between bar) s h = refl
-spells-state (between star) s h = refl
-spells-state opens s h = refl
-spells-state closes s h = refl
+spells-marks : {m : Mark} {w : List ℕ} → Spells m w → (s : List ℕ) → NoDigit s → marksIn (w ++ s) ≡ m ∷ marksIn s
+unfolding marksIn withMark markAt isDigit
+spells-marks (rule n) s h = numbered-marks (λ v. leaf (ruleLeaf v)) n s h
+spells-marks identity s h = refl
+spells-marks nothing s h = refl
+spells-marks (assertion n) s h = numbered-marks (λ v. leaf (goalLeaf v)) n s h
+spells-marks (tactic n) s h = numbered-marks (λ v. leaf (tacticLeaf v)) n s h
+spells-marks (labelling {n = n} {ds = ds} p) s h =
+    ap {B = List Mark} (λ (l : List ℕ). labelMark (numberIn 0 l) ∷ marksIn l) (append-assoc ds (93 ∷ []) s)
+    ∙ numbered-marks labelMark p (93 ∷ s) refl
+spells-marks (between semicolon) s h = refl
+spells-marks (between bar) s h = refl
+spells-marks (between star) s h = refl
+spells-marks opens s h = refl
+spells-marks closes s h = refl
 
--- the bytes of a text are read as its marks are
-pub spelled-state : {s : List ℕ} {ms : List Mark} → Spelled s ms → fromRight s ≡ stateOf ms
-unfolding fromRight onByte markAt stateOf
-spelled-state ends = refl
-spelled-state (blanked p) = spelled-state p
-spelled-state (marked {m = m} {s = s} w p) = spells-state w s (spelled-start p) ∙ ap (onMark m) (spelled-state p)
+-- the marks of a text are those that spell it
+pub spelled-marks : {s : List ℕ} {ms : List Mark} → Spelled s ms → marksIn s ≡ ms
+unfolding marksIn withMark markAt
+spelled-marks ends = refl
+spelled-marks (blanked p) = spelled-marks p
+spelled-marks (marked {m = m} {s = s} w p) = spells-marks w s (spelled-start p) ∙ ap {B = List Mark} (λ l. m ∷ l) (spelled-marks p)
 
 -- a text that reads as a term is read as that term
-pub text-term : {s : List ℕ} {t : Term} → ReadsAs s t → termOf (fromRight s) ≡ some t
-text-term r = ap termOf (spelled-state (r .spelled)) ∙ reads-term (r .read)
+pub text-term : {s : List ℕ} {t : Term} → ReadsAs s t → termOf (stateOf (marksIn s)) ≡ some t
+text-term r = ap (λ (ms : List Mark). termOf (stateOf ms)) (spelled-marks (r .spelled)) ∙ reads-term (r .read)
 
 -- "text that reads as a term has that reading only"
 pub one-reading : {s : List ℕ} {t u : Term} → ReadsAs s t → ReadsAs s u → t ≡ u

@@ -1,13 +1,12 @@
 -- P8: reading from the last mark to the first, with a stack of what waits to its left. Chains group to the right and a label reaches to the right,
 -- so that whatever a mark is to take has been read before it.
-use Prim.Native.Nat.{ℕ, _+_, _*_, _-_}
-use mathlib.Core.Bool.{Bool, true, false, cond}
+use Prim.Native.Nat.{ℕ}
+use mathlib.Core.Bool.{cond}
 use mathlib.Core.List.{List, [], _∷_}
 use mathlib.Core.Option.{Option, none, some}
-use lib.Dec.{eqb, leb}
+use lib.Dec.{leb}
 use Rattle.format.specs.Terms.{Term}
-use Rattle.notation.specs.Letters.{letterA, question, letterT, letterI, less, leftSquare, leftRound, rightRound, semicolonByte, barByte, starByte, isDigit}
-use Rattle.notation.specs.Marks.{Sign, semicolon, bar, star, Leaf, ruleLeaf, idLeaf, emptyLeaf, goalLeaf, tacticLeaf, Mark, leaf, labelMark, sign, opening, closing, leafTerm, labelTerm, join}
+use Rattle.notation.specs.Marks.{Sign, Mark, leaf, labelMark, sign, opening, closing, leafTerm, labelTerm, join}
 use Rattle.notation.specs.Written.{rank}
 
 -- a sign whose right part was read, or a closing bracket; the last met comes first
@@ -65,33 +64,3 @@ unfoldable pub termOf : State → Option Term
 termOf (due fs) = none
 termOf (had t fs) = wholeOf (reducedTerm 0 t fs) (reducedFrames 0 fs)
 termOf stuck = none
-
--- the value of the digits that stand first, behind a front of that value
-unfoldable pub numberIn : (front : ℕ) → List ℕ → ℕ
-numberIn v [] = v
-numberIn v (b ∷ s) = let n = numberIn (v * 10 + (b - 48)) s in cond (isDigit b) n v
-
--- The mark that a byte begins, with what follows it. Every mark has a first byte that stands nowhere else; digits, blanks, `d`, `>` and `]` begin none.
-unfoldable pub markAt : ℕ → List ℕ → Option Mark
-markAt b s =
-    cond (eqb b letterA) (some (leaf (ruleLeaf (numberIn 0 s))))
-    (cond (eqb b letterI) (some (leaf idLeaf))
-    (cond (eqb b leftSquare) (some (labelMark (numberIn 0 s)))
-    (cond (eqb b semicolonByte) (some (sign semicolon))
-    (cond (eqb b barByte) (some (sign bar))
-    (cond (eqb b starByte) (some (sign star))
-    (cond (eqb b less) (some (leaf emptyLeaf))
-    (cond (eqb b question) (some (leaf (goalLeaf (numberIn 0 s))))
-    (cond (eqb b letterT) (some (leaf (tacticLeaf (numberIn 0 s))))
-    (cond (eqb b leftRound) (some opening)
-    (cond (eqb b rightRound) (some closing)
-    none))))))))))
-
-unfoldable pub onByte : Option Mark → State → State
-onByte none σ = σ
-onByte (some m) σ = onMark m σ
-
--- the state once the bytes are read, from the last to the first
-unfoldable pub fromRight : List ℕ → State
-fromRight [] = due []
-fromRight (b ∷ s) = onByte (markAt b s) (fromRight s)

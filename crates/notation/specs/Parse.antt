@@ -7,7 +7,8 @@ use Rattle.format.specs.Inputs.{ofSize}
 use Rattle.format.specs.Refusals.{textWrong}
 use Rattle.format.specs.Results.{Result, gives, refused, andThen}
 use Rattle.format.specs.Terms.{Term}
-use Rattle.notation.specs.FromRight.{termOf, fromRight}
+use Rattle.notation.specs.MarksIn.{marksIn}
+use Rattle.notation.specs.FromRight.{stateOf, termOf}
 use Rattle.notation.specs.Scans.{start, scan}
 
 -- the term that was read from the right; after a scan to the end there always is one
@@ -16,4 +17,4 @@ termFound end none = refused textWrong end
 termFound end (some t) = gives t
 
 unfoldable pub parse : List ℕ → Result Term
-parse s = ofSize s (andThen (scan start 0 s) (λ σ. termFound (length s) (termOf (fromRight s))))
+parse s = ofSize s (andThen (scan start 0 s) (λ σ. termFound (length s) (termOf (stateOf (marksIn s)))))

@@ -1,0 +1,4 @@
+// The writing of a term as text.
+// Document 02, P8: the entry write_text.
+pub mod entry;
+pub mod spelling;
