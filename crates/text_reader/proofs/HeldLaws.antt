@@ -3,7 +3,6 @@
 use mathlib.Core.Path.{_≡_, refl, sym, ap, _∙_, subst}
 use mathlib.Core.Bool.{Bool, true, false, cond}
 use mathlib.Core.List.{List, [], _∷_, _++_, append-assoc, append-nil}
-use mathlib.Core.Option.{Option, none, some}
 use Prim.Native.Nat.{ℕ, zero, suc, _+_, _*_, _-_, _≤_, _<_}
 use native.Mathlib.Omega.{arith}
 use lib.Dec.{leb}
@@ -13,10 +12,10 @@ use Rattle.format.specs.Encoding.{termBytes}
 use Rattle.format.proofs.Encoded.{length-termBytes}
 use Rattle.notation.specs.Marks.{Sign, semicolon, bar, star, Leaf, ruleLeaf, idLeaf, emptyLeaf, goalLeaf, tacticLeaf, Mark, leaf, labelMark, sign, opening, closing, leafTerm, labelTerm, join}
 use Rattle.notation.specs.Written.{rank}
-use Rattle.notation.specs.Passing.{markSize, sizes, MarkValue, MarkValues}
-use Rattle.notation.specs.FromRight.{Frame, waiting, bracket, State, due, had, stuck, reducedTerm, reducedFrames, unbracket, onMark, numberIn, markAt, onByte, fromRight}
+use Rattle.notation.specs.Passing.{markSize, sizes}
+use Rattle.notation.specs.FromRight.{Frame, waiting, bracket, State, due, had, stuck, reducedTerm, reducedFrames, unbracket, onMark, stateOf}
 use Rattle.notation.proofs.PassingLaws.{size-join, leaf-size}
-use Rattle.text_reader.specs.Held.{restBytes, waits, NotStuck, framesOf, optSize, sizeIn}
+use Rattle.text_reader.specs.Held.{restBytes, waits, NotStuck, framesOf}
 
 -- the bytes of a state, and the headers that wait
 unfoldable pub needs : State → ℕ
@@ -28,11 +27,11 @@ rest-length : (s : Sign) (u : Term) (fs : List Frame) → length (restBytes (wai
 unfolding restBytes
 rest-length s u fs = length-append (termBytes u) (restBytes fs) ∙ ap (λ (n : ℕ). n + length (restBytes fs)) (length-termBytes u)
 
-pub taken-size : (n : ℕ) (t : Term) (fs : List Frame) → size (reducedTerm n t fs) + length (restBytes (reducedFrames n fs)) + 3 * waits (reducedFrames n fs) ≡ size t + length (restBytes fs) + 3 * waits fs
+pub reduced-size : (n : ℕ) (t : Term) (fs : List Frame) → size (reducedTerm n t fs) + length (restBytes (reducedFrames n fs)) + 3 * waits (reducedFrames n fs) ≡ size t + length (restBytes fs) + 3 * waits fs
 unfolding reducedTerm reducedFrames waits restBytes
-taken-size n t [] = refl
-taken-size n t (bracket ∷ fs) = refl
-taken-size n t (waiting s u ∷ fs) = go (leb n (rank s)) (taken-size n (join s t u) fs)
+reduced-size n t [] = refl
+reduced-size n t (bracket ∷ fs) = refl
+reduced-size n t (waiting s u ∷ fs) = go (leb n (rank s)) (reduced-size n (join s t u) fs)
   where
     go : (c : Bool) → size (reducedTerm n (join s t u) fs) + length (restBytes (reducedFrames n fs)) + 3 * waits (reducedFrames n fs) ≡ size (join s t u) + length (restBytes fs) + 3 * waits fs
         → size (cond c (reducedTerm n (join s t u) fs) t) + length (restBytes (cond c (reducedFrames n fs) (waiting s u ∷ fs))) + 3 * waits (cond c (reducedFrames n fs) (waiting s u ∷ fs)) ≡ size t + length (termBytes u ++ restBytes fs) + 3 * (1 + waits fs)
@@ -55,18 +54,13 @@ mark-size m stuck h = absurd h
 mark-size (leaf w) (due fs) h = omega (arith, leaf-size w)
 mark-size (leaf w) (had t fs) h = absurd h
 mark-size (labelMark n) (due fs) h = absurd h
-mark-size (labelMark n) (had t fs) h = omega (arith, taken-size 0 t fs, label-size n (reducedTerm 0 t fs))
+mark-size (labelMark n) (had t fs) h = omega (arith, reduced-size 0 t fs, label-size n (reducedTerm 0 t fs))
 mark-size (sign s) (due fs) h = absurd h
-mark-size (sign s) (had t fs) h = omega (arith, taken-size (rank s) t fs, rest-length s (reducedTerm (rank s) t fs) (reducedFrames (rank s) fs))
+mark-size (sign s) (had t fs) h = omega (arith, reduced-size (rank s) t fs, rest-length s (reducedTerm (rank s) t fs) (reducedFrames (rank s) fs))
 mark-size opening (due fs) h = absurd h
-mark-size opening (had t fs) h = omega (arith, taken-size 0 t fs, unbracket-size (reducedTerm 0 t fs) (reducedFrames 0 fs) h)
+mark-size opening (had t fs) h = omega (arith, reduced-size 0 t fs, unbracket-size (reducedTerm 0 t fs) (reducedFrames 0 fs) h)
 mark-size closing (due fs) h = omega arith
 mark-size closing (had t fs) h = absurd h
-
-byte-size : (o : Option Mark) (σ : State) → NotStuck (onByte o σ) → needs (onByte o σ) ≡ optSize o + needs σ
-unfolding onByte
-byte-size none σ h = omega arith
-byte-size (some m) σ h = mark-size m σ h
 
 pub mark-unstuck : (m : Mark) (σ : State) → NotStuck (onMark m σ) → NotStuck σ
 unfolding onMark
@@ -74,27 +68,19 @@ mark-unstuck m stuck h = absurd h
 mark-unstuck m (due fs) h = tt
 mark-unstuck m (had t fs) h = tt
 
-byte-unstuck : (o : Option Mark) (σ : State) → NotStuck (onByte o σ) → NotStuck σ
-unfolding onByte
-byte-unstuck none σ h = h
-byte-unstuck (some m) σ h = mark-unstuck m σ h
-
-pub rest-unstuck : (b : ℕ) (s : List ℕ) → NotStuck (fromRight (b ∷ s)) → NotStuck (fromRight s)
-unfolding fromRight
-rest-unstuck b s h = byte-unstuck (markAt b s) (fromRight s) h
-
-pub drop-unstuck : (i : ℕ) (s : List ℕ) → NotStuck (fromRight s) → NotStuck (fromRight (drop i s))
-drop-unstuck zero s h = h
+pub drop-unstuck : (i : ℕ) (ms : List Mark) → NotStuck (stateOf ms) → NotStuck (stateOf (drop i ms))
+unfolding stateOf
+drop-unstuck zero ms h = h
 drop-unstuck (suc i) [] h = h
-drop-unstuck (suc i) (b ∷ s) h = drop-unstuck i s (rest-unstuck b s h)
+drop-unstuck (suc i) (m ∷ ms) h = drop-unstuck i ms (mark-unstuck m (stateOf ms) h)
 
 -- the bytes of a state and the headers that wait are those of the marks read
-pub state-size : (s : List ℕ) → NotStuck (fromRight s) → needs (fromRight s) ≡ sizeIn s
-unfolding fromRight sizeIn needs restBytes waits
+pub state-size : (ms : List Mark) → NotStuck (stateOf ms) → needs (stateOf ms) ≡ sizes ms
+unfolding stateOf sizes needs restBytes waits
 state-size [] h = refl
-state-size (b ∷ s) h = byte-size (markAt b s) (fromRight s) h ∙ ap (λ (n : ℕ). optSize (markAt b s) + n) (state-size s (byte-unstuck (markAt b s) (fromRight s) h))
+state-size (m ∷ ms) h = mark-size m (stateOf ms) h ∙ ap (λ (n : ℕ). markSize m + n) (state-size ms (mark-unstuck m (stateOf ms) h))
 
--- no more frames than bytes
+-- no more frames than marks
 left-few : (n : ℕ) (fs : List Frame) → length (reducedFrames n fs) ≤ length fs
 unfolding reducedFrames
 left-few n [] = omega arith
@@ -125,12 +111,7 @@ mark-few opening (had t fs) = omega (arith, left-few 0 fs, unbracket-few (reduce
 mark-few closing (due fs) = omega arith
 mark-few closing (had t fs) = omega arith
 
-byte-few : (o : Option Mark) (σ : State) → length (framesOf (onByte o σ)) ≤ 1 + length (framesOf σ)
-unfolding onByte
-byte-few none σ = omega arith
-byte-few (some m) σ = mark-few m σ
-
-pub few-frames : (s : List ℕ) → length (framesOf (fromRight s)) ≤ length s
-unfolding fromRight
+pub few-frames : (ms : List Mark) → length (framesOf (stateOf ms)) ≤ length ms
+unfolding stateOf
 few-frames [] = omega arith
-few-frames (b ∷ s) = omega (arith, byte-few (markAt b s) (fromRight s), few-frames s)
+few-frames (m ∷ ms) = omega (arith, mark-few m (stateOf ms), few-frames ms)

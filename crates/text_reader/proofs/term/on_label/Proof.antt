@@ -1,82 +1,55 @@
+-- `term::on_label` meets its contract: it takes everything, and its header and value come in front.
+-- Assumes nothing.
 use borrow.Author.Needs.{needs}
 use mathlib.Core.Path.{_≡_, refl, sym, ap, _∙_}
-use native.Mathlib.Omega.{arith}
 use Prim.Native.Nat.{_≤_}
 use lib.ListN.{length}
-use Rattle.text_reader.proofs.TermCode.{had-lengths, label-front, shown-label, word-put}
+use native.Mathlib.Omega.{arith}
+use Rattle.text_reader.proofs.StoreLaws.{had-lengths, label-front, shown-label, word-put}
 use Rattle.text_reader.proofs.term.on_label.Statement.{statement}
 use Rattle.text_reader.proofs.term.on_label.Tie as tie
-use Rattle.text_reader.proofs.term.on_label.Reads as reads
-use Rattle.text_reader.proofs.term.on_label.Lts as lts
-use Rattle.text_reader.proofs.term.put_header.Reads as put-header-reads
-use Rattle.text_reader.proofs.term.put_value.Reads as put-value-reads
-use Rattle.text_reader.proofs.term.reduce.Reads as reduce-reads
 
 -- what the signs taken leave room for
 held : (c : tie.After-reduce) → (5 ≤ c .reduce .result .front) × (c .reduce .result .front ≤ c .reduce .result .stop) × (c .reduce .result .stop ≤ length (c .before .before .before .before .args .out .now))
 held c =
-    let p = c .before .before .before .before .pre .3 in
+    let p = c .before .before .before .before .pre .2 in
     let q = p .3 in
     let y = c .reduce .ensures .0 (p .0) (p .1) (p .2) (omega arith) in
     let l = had-lengths _ _ _ _ _ _ _ y in
     (label-front _ _ _ _ _ _ _ _ _ _ _ (c .reduce .kept .1 .1 .1 .0) (p .2) q y, omega (arith, l .1), omega (arith, l .0, l .1, c .reduce .kept .1 .1 .1 .0))
 
--- src/term.rt:171:9
 reduce-requires : tie.Need-reduce-requires
-reduce-requires c κs = let p = c .before .before .before .pre .3 in let q = p .3 in (c .before .before .before .pre .1, c .before .before .before .pre .2, (p .0, p .1, p .2, omega arith))
+reduce-requires c κs = let q = c .before .before .before .pre in let p = q .2 in let h = p .3 in (q .0, q .1, (p .0, p .1, p .2, omega arith))
 
--- src/term.rt:173:15
 sub-len : tie.Need-sub-len
 sub-len c = omega (arith, held (c .before .before .before) .1)
 
--- src/term.rt:173:15
 add-len : tie.Need-add-len
-add-len c = omega (arith, held (c .before .before .before) .2, c .before .before .before .before .before .before .before .pre .2)
+add-len c = omega (arith, held (c .before .before .before) .2, c .before .before .before .before .before .before .before .pre .1)
 
--- src/term.rt:174:20
 sub-put-value : tie.Need-sub-put-value
 sub-put-value c = omega (arith, held (c .before .before .before .before) .0)
 
--- src/term.rt:174:31
-cast-put-value : tie.Need-cast-put-value
-cast-put-value c = search needs
-
--- src/term.rt:174:5
 put-value-requires : tie.Need-put-value-requires
-put-value-requires c κs = omega (arith, held (c .before .before .before .before) .0, held (c .before .before .before .before) .1, held (c .before .before .before .before) .2, c .before .before .before .before .reduce .kept .1 .1 .1 .0)
+put-value-requires c κs = let h = held (c .before .before .before .before) in omega (arith, h .0, h .1, h .2, c .before .before .before .before .reduce .kept .1 .1 .1 .0)
 
--- src/term.rt:175:21
 sub-put-header : tie.Need-sub-put-header
 sub-put-header c = omega (arith, held (c .before .before .before .before .before .before .before .before) .0)
 
--- src/term.rt:175:5
 put-header-requires : tie.Need-put-header-requires
-put-header-requires c κs = (omega (arith, held (c .before .before .before .before .before .before .before .before) .0, held (c .before .before .before .before .before .before .before .before) .1, held (c .before .before .before .before .before .before .before .before) .2, c .before .before .before .before .before .before .before .before .reduce .kept .1 .1 .1 .0, c .before .before .before .put-value .kept .0), omega (arith, held (c .before .before .before .before .before .before .before .before) .0, held (c .before .before .before .before .before .before .before .before) .2, c .before .before .before .before .before .before .before .before .before .before .before .before .pre .2))
+put-header-requires c κs = let h = held (c .before .before .before .before .before .before .before .before) in (omega (arith, h .0, h .1, h .2, c .before .before .before .before .before .before .before .before .reduce .kept .1 .1 .1 .0, c .before .before .before .put-value .kept .0), omega (arith, h .0, h .1, h .2, c .before .before .before .before .before .before .before .before .before .before .before .before .pre .1))
 
--- src/term.rt:177:16
 sub-t10 : tie.Need-sub-t10
 sub-t10 c = omega (arith, held (c .before .before .before .before .before .before .before .before .before .before .before) .0)
 
--- src/term.rt:167:1
 same-length : tie.Need-same-length
 same-length c = search needs
 
--- src/term.rt:167:1
 returns : tie.Need-returns
-returns c = λ t fs x h. let o = c .before .before .before .before .before .before .before .before .before .before .before in let y = o .reduce .ensures .0 t fs x (omega arith) in shown-label _ _ _ _ _ _ _ _ _ y (held o .0) (c .before .before .put-header .kept .0 ∙ c .before .before .before .before .before .before .put-value .kept .0) (word-put _ _ _ _ _ _ _ (held o .0) (c .before .before .before .before .before .before .put-value .ensures) (c .before .before .put-header .ensures))
+returns c = λ t fs x h.
+    let o = c .before .before .before .before .before .before .before .before .before .before .before in
+    let y = o .reduce .ensures .0 t fs x (omega arith) in
+    shown-label _ _ _ _ _ _ _ _ _ y (held o .0) (c .before .before .put-header .kept .0 ∙ c .before .before .before .before .before .before .put-value .kept .0) (word-put _ _ _ _ _ _ _ (held o .0) (c .before .before .before .before .before .before .put-value .ensures) (c .before .before .put-header .ensures))
 
 pub on-label-spec : {M : Type 1} → statement M
-on-label-spec =
-    tie.close
-    (tie.spec
-    reduce-requires
-    sub-len
-    add-len
-    sub-put-value
-    cast-put-value
-    put-value-requires
-    sub-put-header
-    put-header-requires
-    sub-t10
-    same-length
-    returns)
+on-label-spec = tie.close (tie.spec reduce-requires sub-len add-len sub-put-value put-value-requires sub-put-header put-header-requires sub-t10 same-length returns)

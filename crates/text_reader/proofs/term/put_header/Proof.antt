@@ -2,7 +2,7 @@ use borrow.Author.Needs.{needs}
 use mathlib.Core.Path.{_≡_, refl, sym, ap, _∙_}
 use native.Mathlib.Omega.{arith}
 use lib.ListN.{length-set}
-use Rattle.text_reader.proofs.TermCode.{put-header}
+use Rattle.text_reader.proofs.StoreLaws.{put-header}
 use Rattle.text_reader.proofs.term.put_header.Statement.{statement}
 use Rattle.text_reader.proofs.term.put_header.Tie as tie
 use Rattle.text_reader.proofs.term.put_header.Reads as reads

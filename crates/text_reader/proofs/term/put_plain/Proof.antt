@@ -1,7 +1,7 @@
 use borrow.Author.Needs.{needs}
 use mathlib.Core.Path.{_≡_, refl, sym, ap, _∙_}
 use native.Mathlib.Omega.{arith}
-use Rattle.text_reader.proofs.TermCode.{plain-put}
+use Rattle.text_reader.proofs.StoreLaws.{plain-put}
 use Rattle.text_reader.proofs.term.put_plain.Statement.{statement}
 use Rattle.text_reader.proofs.term.put_plain.Tie as tie
 use Rattle.text_reader.proofs.term.put_plain.Reads as reads

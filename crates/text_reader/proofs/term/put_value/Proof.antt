@@ -1,7 +1,7 @@
 use borrow.Author.Needs.{needs}
 use mathlib.Core.Path.{_≡_, refl, sym, ap, _∙_}
 use native.Mathlib.Omega.{arith}
-use Rattle.text_reader.proofs.TermCode.{put-value}
+use Rattle.text_reader.proofs.StoreLaws.{put-value}
 use Rattle.text_reader.proofs.term.put_value.Statement.{statement}
 use Rattle.text_reader.proofs.term.put_value.Tie as tie
 use Rattle.text_reader.proofs.term.put_value.Reads as reads

@@ -1,0 +1,4 @@
+pub mod HeldLaws
+pub mod StoreLaws
+pub mod MarkLaws
+pub mod WholeLaws

@@ -1,0 +1,2 @@
+pub mod MarkList
+pub mod Held
