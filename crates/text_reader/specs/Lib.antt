@@ -1,2 +1,3 @@
 pub mod MarkList
+pub mod Shapes
 pub mod Held
