@@ -5,6 +5,8 @@ pub mod ProofLaws
 pub mod ProofSteps
 pub mod JobLaws
 pub mod JobSteps
+pub mod TermFileLaws
+pub mod TermFileSteps
 pub mod FlatLaws
 pub mod EntriesLaw
 pub mod FlatReading
