@@ -17,6 +17,7 @@ pub mod WhatStands
 pub mod Sizes
 pub mod ReadsProof
 pub mod ReadsJob
+pub mod ReadsTermFile
 pub mod ReadsFlat
 pub mod RefusedFiles
 pub mod Answers
