@@ -2,6 +2,7 @@ pub mod FromRightLaws
 pub mod WrittenLaws
 pub mod TextLaws
 pub mod WrittenText
+pub mod SpacingLaws
 pub mod PassingLaws
 pub mod ScanLaws
 pub mod ViableLaws

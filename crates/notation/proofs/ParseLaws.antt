@@ -19,7 +19,7 @@ use Rattle.notation.specs.Scans.{Scan}
 use Rattle.notation.specs.Grammar.{ReadsAs}
 use Rattle.notation.specs.MarksIn.{marksIn}
 use Rattle.notation.specs.FromRight.{stateOf, termOf}
-use Rattle.notation.specs.Meets.{Viable, Large, Full, Wrong, Fits}
+use Rattle.notation.specs.Meets.{Viable, headOf, Large, Full, Wrong, Fits}
 use Rattle.notation.specs.Scans.{start, scan}
 use Rattle.notation.specs.Parse.{termFound, parse}
 use Rattle.notation.proofs.TextLaws.{text-term, one-reading}
@@ -127,3 +127,14 @@ text-refused s c p h e = go (scan start 0 s) (text-told s) (sym (sized s _ h) �
     go : (y : Result Scan) → Told s y → andThen y (λ σ. termFound (length s) (termOf (stateOf (marksIn s)))) ≡ refused c p → Verdict s c p
     go (gives σ) x q = let f = text-term (x .fits .reads) in let z : _≡_ {A = Result Term} (gives (x .fits .term)) (refused c p) = ap (termFound (length s)) (sym f) ∙ q in let k : _≡_ {A = ℕ} 0 1 = cc in absurd (omega arith)
     go (refused a i) x q = same q x
+
+-- a text that is too long
+pub too-long : (s : List ℕ) → mostBytes < length s → parse s ≡ refused inputTooLong 0
+unfolding parse
+too-long s h = rw (lt-ltb mostBytes (length s) h)
+
+-- what is met is met within the text or at its end
+pub verdict-place : {text : List ℕ} {c : Cause} {x : ℕ} → Verdict text c x → x ≤ length text
+verdict-place (wrong w) = let e = w .place in let l = ap length (w .is) in omega (arith, length-append (w .before) (w .rest))
+verdict-place (over w) = let e = w .place in let l = ap length (w .is) in omega (arith, length-append (w .before) (headOf (w .kind) ∷ (w .digits ++ w .rest)))
+verdict-place (fulls w) = let e = w .place in let l = ap length (w .is) in omega (arith, length-append (w .before) (w .bytes ++ w .rest))

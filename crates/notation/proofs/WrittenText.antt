@@ -17,7 +17,7 @@ use Rattle.notation.specs.Passing.{MarkValue, MarkValues}
 use Rattle.notation.specs.Written.{rank, chain, bracketedIf, marksOf, digits, decimal, markBytes, textOf, written}
 use Rattle.notation.proofs.WrittenLaws.{marks-read, fewest}
 
-abbrev tens : ℕ → ℕ
+abbrev pub tens : ℕ → ℕ
 tens zero = 1
 tens (suc m) = 10 * tens m
 
@@ -35,7 +35,7 @@ one-digit n h = number {b = 48 + n} (omega arith) (subst (λ (v : ℕ). Digits (
     back n = omega arith
 
 -- the digits written for a number are a number of that value
-digits-number : (m n : ℕ) → n < tens (suc m) → Number (digits (suc m) n) n
+pub digits-number : (m n : ℕ) → n < tens (suc m) → Number (digits (suc m) n) n
 unfolding digits
 digits-number zero n h = subst (λ (c : Bool). Number (cond c ((48 + n) ∷ []) ((48 + n % 10) ∷ [])) n) (sym (small n h)) (one-digit n (omega arith))
   where

@@ -2,6 +2,7 @@ pub mod Letters
 pub mod Marks
 pub mod Grammar
 pub mod Written
+pub mod Spacing
 pub mod MarksIn
 pub mod FromRight
 pub mod Scans

@@ -24,13 +24,13 @@ use Rattle.entries.proofs.LeftLaws.{kept}
 use Rattle.notation.specs.Marks.{Mark}
 use Rattle.notation.specs.Passing.{sizes}
 use Rattle.notation.specs.MarksIn.{markAt, withMark, marksIn}
-use Rattle.notation.specs.Meets.{headOf}
 use Rattle.notation.specs.Scans.{Scan, start, scan}
 use Rattle.notation.specs.Parse.{termFound, parse}
 use Rattle.notation.proofs.TextLaws.{text-term, spelled-marks}
 use Rattle.notation.proofs.PassingLaws.{reads-size}
 use Rattle.notation.proofs.MeetLaws.{FitsIn}
-use Rattle.notation.proofs.ReaderLaws.{Verdict, wrong, over, fulls, Told, text-told}
+use Rattle.notation.proofs.ReaderLaws.{Told, text-told}
+use Rattle.notation.proofs.ParseLaws.{verdict-place}
 use Rattle.text_reader.specs.declared.scan.ScanRead.{ScanRead}
 use Rattle.text_reader.specs.declared.scan.ScanRead.the-variants as R
 use Rattle.text_reader.specs.Shapes.{scanShape}
@@ -71,11 +71,6 @@ refuses : (text : List ℕ) (n : ℕ) (x : Result Scan) (k p : ℕ) → scan sta
 unfolding scanShape told
 refuses text n (gives σ) k p e h = let z : _≡_ {A = ℕ} 0 1 = cc in absurd (omega arith)
 refuses text n (refused c q) k p e h = let a : q ≡ p = cc in record { cause = c; is = e ∙ ap (refused c) a; same = cc }
-
-verdict-place : {text : List ℕ} {c : Cause} {x : ℕ} → Verdict text c x → x ≤ length text
-verdict-place (wrong w) = let e = w .place in let l = ap length (w .is) in omega (arith, length-append (w .before) (w .rest))
-verdict-place (over w) = let e = w .place in let l = ap length (w .is) in omega (arith, length-append (w .before) (headOf (w .kind) ∷ (w .digits ++ w .rest)))
-verdict-place (fulls w) = let e = w .place in let l = ap length (w .is) in omega (arith, length-append (w .before) (w .bytes ++ w .rest))
 
 -- what a success of the scan tells
 record Gives (text : List ℕ) (n count z : ℕ) : Type 0 where
