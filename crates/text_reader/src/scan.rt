@@ -1,27 +1,45 @@
-// The scan of a text, byte by byte: 36, 37 and 5.
+// The scan of a text, mark by mark: 36, 37 and 5, and the list of its marks.
 ghost use mathlib.Core.Path.{_≡_};
-ghost use Prim.Native.Nat.{_+_, _≤_, _<_};
-ghost use lib.ListN.{length};
+ghost use mathlib.Core.Bool.{true, false};
+ghost use Prim.Native.Nat.{ℕ, _+_, _*_, _≤_, _<_};
+ghost use lib.ListN.{length, getD, set};
 ghost use Rattle.notation.specs.Letters.{isDigit};
-ghost use Rattle.notation.specs.Scans as defined;
-ghost use Rattle.text_reader.specs.Shapes.{Bounded, stepShape, scanShape};
-use notation::scanning::Mode;
-use notation::scanning::Scan;
+ghost use Rattle.notation.specs.MarksIn.{marksIn};
+ghost use Rattle.notation.specs.Scans.{beginsNumbered, isSign, digitMore, start, scan};
+ghost use Rattle.text_reader.specs.MarkList.{MarksStand};
+ghost use Rattle.text_reader.specs.Shapes.{scanShape};
+ghost use Rattle.text_reader.specs.Places.{Standing, Ready, After, refusing, completed, bracketed, Skipped, NumberRead, LeafByte, PairBytes, SignByte};
+ghost use Rattle.text_reader.specs.declared.scan.ScanRead.the-variants as R;
 
 const MOST_FIELDS: usize = 4096;
 
 const MOST_VALUE: usize = 65535;
 
-// What one byte more comes to: the refusal's number and place, or where the scan stands behind it.
-pub enum Step {
-    Refused(u8, usize),
-    Next(Scan),
-}
-
-// What the scan comes to: the refusal's number and place, or the bytes of the term.
+// What the scan comes to: the refusal's number and place, or the number of marks and the bytes of the term.
 pub enum ScanRead {
     Refused(u8, usize),
-    Read(usize),
+    Read(usize, usize),
+}
+
+// Where the scan stands between two marks. It is made anew from its numbers at each mark, so that they stay apart in the machine.
+pub struct Place {
+    pub at: usize,
+    // An operand is due; otherwise one was read.
+    pub due: bool,
+    // The brackets that are not closed yet; the term fields made, the bytes of their headers and values; the marks in the list.
+    pub depth: usize,
+    pub fields: usize,
+    pub size: usize,
+    pub count: usize,
+    // Of a refusal its number and place; the number is 0 as long as nothing is refused.
+    pub number: u8,
+    pub place: usize,
+}
+
+// A number that was read, and the place behind its last digit.
+pub struct Number {
+    pub value: usize,
+    pub next: usize,
 }
 
 fn wide(b: u8) -> usize
@@ -30,7 +48,7 @@ fn wide(b: u8) -> usize
     b as usize
 }
 
-pub fn is_digit(b: usize) -> bool
+fn is_digit(b: usize) -> bool
     ensures { λ r. ⌜ r ≡ isDigit b ⌝ }
 {
     if b < 48 {
@@ -39,79 +57,10 @@ pub fn is_digit(b: usize) -> bool
     b < 58
 }
 
-// One of `a`, `?` and `T`.
-fn begins_numbered(b: usize) -> bool
-    ensures { λ r. ⌜ r ≡ defined.beginsNumbered b ⌝ }
-{
-    if b == 97 {
-        return true;
-    }
-    if b == 63 {
-        return true;
-    }
-    b == 84
-}
-
-// One of `;`, `|` and `*`.
-fn is_sign(b: usize) -> bool
-    ensures { λ r. ⌜ r ≡ defined.isSign b ⌝ }
-{
-    if b == 59 {
-        return true;
-    }
-    if b == 124 {
-        return true;
-    }
-    b == 42
-}
-
-// The scan as it was, in another mode.
-fn turned(mode: Mode, scan: Scan) -> Scan
-    ensures { λ r. ⌜ r ≡ defined.turned mode scan ⌝ }
-{
-    Scan {
-        mode,
-        mark: scan.mark,
-        depth: scan.depth,
-        fields: scan.fields,
-        size: scan.size,
-    }
-}
-
-// A mark begins here.
-fn begins(mode: Mode, at: usize, scan: Scan) -> Scan
-    ensures { λ r. ⌜ r ≡ defined.begins mode at scan ⌝ }
-{
-    Scan {
-        mode,
-        mark: at,
-        depth: scan.depth,
-        fields: scan.fields,
-        size: scan.size,
-    }
-}
-
-// A mark that began at a place is complete and makes a field.
-fn completes(mode: Mode, place: usize, bytes: usize, scan: Scan) -> Step
-    requires { ⌜ (scan .size ≤ 65536) × (bytes ≤ 5) ⌝ }
-    ensures { λ r. ⌜ r ≡ stepShape (defined.completes mode place bytes scan) ⌝ }
-{
-    if MOST_FIELDS <= scan.fields {
-        return Step::Refused(5, place);
-    }
-    Step::Next(Scan {
-        mode,
-        mark: scan.mark,
-        depth: scan.depth,
-        fields: scan.fields + 1,
-        size: scan.size + bytes,
-    })
-}
-
 // The value with one digit more; a value that is too large stays so.
 fn digit_more(v: usize, b: usize) -> usize
     requires { ⌜ (48 ≤ b) × (b < 256) ⌝ }
-    ensures { λ r. ⌜ r ≡ defined.digitMore v b ⌝ }
+    ensures { λ r. ⌜ r ≡ digitMore v b ⌝ }
 {
     if MOST_VALUE < v {
         return v;
@@ -119,222 +68,287 @@ fn digit_more(v: usize, b: usize) -> usize
     v * 10 + (b - 48)
 }
 
-// An operand is due.
-fn on_due(scan: Scan, at: usize, b: usize) -> Step
-    requires { ⌜ Bounded scan at × (at < 65536) ⌝ }
-    ensures { λ r. ⌜ r ≡ stepShape (defined.onDue scan at b) ⌝ }
+// The place behind the blanks that stand at a place.
+fn past_blanks(text: &[u8], from: usize) -> usize
+    requires { ⌜ from ≤ length (now text) ⌝ }
+    ensures { λ r. ⌜ Skipped (now (text .entry)) from r ⌝ }
 {
-    if b == 32 {
-        return Step::Next(turned(Mode::Due, scan));
-    }
-    if begins_numbered(b) {
-        return Step::Next(begins(Mode::Begun, at, scan));
-    }
-    if b == 105 {
-        return Step::Next(begins(Mode::HalfId, at, scan));
-    }
-    if b == 60 {
-        return Step::Next(begins(Mode::HalfEmpty, at, scan));
-    }
-    if b == 91 {
-        return Step::Next(begins(Mode::LabelBegun, at, scan));
-    }
-    if b == 40 {
-        return Step::Next(Scan {
-            mode: Mode::Due,
-            mark: scan.mark,
-            depth: scan.depth + 1,
-            fields: scan.fields,
-            size: scan.size,
-        });
-    }
-    Step::Refused(36, at)
-}
-
-// An operand was read.
-fn on_had(scan: Scan, at: usize, b: usize) -> Step
-    requires { ⌜ scan .size ≤ 65536 ⌝ }
-    ensures { λ r. ⌜ r ≡ stepShape (defined.onHad scan at b) ⌝ }
-{
-    if b == 32 {
-        return Step::Next(turned(Mode::Had, scan));
-    }
-    if is_sign(b) {
-        return completes(Mode::Due, at, 3, scan);
-    }
-    if b != 41 {
-        return Step::Refused(36, at);
-    }
-    if scan.depth == 0 {
-        return Step::Refused(36, at);
-    }
-    Step::Next(Scan {
-        mode: Mode::Had,
-        mark: scan.mark,
-        depth: scan.depth - 1,
-        fields: scan.fields,
-        size: scan.size,
-    })
-}
-
-// The last digit of `a12`, `?30` or `T4` was read.
-fn word_ends(v: usize, scan: Scan) -> Step
-    requires { ⌜ (scan .size ≤ 65000) × (scan .mark < 65536) ⌝ }
-    ensures { λ r. ⌜ r ≡ stepShape (defined.leafEnds v scan) ⌝ }
-{
-    if MOST_VALUE < v {
-        return Step::Refused(37, scan.mark + 1);
-    }
-    completes(Mode::Had, scan.mark, 5, scan)
-}
-
-// A byte behind the digits of `a12`, `?30` or `T4`.
-fn on_digits(v: usize, scan: Scan, at: usize, b: usize) -> Step
-    requires { ⌜ (scan .size ≤ 65000) × (scan .mark < 65536) × (b < 256) ⌝ }
-    ensures { λ r. ⌜ r ≡ stepShape (defined.onDigits v scan at b) ⌝ }
-{
-    if is_digit(b) {
-        return Step::Next(turned(Mode::Digits(digit_more(v, b)), scan));
-    }
-    let leaf = word_ends(v, scan);
-    match leaf {
-        Step::Refused(number, place) => Step::Refused(number, place),
-        Step::Next(next) => on_had(next, at, b),
-    }
-}
-
-// A byte behind the digits of `[3]`.
-fn on_label_digits(v: usize, scan: Scan, at: usize, b: usize) -> Step
-    requires { ⌜ (scan .size ≤ 65000) × (scan .mark < 65536) × (b < 256) ⌝ }
-    ensures { λ r. ⌜ r ≡ stepShape (defined.onLabelDigits v scan at b) ⌝ }
-{
-    if is_digit(b) {
-        return Step::Next(turned(Mode::LabelDigits(digit_more(v, b)), scan));
-    }
-    if MOST_VALUE < v {
-        return Step::Refused(37, scan.mark + 1);
-    }
-    if b == 93 {
-        return completes(Mode::Due, scan.mark, 5, scan);
-    }
-    Step::Refused(36, at)
-}
-
-// A byte behind `a`, `?` or `T`.
-fn on_begun(scan: Scan, at: usize, b: usize) -> Step
-    requires { ⌜ b < 256 ⌝ }
-    ensures { λ r. ⌜ r ≡ stepShape (defined.onBegun scan at b) ⌝ }
-{
-    if is_digit(b) {
-        return Step::Next(turned(Mode::Digits(b - 48), scan));
-    }
-    Step::Refused(36, at)
-}
-
-// A byte behind `[`.
-fn on_label_begun(scan: Scan, at: usize, b: usize) -> Step
-    requires { ⌜ b < 256 ⌝ }
-    ensures { λ r. ⌜ r ≡ stepShape (defined.onLabelBegun scan at b) ⌝ }
-{
-    if is_digit(b) {
-        return Step::Next(turned(Mode::LabelDigits(b - 48), scan));
-    }
-    Step::Refused(36, at)
-}
-
-// The second byte of `id` and `<>`.
-fn on_half(second: usize, scan: Scan, at: usize, b: usize) -> Step
-    requires { ⌜ scan .size ≤ 65000 ⌝ }
-    ensures { λ r. ⌜ r ≡ stepShape (defined.onHalf second scan at b) ⌝ }
-{
-    if b == second {
-        return completes(Mode::Had, scan.mark, 3, scan);
-    }
-    Step::Refused(36, at)
-}
-
-// One byte more.
-fn one_byte(scan: Scan, at: usize, b: usize) -> Step
-    requires { ⌜ Bounded scan at × (at < 65536) × (b < 256) ⌝ }
-    ensures { λ r. ⌜ r ≡ stepShape (defined.step scan at b) ⌝ }
-{
-    let mode = scan.mode;
-    match mode {
-        Mode::Due => on_due(scan, at, b),
-        Mode::Had => on_had(scan, at, b),
-        Mode::Begun => on_begun(scan, at, b),
-        Mode::LabelBegun => on_label_begun(scan, at, b),
-        Mode::Digits(v) => on_digits(v, scan, at, b),
-        Mode::LabelDigits(v) => on_label_digits(v, scan, at, b),
-        Mode::HalfId => on_half(100, scan, at, b),
-        Mode::HalfEmpty => on_half(62, scan, at, b),
-    }
-}
-
-// Every bracket is closed.
-fn finished(scan: Scan, at: usize) -> ScanRead
-    ensures { λ r. ⌜ r ≡ scanShape (defined.finished scan at) ⌝ }
-{
-    if scan.depth == 0 {
-        return ScanRead::Read(scan.size);
-    }
-    ScanRead::Refused(36, at)
-}
-
-// The end of the text.
-fn at_end(scan: Scan, at: usize) -> ScanRead
-    requires { ⌜ Bounded scan at × (at < 65536) ⌝ }
-    ensures { λ r. ⌜ r ≡ scanShape (defined.atEnd scan at) ⌝ }
-{
-    let mode = scan.mode;
-    match mode {
-        Mode::Due => ScanRead::Refused(36, at),
-        Mode::Had => finished(scan, at),
-        Mode::Begun => ScanRead::Refused(36, at),
-        Mode::LabelBegun => ScanRead::Refused(36, at),
-        Mode::Digits(v) => {
-            let leaf = word_ends(v, scan);
-            match leaf {
-                Step::Refused(number, place) => ScanRead::Refused(number, place),
-                Step::Next(next) => finished(next, at),
-            }
-        }
-        Mode::LabelDigits(v) => {
-            if MOST_VALUE < v {
-                return ScanRead::Refused(37, scan.mark + 1);
-            }
-            ScanRead::Refused(36, at)
-        }
-        Mode::HalfId => ScanRead::Refused(36, at),
-        Mode::HalfEmpty => ScanRead::Refused(36, at),
-    }
-}
-
-// The whole text.
-pub fn scan_text(text: &[u8]) -> ScanRead
-    requires { ⌜ length (now text) < 65536 ⌝ }
-    ensures { λ r. ⌜ r ≡ scanShape (defined.scan defined.start 0 (now (text .entry))) ⌝ }
-{
-    let mut state = Scan {
-        mode: Mode::Due,
-        mark: 0,
-        depth: 0,
-        fields: 0,
-        size: 0,
-    };
-    let mut at: usize = 0;
+    let mut at = from;
     while at < text.len() {
-        let b = wide(text[at]);
-        let next = one_byte(state, at, b);
-        match next {
-            Step::Refused(number, place) => {
-                return ScanRead::Refused(number, place);
-            }
-            Step::Next(after) => {
-                state = after;
-            }
+        if text[at] != 32 {
+            return at;
         }
         at += 1;
     }
-    at_end(state, at)
+    at
+}
+
+// The digits that stand at a place, if there are any.
+fn number_at(text: &[u8], from: usize) -> Number
+    requires { ⌜ from ≤ length (now text) ⌝ }
+    ensures { λ r. ⌜ NumberRead (now (text .entry)) from (r .value) (r .next) ⌝ }
+{
+    let mut at = from;
+    let mut value: usize = 0;
+    while at < text.len() {
+        let b = wide(text[at]);
+        if !is_digit(b) {
+            return Number { value, next: at };
+        }
+        value = digit_more(value, b);
+        at += 1;
+    }
+    Number { value, next: at }
+}
+
+fn refused(here: Place, number: u8, place: usize) -> Place
+    ensures { λ r. ⌜ r ≡ refusing here number place ⌝ }
+{
+    Place {
+        at: here.at,
+        due: here.due,
+        depth: here.depth,
+        fields: here.fields,
+        size: here.size,
+        count: here.count,
+        number,
+        place,
+    }
+}
+
+// A bracket is read and put in the list; so many are not closed behind it.
+fn bracket(work: &mut [u8], here: Place, kind: u8, depth: usize) -> Place
+    requires { ⌜ (3 * here .count < length (now work)) × (here .count < 65536) × (here .at < 65536) ⌝ }
+    ensures { λ r. ⌜ r ≡ bracketed here depth ⌝ }
+    ensures { λ _. ⌜ now (work .exit) ≡ set (now (work .entry)) (3 * here .count) kind ⌝ }
+{
+    let entry = 3 * here.count;
+    work[entry] = kind;
+    Place {
+        at: here.at + 1,
+        due: here.due,
+        depth,
+        fields: here.fields,
+        size: here.size,
+        count: here.count + 1,
+        number: 0,
+        place: 0,
+    }
+}
+
+// A mark that makes a field is complete: it is put in the list, and the field is counted unless it is one too many.
+fn complete(work: &mut [u8], here: Place, tag: u8, next: usize, due: bool, bytes: usize) -> Place
+    requires { ⌜ (3 * here .count < length (now work)) × (here .count < 65536) × (here .size ≤ 65536) × (bytes ≤ 5) ⌝ }
+    ensures { λ r. ⌜ r ≡ completed here next due bytes ⌝ }
+    ensures { λ _. ⌜ now (work .exit) ≡ set (now (work .entry)) (3 * here .count) tag ⌝ }
+{
+    let entry = 3 * here.count;
+    work[entry] = tag;
+    if MOST_FIELDS <= here.fields {
+        return refused(here, 5, here.at);
+    }
+    Place {
+        at: next,
+        due,
+        depth: here.depth,
+        fields: here.fields + 1,
+        size: here.size + bytes,
+        count: here.count + 1,
+        number: 0,
+        place: 0,
+    }
+}
+
+// `a12`, `?30` or `T4`.
+fn leaf(text: &[u8], work: &mut [u8], here: Place, tag: u8) -> Place
+    requires { ⌜ Ready (now text) (now work) here × (here .due ≡ true) × LeafByte (getD (now text) (here .at) 0) tag ⌝ }
+    ensures { λ r. ⌜ After (now (text .entry)) (now (work .exit)) (here .at) r ⌝ }
+{
+    let from = here.at + 1;
+    let read = number_at(text, from);
+    let value = read.value;
+    let next = read.next;
+    if next == from {
+        return refused(here, 36, from);
+    }
+    if MOST_VALUE < value {
+        return refused(here, 37, from);
+    }
+    words::store16(work, 3 * here.count + 1, value as u16);
+    complete(work, here, tag, next, false, 5)
+}
+
+// `[3]`. The value is judged before the bracket that closes it.
+fn label(text: &[u8], work: &mut [u8], here: Place) -> Place
+    requires { ⌜ Ready (now text) (now work) here × (here .due ≡ true) × (getD (now text) (here .at) 0 ≡ 91) ⌝ }
+    ensures { λ r. ⌜ After (now (text .entry)) (now (work .exit)) (here .at) r ⌝ }
+{
+    let from = here.at + 1;
+    let read = number_at(text, from);
+    let value = read.value;
+    let next = read.next;
+    if next == from {
+        return refused(here, 36, from);
+    }
+    if MOST_VALUE < value {
+        return refused(here, 37, from);
+    }
+    if text.len() <= next {
+        return refused(here, 36, next);
+    }
+    if text[next] != 93 {
+        return refused(here, 36, next);
+    }
+    words::store16(work, 3 * here.count + 1, value as u16);
+    complete(work, here, 18, next + 1, true, 5)
+}
+
+// `id` or `<>`.
+fn pair(text: &[u8], work: &mut [u8], here: Place, second: u8, tag: u8) -> Place
+    requires { ⌜ Ready (now text) (now work) here × (here .due ≡ true) × PairBytes (getD (now text) (here .at) 0) second tag ⌝ }
+    ensures { λ r. ⌜ After (now (text .entry)) (now (work .exit)) (here .at) r ⌝ }
+{
+    let from = here.at + 1;
+    if text.len() <= from {
+        return refused(here, 36, from);
+    }
+    if text[from] != second {
+        return refused(here, 36, from);
+    }
+    complete(work, here, tag, from + 1, false, 3)
+}
+
+// The tag of the leaf with a number that a byte begins; 0 for any other byte.
+fn leaf_tag(b: u8) -> u8
+    ensures { λ r. ⌜ ((r ≡ 0 → ⊥) → LeafByte b r) × (r ≡ 0 → beginsNumbered b ≡ false) ⌝ }
+{
+    if b == 97 {
+        return 16;
+    }
+    if b == 63 {
+        return 23;
+    }
+    if b == 84 {
+        return 24;
+    }
+    0
+}
+
+// The tag of a sign; 0 for any other byte.
+fn sign_tag(b: u8) -> u8
+    ensures { λ r. ⌜ ((r ≡ 0 → ⊥) → SignByte b r) × (r ≡ 0 → isSign b ≡ false) ⌝ }
+{
+    if b == 59 {
+        return 19;
+    }
+    if b == 42 {
+        return 20;
+    }
+    if b == 124 {
+        return 22;
+    }
+    0
+}
+
+// An operand is due, and no blank comes.
+fn on_due(text: &[u8], work: &mut [u8], here: Place) -> Place
+    requires { ⌜ Ready (now text) (now work) here × (here .due ≡ true) × (getD (now text) (here .at) 0 ≡ 32 → ⊥) ⌝ }
+    ensures { λ r. ⌜ After (now (text .entry)) (now (work .exit)) (here .at) r ⌝ }
+{
+    let at = here.at;
+    let b = text[at];
+    if b == 40 {
+        return bracket(work, here, 1, here.depth + 1);
+    }
+    if b == 91 {
+        return label(text, work, here);
+    }
+    let tag = leaf_tag(b);
+    if tag != 0 {
+        return leaf(text, work, here, tag);
+    }
+    if b == 105 {
+        return pair(text, work, here, 100, 17);
+    }
+    if b == 60 {
+        return pair(text, work, here, 62, 21);
+    }
+    refused(here, 36, at)
+}
+
+// An operand was read, and no blank comes.
+fn on_had(text: &[u8], work: &mut [u8], here: Place) -> Place
+    requires { ⌜ Ready (now text) (now work) here × (here .due ≡ false) × (getD (now text) (here .at) 0 ≡ 32 → ⊥) ⌝ }
+    ensures { λ r. ⌜ After (now (text .entry)) (now (work .exit)) (here .at) r ⌝ }
+{
+    let at = here.at;
+    let b = text[at];
+    let tag = sign_tag(b);
+    if tag != 0 {
+        return complete(work, here, tag, at + 1, true, 3);
+    }
+    if b != 41 {
+        return refused(here, 36, at);
+    }
+    if here.depth == 0 {
+        return refused(here, 36, at);
+    }
+    bracket(work, here, 0, here.depth - 1)
+}
+
+// Behind the blanks or the mark that begin here.
+fn pass(text: &[u8], work: &mut [u8], here: Place) -> Place
+    requires { ⌜ Ready (now text) (now work) here ⌝ }
+    ensures { λ r. ⌜ After (now (text .entry)) (now (work .exit)) (here .at) r ⌝ }
+{
+    let at = here.at;
+    if text[at] == 32 {
+        let next = past_blanks(text, at + 1);
+        return Place {
+            at: next,
+            due: here.due,
+            depth: here.depth,
+            fields: here.fields,
+            size: here.size,
+            count: here.count,
+            number: 0,
+            place: 0,
+        };
+    }
+    if here.due {
+        return on_due(text, work, here);
+    }
+    on_had(text, work, here)
+}
+
+// The whole text. Its marks are put in the list as far as they are read.
+pub fn scan_text(text: &[u8], work: &mut [u8]) -> ScanRead
+    requires { ⌜ (length (now text) < 65536) × (3 * length (now text) ≤ length (now work)) ⌝ }
+    ensures { λ r. ⌜ r ≡ scanShape (length (marksIn (now (text .entry)))) (scan start 0 (now (text .entry))) ⌝ }
+    ensures { λ r. ⌜ ((count size : ℕ) → r ≡ R.Read count size → MarksStand (now (work .exit)) (marksIn (now (text .entry))) count) ⌝ }
+{
+    let mut here = Place {
+        at: 0,
+        due: true,
+        depth: 0,
+        fields: 0,
+        size: 0,
+        count: 0,
+        number: 0,
+        place: 0,
+    };
+    while here.at < text.len() {
+        let next = pass(text, work, here);
+        if next.number != 0 {
+            return ScanRead::Refused(next.number, next.place);
+        }
+        here = next;
+    }
+    if here.due {
+        return ScanRead::Refused(36, here.at);
+    }
+    if here.depth != 0 {
+        return ScanRead::Refused(36, here.at);
+    }
+    ScanRead::Read(here.count, here.size)
 }

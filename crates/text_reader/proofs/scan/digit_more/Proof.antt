@@ -1,29 +1,29 @@
-use borrow.Author.Needs.{needs}
 use borrow.Author.Tests.{eq-eqb, ne-eqb, lt-ltb, le-ltb, le-leb, lt-leb}
-use Rattle.notation.specs.Scans.{completes, beginsNumbered, isSign, onDue, onHad, digitMore, leafEnds, onDigits, labelEnds, onLabelDigits, stepIn, step, finished, endIn, atEnd, scan}
+use Rattle.notation.specs.Scans.{digitMore}
+use borrow.Author.Needs.{needs}
 use Rattle.text_reader.proofs.scan.digit_more.Statement.{statement}
 use Rattle.text_reader.proofs.scan.digit_more.Tie as tie
 use Rattle.text_reader.proofs.scan.digit_more.Reads as reads
 use Rattle.text_reader.proofs.scan.digit_more.Lts as lts
 
--- src/scan.rt:117:9
+-- src/scan.rt:66:9
 returns : tie.Need-returns
 unfolding digitMore
 returns c = simp (lt-ltb _ _ (c .if1 .taken))
 
--- src/scan.rt:119:5
+-- src/scan.rt:68:5
 mul-result : tie.Need-mul-result
 mul-result c = search needs
 
--- src/scan.rt:119:15
+-- src/scan.rt:68:15
 sub-result : tie.Need-sub-result
 sub-result c = search needs
 
--- src/scan.rt:119:5
+-- src/scan.rt:68:5
 add-result : tie.Need-add-result
 add-result c = search needs
 
--- src/scan.rt:112:1
+-- src/scan.rt:61:1
 returns-2 : tie.Need-returns-2
 unfolding digitMore
 returns-2 c = simp (le-ltb _ _ (c .if1 .left))

@@ -5,12 +5,12 @@ use Rattle.text_reader.proofs.scan.is_digit.Tie as tie
 use Rattle.text_reader.proofs.scan.is_digit.Reads as reads
 use Rattle.text_reader.proofs.scan.is_digit.Lts as lts
 
--- src/scan.rt:37:9
+-- src/scan.rt:55:9
 returns : tie.Need-returns
 unfolding isDigit
 returns c = simp (lt-ltb _ _ (c .if1 .taken))
 
--- src/scan.rt:33:1
+-- src/scan.rt:51:1
 returns-2 : tie.Need-returns-2
 unfolding isDigit
 returns-2 c = simp (le-ltb _ _ (c .if1 .left))

@@ -1,66 +1,68 @@
--- `scan::scan_text` meets its contract. The invariant: the scan of the whole text is that of the rest from the state reached.
--- Assumes nothing.
-use mathlib.Core.Path.{_≡_, refl, sym, ap, _∙_}
-use Prim.Native.Nat.{_+_, _-_, _≤_, _<_}
+use Rattle.text_reader.proofs.PlaceLaws.{starts, refused-shape, not-read, end-due, end-open, end-read, end-list}
+use Rattle.text_reader.specs.Places.{Standing}
 use native.Mathlib.Omega.{arith}
-use lib.ListN.{length, drop}
-use borrow.Author.Needs.{needs}
-use Rattle.notation.specs.Scans.{scan, start}
-use Rattle.text_reader.specs.Shapes.{Bounded, scanShape}
-use Rattle.text_reader.proofs.ScanCode.{step-sane, turn-refused, turn-next, at-last, start-sane}
+use lib.ListN.{length}
+use Prim.Native.Nat.{_-_}
+use mathlib.Core.Path.{_≡_, refl, sym, ap, _∙_, subst}
 use Rattle.text_reader.proofs.scan.scan_text.Statement.{statement}
 use Rattle.text_reader.proofs.scan.scan_text.Tie as tie
+use Rattle.text_reader.proofs.scan.scan_text.Reads as reads
+use Rattle.text_reader.proofs.scan.scan_text.Lts as lts
+use Rattle.text_reader.proofs.scan.pass.Reads as pass-reads
 
 abbrev Inv-loop : tie.InvT-loop
-Inv-loop text state₀ at₀ state at = (at ≤ length text) × Bounded state at × (scan start 0 text ≡ scan state at (drop at text))
+Inv-loop text work₀ here₀ work here = Standing text work here × (length work ≡ length work₀)
 
 abbrev μ-loop : tie.MeasureT-loop
-μ-loop text state₀ at₀ state at = length text - at
+μ-loop text work₀ here₀ work here = length text - here .at
 
+-- src/scan.rt:340:5
 loop-holds : tie.Need-loop-holds Inv-loop μ-loop
-loop-holds c = (omega arith, start-sane, refl)
+loop-holds c = (starts _ _, refl)
 
-shared-slice-read-wide : tie.Need-shared-slice-read-wide Inv-loop μ-loop
-shared-slice-read-wide c = search needs
+-- src/scan.rt:341:13
+pass-requires : tie.Need-pass-requires Inv-loop μ-loop
+pass-requires c κs = record { standing = c .before .before .before .loop .inv .0; more = c .before .if1 .taken; short = c .before .before .before .before .before .before .pre .0; room = omega (arith, c .before .before .before .before .before .before .pre .1, c .before .before .before .loop .inv .1) }
 
-wide-requires : tie.Need-wide-requires Inv-loop μ-loop
-wide-requires c κs = search needs
+-- src/scan.rt:343:13
+same-length : tie.Need-same-length Inv-loop μ-loop
+same-length c = c .before .before .before .before .pass .kept .1 .0 ∙ c .before .before .before .before .before .before .before .before .loop .inv .1
 
-one-byte-requires : tie.Need-one-byte-requires Inv-loop μ-loop
-one-byte-requires c κs = (c .before .before .before .loop .inv .1, omega arith, omega (arith, c .wide .ensures .1))
-
-enum-known-next : tie.Need-enum-known-next Inv-loop μ-loop
-enum-known-next c = search needs
-
+-- src/scan.rt:343:13
 returns : tie.Need-returns Inv-loop μ-loop
-returns c =
-    let o = c .before .before .before in
-    let l = o .before .before .before .before .loop in
-    turn-refused _ _ _ _ _ _ (o .before .before .before .loop-test .taken) (o .before .wide .ensures .0) (sym (o .one-byte .ensures) ∙ c .before .next .given .1) ∙ sym (ap scanShape (l .inv .2))
+returns c = (refused-shape _ _ _ _ (c .before .before .before .before .pass .ensures .refuses (c .if2 .taken)), λ count size e. absurd (not-read _ _ _ _ e))
 
-enum-known-next-2 : tie.Need-enum-known-next-2 Inv-loop μ-loop
-enum-known-next-2 c = search needs
-
-add-at : tie.Need-add-at Inv-loop μ-loop
-add-at c = search needs
-
+-- src/scan.rt:340:5
 loop-less : tie.Need-loop-less Inv-loop μ-loop
-loop-less c = omega (arith, c .before .before .before .before .before .before .loop-test .taken)
+loop-less c = omega (arith, c .before .before .before .before .pass .ensures .further (c .if2 .left), c .before .before .before .before .pass .ensures .goes (c .if2 .left) .placed, c .before .before .before .before .before .before .if1 .taken)
 
+-- src/scan.rt:340:5
 loop-again : tie.Need-loop-again Inv-loop μ-loop
-loop-again c =
-    let o = c .before .before .before in
-    let l = o .before .before .before .before .loop in
-    let t = sym (o .one-byte .ensures) ∙ c .before .next2 .given .1 in
-    (omega (arith, o .before .before .before .loop-test .taken), step-sane _ _ _ _ (l .inv .1) t, l .inv .2 ∙ turn-next _ _ _ _ _ (o .before .before .before .loop-test .taken) (o .before .wide .ensures .0) t)
+loop-again c = (c .before .before .before .before .pass .ensures .goes (c .if2 .left), c .before .before .before .before .pass .kept .1 .0 ∙ c .before .before .before .before .before .before .before .before .loop .inv .1)
 
-at-end-requires : tie.Need-at-end-requires Inv-loop μ-loop
-at-end-requires c κs = (c .before .loop .inv .1, omega arith)
+-- src/scan.rt:348:9
+same-length-2 : tie.Need-same-length-2 Inv-loop μ-loop
+same-length-2 c = c .before .before .before .loop .inv .1
 
+-- src/scan.rt:348:9
 returns-2 : tie.Need-returns-2 Inv-loop μ-loop
-returns-2 c =
-    let l = c .before .before .loop in
-    c .at-end .ensures ∙ sym (ap scanShape (l .inv .2 ∙ at-last _ _ _ (l .inv .0) (c .before .loop-test .left)))
+returns-2 c = (end-due _ _ _ (c .before .before .before .loop .inv .0) (c .before .if1 .left) _ (c .if3 .taken), λ count size e. absurd (not-read _ _ _ _ e))
+
+-- src/scan.rt:351:9
+same-length-3 : tie.Need-same-length-3 Inv-loop μ-loop
+same-length-3 c = c .before .before .before .before .before .loop .inv .1
+
+-- src/scan.rt:351:9
+returns-3 : tie.Need-returns-3 Inv-loop μ-loop
+returns-3 c = (end-open _ _ _ (c .before .before .before .before .before .loop .inv .0) (c .before .before .before .if1 .left) _ (c .before .before .if3 .left) (c .if4 .taken), λ count size e. absurd (not-read _ _ _ _ e))
+
+-- src/scan.rt:325:1
+same-length-4 : tie.Need-same-length-4 Inv-loop μ-loop
+same-length-4 c = c .before .before .before .before .before .loop .inv .1
+
+-- src/scan.rt:325:1
+returns-4 : tie.Need-returns-4 Inv-loop μ-loop
+returns-4 c = (end-read _ _ _ (c .before .before .before .before .before .loop .inv .0) (c .before .before .before .if1 .left) (c .before .before .if3 .left) (c .if4 .left), λ count size e. end-list _ _ _ (c .before .before .before .before .before .loop .inv .0) (c .before .before .before .if1 .left) _ count size e)
 
 pub scan-text-spec : {M : Type 1} → statement M
 scan-text-spec =
@@ -69,14 +71,14 @@ scan-text-spec =
     Inv-loop
     μ-loop
     loop-holds
-    shared-slice-read-wide
-    wide-requires
-    one-byte-requires
-    enum-known-next
+    pass-requires
+    same-length
     returns
-    enum-known-next-2
-    add-at
     loop-less
     loop-again
-    at-end-requires
-    returns-2)
+    same-length-2
+    returns-2
+    same-length-3
+    returns-3
+    same-length-4
+    returns-4)

@@ -1,0 +1,4 @@
+pub mod ListLaws
+pub mod PassLaws
+pub mod MarkLaws
+pub mod PlaceLaws

@@ -1,0 +1,3 @@
+pub mod MarkList
+pub mod Shapes
+pub mod Places
