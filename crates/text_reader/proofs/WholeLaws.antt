@@ -14,7 +14,7 @@ use Rattle.words.specs.Word.{word}
 use Rattle.notation.specs.Marks.{semicolon, bar, star, ruleLeaf, idLeaf, emptyLeaf, goalLeaf, tacticLeaf, Mark, leaf, labelMark, sign, opening, closing}
 use Rattle.notation.specs.Passing.{sizes}
 use Rattle.text_reader.specs.MarkList.{MarkStands, MarksStand}
-use Rattle.text_reader.specs.Held.{framesEnd, restBytes, waits, Stacked, ShownDue, ShownHad, Shown, NotStuck, framesOf, SameBelow, Ready, Prepared}
+use Rattle.text_reader.specs.Held.{framesEnd, restBytes, waits, Stacked, ShownDue, ShownHad, Shown, NotStuck, framesOf, SameBelow, MarkReady, Prepared}
 use Rattle.text_reader.proofs.HeldLaws.{needs, state-size, drop-unstuck, reduced-size}
 use Rattle.text_reader.proofs.StoreLaws.{had-lengths}
 
@@ -61,7 +61,7 @@ module _ (ms : List Mark) (work₀ : List ℕ) (count room : ℕ) (p : Prepared 
   unfolding stateOf Stacked restBytes
   shown-start work out e = subst (λ (ns : List Mark). Shown (stateOf ns) work out (length out) (length out) framesEnd) (sym (ap (λ (i : ℕ). drop i ms) (p .all) ∙ drop-length ms)) (record { bytes = drop-length out; within = omega arith; stacked = refl })
 
-  pub ready-at : (at : ℕ) (work out : List ℕ) (front stop low : ℕ) → 0 < at → at ≤ count → length out ≡ room → length work ≡ length work₀ → MarksStand work ms at → Shown (stateOf (drop at ms)) work out front stop low → Ready ms (at - 1) work out front stop low
+  pub ready-at : (at : ℕ) (work out : List ℕ) (front stop low : ℕ) → 0 < at → at ≤ count → length out ≡ room → length work ≡ length work₀ → MarksStand work ms at → Shown (stateOf (drop at ms)) work out front stop low → MarkReady ms (at - 1) work out front stop low
   ready-at at work out front stop low h l e f st x =
       let same : at ≡ at - 1 + 1 = omega arith in
       let t = p .total in let a = p .all in let s = p .space in let sh = p .short in

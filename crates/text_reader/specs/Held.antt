@@ -103,7 +103,7 @@ abbrev pub SameBelow : (low : ℕ) → (w w′ : List ℕ) → Type 0
 SameBelow low w w′ = (i : ℕ) → i < low → getD w′ i 0 ≡ getD w i 0
 
 -- what the reading of the mark at a place in the list needs
-pub record Ready (ms : List Mark) (at : ℕ) (work out : List ℕ) (front stop low : ℕ) : Type 0 where
+pub record MarkReady (ms : List Mark) (at : ℕ) (work out : List ℕ) (front stop low : ℕ) : Type 0 where
   pub inside : at < length ms
   pub stands : MarkStands work (3 * at) (getD ms at closing)
   pub shown : Shown (stateOf (drop (at + 1) ms)) work out front stop low

@@ -1,3 +1,4 @@
 pub mod MarkList
 pub mod Shapes
+pub mod Places
 pub mod Held

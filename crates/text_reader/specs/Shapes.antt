@@ -1,4 +1,4 @@
--- The answer of the scan in the code: number and place of a refusal, or the number of marks and the bytes of their term.
+-- The answer of the scan in the code: number and place of a refusal, or how many marks the text has and the bytes of its term.
 use Prim.Native.Nat.{ℕ}
 use Rattle.format.specs.Results.{Result, told}
 use Rattle.notation.specs.Scans.{Scan}

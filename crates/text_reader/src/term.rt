@@ -10,7 +10,7 @@ ghost use Rattle.format.specs.Encoding.{wordBytes, termBytes};
 ghost use Rattle.notation.specs.Marks.{Sign, Mark, join, labelTerm};
 ghost use Rattle.notation.specs.Written.{rank};
 ghost use Rattle.notation.specs.FromRight.{Frame, waiting, bracket, reducedTerm, reducedFrames, unbracket, stateOf};
-ghost use Rattle.text_reader.specs.Held.{framesEnd, signTag, Stacked, ShownDue, ShownHad, Shown, NotStuck, rankTag, reducesMore, waits, isPlain, isPair, SameBelow, Ready, Prepared};
+ghost use Rattle.text_reader.specs.Held.{framesEnd, signTag, Stacked, ShownDue, ShownHad, Shown, NotStuck, rankTag, reducesMore, waits, isPlain, isPair, SameBelow, MarkReady, Prepared};
 use words::load16;
 use words::store16;
 
@@ -18,7 +18,7 @@ use words::store16;
 pub const FRAMES_END: usize = 196608;
 
 // Where the bytes written so far begin, where the term read last ends, and the lowest frame in the work space.
-pub struct Place {
+pub struct Writing {
     pub front: usize,
     pub stop: usize,
     pub low: usize,
@@ -70,17 +70,17 @@ fn reduces_more(low: usize, least: usize, work: &[u8]) -> bool
 }
 
 // The lowest frame, a sign, with the term read last.
-fn reduce_one(place: Place, work: &[u8], out: &mut [u8]) -> Place
-    requires { ⌜ (3 ≤ place .front) × (framesEnd ≤ length (now work)) × (length (now out) < 65536) × ((t : Term) × (s : Sign) × (u : Term) × (fs : List Frame) × ShownHad t (waiting s u ∷ fs) (now work) (now out) (place .front) (place .stop) (place .low)) ⌝ }
-    ensures { λ r. ⌜ ((t : Term) (s : Sign) (u : Term) (fs : List Frame) → ShownHad t (waiting s u ∷ fs) (now (work .entry)) (now (out .entry)) (place .front) (place .stop) (place .low) → ShownHad (join s t u) fs (now (work .entry)) (now (out .exit)) (r .front) (r .stop) (r .low)) ⌝ }
-    ensures { λ r. ⌜ (r .front + 3 ≡ place .front) × (place .low + 3 ≡ r .low) × (r .low ≤ framesEnd) ⌝ }
+fn reduce_one(writing: Writing, work: &[u8], out: &mut [u8]) -> Writing
+    requires { ⌜ (3 ≤ writing .front) × (framesEnd ≤ length (now work)) × (length (now out) < 65536) × ((t : Term) × (s : Sign) × (u : Term) × (fs : List Frame) × ShownHad t (waiting s u ∷ fs) (now work) (now out) (writing .front) (writing .stop) (writing .low)) ⌝ }
+    ensures { λ r. ⌜ ((t : Term) (s : Sign) (u : Term) (fs : List Frame) → ShownHad t (waiting s u ∷ fs) (now (work .entry)) (now (out .entry)) (writing .front) (writing .stop) (writing .low) → ShownHad (join s t u) fs (now (work .entry)) (now (out .exit)) (r .front) (r .stop) (r .low)) ⌝ }
+    ensures { λ r. ⌜ (r .front + 3 ≡ writing .front) × (writing .low + 3 ≡ r .low) × (r .low ≤ framesEnd) ⌝ }
 {
-    let front = place.front;
-    let low = place.low;
+    let front = writing.front;
+    let low = writing.low;
     let kind = work[low];
     let end = load16(work, low + 1) as usize;
     put_header(out, front - 3, kind, end - front);
-    Place {
+    Writing {
         front: front - 3,
         stop: end,
         low: low + 3,
@@ -88,10 +88,10 @@ fn reduce_one(place: Place, work: &[u8], out: &mut [u8]) -> Place
 }
 
 // Every sign among the lowest frames that binds at least as tight, with the term read last.
-fn reduce(least: usize, place: Place, work: &[u8], out: &mut [u8]) -> Place
-    requires { ⌜ (framesEnd ≤ length (now work)) × (length (now out) < 65536) × ((t : Term) × (fs : List Frame) × ShownHad t fs (now work) (now out) (place .front) (place .stop) (place .low) × (3 * waits fs ≤ place .front)) ⌝ }
-    ensures { λ r. ⌜ ((t : Term) (fs : List Frame) → ShownHad t fs (now (work .entry)) (now (out .entry)) (place .front) (place .stop) (place .low) → 3 * waits fs ≤ place .front → ShownHad (reducedTerm least t fs) (reducedFrames least fs) (now (work .entry)) (now (out .exit)) (r .front) (r .stop) (r .low)) ⌝ }
-    ensures { λ r. ⌜ (place .low ≤ r .low) × (r .low ≤ framesEnd) ⌝ }
+fn reduce(least: usize, writing: Writing, work: &[u8], out: &mut [u8]) -> Writing
+    requires { ⌜ (framesEnd ≤ length (now work)) × (length (now out) < 65536) × ((t : Term) × (fs : List Frame) × ShownHad t fs (now work) (now out) (writing .front) (writing .stop) (writing .low) × (3 * waits fs ≤ writing .front)) ⌝ }
+    ensures { λ r. ⌜ ((t : Term) (fs : List Frame) → ShownHad t fs (now (work .entry)) (now (out .entry)) (writing .front) (writing .stop) (writing .low) → 3 * waits fs ≤ writing .front → ShownHad (reducedTerm least t fs) (reducedFrames least fs) (now (work .entry)) (now (out .exit)) (r .front) (r .stop) (r .low)) ⌝ }
+    ensures { λ r. ⌜ (writing .low ≤ r .low) × (r .low ≤ framesEnd) ⌝ }
 {
     let mut here = place;
     let mut more = reduces_more(here.low, least, work);
@@ -112,47 +112,47 @@ fn push(kind: u8, end: usize, low: usize, work: &mut [u8])
 }
 
 // A term with a value: 5 bytes.
-fn put_valued(tag: u8, v: u16, place: Place, out: &mut [u8]) -> Place
-    requires { ⌜ (5 ≤ place .front) × (place .front ≤ length (now out)) ⌝ }
-    ensures { λ r. ⌜ drop (r .front) (now (out .exit)) ≡ tag ∷ (wordBytes 2 ++ (wordBytes v ++ drop (place .front) (now (out .entry)))) ⌝ }
-    ensures { λ r. ⌜ (r .front + 5 ≡ place .front) × (r .stop ≡ place .front) × (r .low ≡ place .low) ⌝ }
+fn put_valued(tag: u8, v: u16, writing: Writing, out: &mut [u8]) -> Writing
+    requires { ⌜ (5 ≤ writing .front) × (writing .front ≤ length (now out)) ⌝ }
+    ensures { λ r. ⌜ drop (r .front) (now (out .exit)) ≡ tag ∷ (wordBytes 2 ++ (wordBytes v ++ drop (writing .front) (now (out .entry)))) ⌝ }
+    ensures { λ r. ⌜ (r .front + 5 ≡ writing .front) × (r .stop ≡ writing .front) × (r .low ≡ writing .low) ⌝ }
 {
-    let front = place.front;
+    let front = writing.front;
     put_value(out, front - 2, v);
     put_header(out, front - 5, tag, 2);
-    Place {
+    Writing {
         front: front - 5,
         stop: front,
-        low: place.low,
+        low: writing.low,
     }
 }
 
 // A term without a value: 3 bytes.
-fn put_plain(tag: u8, place: Place, out: &mut [u8]) -> Place
-    requires { ⌜ (3 ≤ place .front) × (place .front ≤ length (now out)) ⌝ }
-    ensures { λ r. ⌜ drop (r .front) (now (out .exit)) ≡ tag ∷ (wordBytes 0 ++ drop (place .front) (now (out .entry))) ⌝ }
-    ensures { λ r. ⌜ (r .front + 3 ≡ place .front) × (r .stop ≡ place .front) × (r .low ≡ place .low) ⌝ }
+fn put_plain(tag: u8, writing: Writing, out: &mut [u8]) -> Writing
+    requires { ⌜ (3 ≤ writing .front) × (writing .front ≤ length (now out)) ⌝ }
+    ensures { λ r. ⌜ drop (r .front) (now (out .exit)) ≡ tag ∷ (wordBytes 0 ++ drop (writing .front) (now (out .entry))) ⌝ }
+    ensures { λ r. ⌜ (r .front + 3 ≡ writing .front) × (r .stop ≡ writing .front) × (r .low ≡ writing .low) ⌝ }
 {
-    let front = place.front;
+    let front = writing.front;
     put_header(out, front - 3, tag, 0);
-    Place {
+    Writing {
         front: front - 3,
         stop: front,
-        low: place.low,
+        low: writing.low,
     }
 }
 
 // A label: it takes everything up to its bracket or the end.
-fn on_label(v: u16, place: Place, work: &[u8], out: &mut [u8]) -> Place
-    requires { ⌜ (framesEnd ≤ length (now work)) × (length (now out) < 65536) × ((t : Term) × (fs : List Frame) × ShownHad t fs (now work) (now out) (place .front) (place .stop) (place .low) × (3 * waits fs + 5 ≤ place .front)) ⌝ }
-    ensures { λ r. ⌜ ((t : Term) (fs : List Frame) → ShownHad t fs (now (work .entry)) (now (out .entry)) (place .front) (place .stop) (place .low) → 3 * waits fs + 5 ≤ place .front → ShownHad (labelTerm v (reducedTerm 0 t fs)) (reducedFrames 0 fs) (now (work .entry)) (now (out .exit)) (r .front) (r .stop) (r .low)) ⌝ }
+fn on_label(v: u16, writing: Writing, work: &[u8], out: &mut [u8]) -> Writing
+    requires { ⌜ (framesEnd ≤ length (now work)) × (length (now out) < 65536) × ((t : Term) × (fs : List Frame) × ShownHad t fs (now work) (now out) (writing .front) (writing .stop) (writing .low) × (3 * waits fs + 5 ≤ writing .front)) ⌝ }
+    ensures { λ r. ⌜ ((t : Term) (fs : List Frame) → ShownHad t fs (now (work .entry)) (now (out .entry)) (writing .front) (writing .stop) (writing .low) → 3 * waits fs + 5 ≤ writing .front → ShownHad (labelTerm v (reducedTerm 0 t fs)) (reducedFrames 0 fs) (now (work .entry)) (now (out .exit)) (r .front) (r .stop) (r .low)) ⌝ }
 {
-    let here = reduce(0, place, work, out);
+    let here = reduce(0, writing, work, out);
     let front = here.front;
     let len = here.stop - front + 2;
     put_value(out, front - 2, v);
     put_header(out, front - 5, 18, len);
-    Place {
+    Writing {
         front: front - 5,
         stop: here.stop,
         low: here.low,
@@ -160,16 +160,16 @@ fn on_label(v: u16, place: Place, work: &[u8], out: &mut [u8]) -> Place
 }
 
 // A sign: it takes every chain to its right that binds at least as tight, and waits for what stands to its left.
-fn on_sign(tag: u8, place: Place, work: &mut [u8], out: &mut [u8]) -> Place
-    requires { ⌜ (3 ≤ place .low) × (framesEnd ≤ length (now work)) × (length (now out) < 65536) × ((t : Term) × (fs : List Frame) × ShownHad t fs (now work) (now out) (place .front) (place .stop) (place .low) × (3 * waits fs ≤ place .front)) ⌝ }
-    ensures { λ r. ⌜ ((s : Sign) (t : Term) (fs : List Frame) → tag ≡ signTag s → ShownHad t fs (now (work .entry)) (now (out .entry)) (place .front) (place .stop) (place .low) → 3 * waits fs ≤ place .front → ShownDue (waiting s (reducedTerm (rank s) t fs) ∷ reducedFrames (rank s) fs) (now (work .exit)) (now (out .exit)) (r .front) (r .low)) ⌝ }
-    ensures { λ r. ⌜ (place .low ≤ r .low + 3) × SameBelow (r .low) (now (work .entry)) (now (work .exit)) ⌝ }
+fn on_sign(tag: u8, writing: Writing, work: &mut [u8], out: &mut [u8]) -> Writing
+    requires { ⌜ (3 ≤ writing .low) × (framesEnd ≤ length (now work)) × (length (now out) < 65536) × ((t : Term) × (fs : List Frame) × ShownHad t fs (now work) (now out) (writing .front) (writing .stop) (writing .low) × (3 * waits fs ≤ writing .front)) ⌝ }
+    ensures { λ r. ⌜ ((s : Sign) (t : Term) (fs : List Frame) → tag ≡ signTag s → ShownHad t fs (now (work .entry)) (now (out .entry)) (writing .front) (writing .stop) (writing .low) → 3 * waits fs ≤ writing .front → ShownDue (waiting s (reducedTerm (rank s) t fs) ∷ reducedFrames (rank s) fs) (now (work .exit)) (now (out .exit)) (r .front) (r .low)) ⌝ }
+    ensures { λ r. ⌜ (writing .low ≤ r .low + 3) × SameBelow (r .low) (now (work .entry)) (now (work .exit)) ⌝ }
 {
     let least = rank_of(tag);
-    let here = reduce(least, place, work, out);
+    let here = reduce(least, writing, work, out);
     let low = here.low - 3;
     push(tag, here.stop, low, work);
-    Place {
+    Writing {
         front: here.front,
         stop: here.stop,
         low,
@@ -177,12 +177,12 @@ fn on_sign(tag: u8, place: Place, work: &mut [u8], out: &mut [u8]) -> Place
 }
 
 // An opening bracket: it takes everything up to its closing one, and that one away.
-fn on_opening(place: Place, work: &[u8], out: &mut [u8]) -> Place
-    requires { ⌜ (framesEnd ≤ length (now work)) × (length (now out) < 65536) × ((t : Term) × (fs : List Frame) × ShownHad t fs (now work) (now out) (place .front) (place .stop) (place .low) × (3 * waits fs ≤ place .front) × NotStuck (unbracket (reducedTerm 0 t fs) (reducedFrames 0 fs))) ⌝ }
-    ensures { λ r. ⌜ ((t : Term) (fs : List Frame) → ShownHad t fs (now (work .entry)) (now (out .entry)) (place .front) (place .stop) (place .low) → 3 * waits fs ≤ place .front → NotStuck (unbracket (reducedTerm 0 t fs) (reducedFrames 0 fs)) → Shown (unbracket (reducedTerm 0 t fs) (reducedFrames 0 fs)) (now (work .entry)) (now (out .exit)) (r .front) (r .stop) (r .low)) ⌝ }
+fn on_opening(writing: Writing, work: &[u8], out: &mut [u8]) -> Writing
+    requires { ⌜ (framesEnd ≤ length (now work)) × (length (now out) < 65536) × ((t : Term) × (fs : List Frame) × ShownHad t fs (now work) (now out) (writing .front) (writing .stop) (writing .low) × (3 * waits fs ≤ writing .front) × NotStuck (unbracket (reducedTerm 0 t fs) (reducedFrames 0 fs))) ⌝ }
+    ensures { λ r. ⌜ ((t : Term) (fs : List Frame) → ShownHad t fs (now (work .entry)) (now (out .entry)) (writing .front) (writing .stop) (writing .low) → 3 * waits fs ≤ writing .front → NotStuck (unbracket (reducedTerm 0 t fs) (reducedFrames 0 fs)) → Shown (unbracket (reducedTerm 0 t fs) (reducedFrames 0 fs)) (now (work .entry)) (now (out .exit)) (r .front) (r .stop) (r .low)) ⌝ }
 {
-    let here = reduce(0, place, work, out);
-    Place {
+    let here = reduce(0, writing, work, out);
+    Writing {
         front: here.front,
         stop: here.stop,
         low: here.low + 3,
@@ -190,16 +190,16 @@ fn on_opening(place: Place, work: &[u8], out: &mut [u8]) -> Place
 }
 
 // A closing bracket.
-fn on_closing(place: Place, work: &mut [u8]) -> Place
-    requires { ⌜ (3 ≤ place .low) × (place .low ≤ framesEnd) × (framesEnd ≤ length (now work)) ⌝ }
-    ensures { λ r. ⌜ ((fs : List Frame) (out : List ℕ) → ShownDue fs (now (work .entry)) out (place .front) (place .low) → ShownDue (bracket ∷ fs) (now (work .exit)) out (r .front) (r .low)) ⌝ }
-    ensures { λ r. ⌜ (place .low ≡ r .low + 3) × SameBelow (r .low) (now (work .entry)) (now (work .exit)) ⌝ }
+fn on_closing(writing: Writing, work: &mut [u8]) -> Writing
+    requires { ⌜ (3 ≤ writing .low) × (writing .low ≤ framesEnd) × (framesEnd ≤ length (now work)) ⌝ }
+    ensures { λ r. ⌜ ((fs : List Frame) (out : List ℕ) → ShownDue fs (now (work .entry)) out (writing .front) (writing .low) → ShownDue (bracket ∷ fs) (now (work .exit)) out (r .front) (r .low)) ⌝ }
+    ensures { λ r. ⌜ (writing .low ≡ r .low + 3) × SameBelow (r .low) (now (work .entry)) (now (work .exit)) ⌝ }
 {
-    let low = place.low - 3;
+    let low = writing.low - 3;
     work[low] = 0;
-    Place {
-        front: place.front,
-        stop: place.stop,
+    Writing {
+        front: writing.front,
+        stop: writing.stop,
         low,
     }
 }
@@ -228,30 +228,30 @@ fn is_pair(tag: u8) -> bool
 }
 
 // One mark more, from the right.
-fn on_mark(at: usize, place: Place, work: &mut [u8], out: &mut [u8]) -> Place
-    requires { ⌜ ((ms : List Mark) × Ready ms at (now work) (now out) (place .front) (place .stop) (place .low)) ⌝ }
-    ensures { λ r. ⌜ ((ms : List Mark) → Ready ms at (now (work .entry)) (now (out .entry)) (place .front) (place .stop) (place .low) → Shown (stateOf (drop at ms)) (now (work .exit)) (now (out .exit)) (r .front) (r .stop) (r .low)) ⌝ }
+fn on_mark(at: usize, writing: Writing, work: &mut [u8], out: &mut [u8]) -> Writing
+    requires { ⌜ ((ms : List Mark) × MarkReady ms at (now work) (now out) (writing .front) (writing .stop) (writing .low)) ⌝ }
+    ensures { λ r. ⌜ ((ms : List Mark) → MarkReady ms at (now (work .entry)) (now (out .entry)) (writing .front) (writing .stop) (writing .low) → Shown (stateOf (drop at ms)) (now (work .exit)) (now (out .exit)) (r .front) (r .stop) (r .low)) ⌝ }
     ensures { λ _. ⌜ SameBelow (3 * at) (now (work .entry)) (now (work .exit)) ⌝ }
 {
     let here = 3 * at;
     let kind = work[here];
     if kind == 0 {
-        return on_closing(place, work);
+        return on_closing(writing, work);
     }
     if kind == 1 {
-        return on_opening(place, work, out);
+        return on_opening(writing, work, out);
     }
     if is_plain(kind) {
-        return put_plain(kind, place, out);
+        return put_plain(kind, writing, out);
     }
     if is_pair(kind) {
-        return on_sign(kind, place, work, out);
+        return on_sign(kind, writing, work, out);
     }
     let v = load16(work, here + 1);
     if kind == 18 {
-        return on_label(v, place, work, out);
+        return on_label(v, writing, work, out);
     }
-    put_valued(kind, v, place, out)
+    put_valued(kind, v, writing, out)
 }
 
 // The term of so many marks, into just as many bytes as it has.
@@ -259,7 +259,7 @@ pub fn write_term(count: usize, work: &mut [u8], out: &mut [u8])
     requires { ⌜ ((ms : List Mark) × Prepared ms (now work) count (length (now out))) ⌝ }
     ensures { λ _. ⌜ ((ms : List Mark) (p : Prepared ms (now (work .entry)) count (length (now (out .entry)))) → now (out .exit) ≡ termBytes (p .term)) ⌝ }
 {
-    let mut place = Place {
+    let mut writing = Writing {
         front: out.len(),
         stop: out.len(),
         low: FRAMES_END,
@@ -267,7 +267,7 @@ pub fn write_term(count: usize, work: &mut [u8], out: &mut [u8])
     let mut at = count;
     while 0 < at {
         at -= 1;
-        place = on_mark(at, place, work, out);
+        writing = on_mark(at, writing, work, out);
     }
-    reduce(0, place, work, out);
+    reduce(0, writing, work, out);
 }

@@ -1,0 +1,314 @@
+-- What a mark comes to where the scan stands: it stands behind the mark, or the text is refused. One law for each answer of the code.
+-- Assumes nothing.
+use mathlib.Core.Path.{_≡_, refl, sym, ap, _∙_, subst}
+use mathlib.Core.Bool.{Bool, true, false, cond}
+use mathlib.Core.List.{List, [], _∷_}
+use Prim.Native.Nat.{ℕ, _+_, _*_, _-_, _≤_, _<_}
+use native.Mathlib.Omega.{arith}
+use lib.Dec.{leb, ltb, eqb}
+use lib.ListN.{length, getD, set, drop, length-set}
+use borrow.Author.Tests.{leb-false, lt-ltb, le-ltb, eq-eqb, ne-eqb}
+use Rattle.words.specs.Word.{word, putWord}
+use Rattle.words.specs.Kept.{Kept}
+use Rattle.format.specs.Limits.{mostTermFields}
+use Rattle.format.specs.Refusals.{Cause, limitPassed, textWrong, valueTooLarge, number}
+use Rattle.format.specs.Results.{Result, gives, refused, told}
+use Rattle.notation.specs.Letters.{isDigit}
+use Rattle.notation.specs.Marks.{Mark, leaf, labelMark, sign, opening, closing}
+use Rattle.notation.specs.MarksIn.{numberIn, marksIn}
+use Rattle.notation.specs.Meets.{NoDigit}
+use Rattle.notation.specs.Scans.{Mode, mostValue, scanned, start, beginsNumbered, isSign, finished, endIn, atEnd, scan}
+use Rattle.notation.specs.Scans as M
+use Rattle.notation.proofs.ScanLaws.{digits-over, digits-full, digits-done, label-over, label-full, label-done}
+use Rattle.text_reader.specs.MarkList.{MarkStands, MarksStand}
+use Rattle.text_reader.specs.Shapes.{scanShape}
+use Rattle.text_reader.specs.Places.{modeOf, Listed, Standing, Ready, Refuses, After, refusing, completed, bracketed, Skipped, Passed, NumberRead, LeafByte, PairBytes, SignByte}
+use Rattle.text_reader.specs.declared.scan.Place.{Place}
+use Rattle.text_reader.specs.declared.scan.ScanRead.{ScanRead}
+use Rattle.text_reader.specs.declared.scan.ScanRead.the-variants as R
+use Rattle.text_reader.proofs.ListLaws.{listed-more, listed-skip, listed-start, listed-all, kept-number, kept-valued, number-stands, valued-number, valued-word}
+use Rattle.text_reader.proofs.PassLaws.{here, at-end, value-is, no-number, no-label-number}
+use Rattle.text_reader.proofs.MarkLaws.{leafMark, leaf-begins, leaf-marks, leaf-stands, label-begins, label-marks, label-stands, label-ends-marks, label-torn, label-unclosed, pairLeaf, half, pair-begins, pair-torn, pair-other, pair-full, pair-done, pair-marks, pair-stands, signOf, sign-full, sign-done, sign-marks, sign-stands, opening-scan, opening-marks, opening-stands, closing-scan, closing-wrong, closing-marks, closing-stands, due-wrong, had-wrong}
+
+pub after-refused : (s w : List ℕ) (from : ℕ) (p r : Place) (c : Cause) (n x : ℕ) → r ≡ refusing p n x → n ≡ number c → (n ≡ 0 → ⊥) → scan start 0 s ≡ refused c x → After s w from r
+after-refused s w from p r c n x e is some scans =
+    subst (After s w from) (sym e) (record { goes = λ z. absurd (some z); further = λ z. absurd (some z); refuses = λ z. record { cause = c; is = is; scans = scans } })
+
+after-stands : (s w : List ℕ) (from : ℕ) (r : Place) → Standing s w r → from < r .at → r .number ≡ 0 → After s w from r
+after-stands s w from r st far z = record { goes = λ _. st; further = λ _. far; refuses = λ n. absurd (n z) }
+
+module _ (s w : List ℕ) (p : Place) (h : Ready s w p) where
+  -- the scan and the marks from here on, by the byte that stands here
+  scans-here : (due : Bool) (b : ℕ) → p .due ≡ due → getD s (p .at) 0 ≡ b → scan start 0 s ≡ scan (scanned (modeOf due) (h .standing .mark) (p .depth) (p .fields) (p .size)) (p .at) (b ∷ drop (p .at + 1) s)
+  scans-here due b e is =
+      h .standing .scans
+      ∙ ap (λ (t : Bool). scan (scanned (modeOf t) (h .standing .mark) (p .depth) (p .fields) (p .size)) (p .at) (drop (p .at) s)) e
+      ∙ ap (scan (scanned (modeOf due) (h .standing .mark) (p .depth) (p .fields) (p .size)) (p .at)) (here s (p .at) (h .more))
+      ∙ ap (λ (i : ℕ). scan (scanned (modeOf due) (h .standing .mark) (p .depth) (p .fields) (p .size)) (p .at) (i ∷ drop (p .at + 1) s)) is
+
+  marks-here : (b : ℕ) → getD s (p .at) 0 ≡ b → marksIn (drop (p .at) s) ≡ marksIn (b ∷ drop (p .at + 1) s)
+  marks-here b is = ap marksIn (here s (p .at) (h .more)) ∙ ap (λ (i : ℕ). marksIn (i ∷ drop (p .at + 1) s)) is
+
+  -- a mark that makes a field is complete
+  complete-ok : (w′ : List ℕ) (r : Place) (m : Mark) (next : ℕ) (due : Bool) (bytes : ℕ) → r ≡ completed p next due bytes → p .at < next → next ≤ length s → bytes ≤ 5
+      → marksIn (drop (p .at) s) ≡ m ∷ marksIn (drop next s) → Kept w w′ (3 * p .count) (3 * p .count + 3) → MarkStands w′ (3 * p .count) m
+      → (leb mostTermFields (p .fields) ≡ true → scan start 0 s ≡ refused limitPassed (p .at))
+      → (leb mostTermFields (p .fields) ≡ false → (k : ℕ) × (scan start 0 s ≡ scan (scanned (modeOf due) k (p .depth) (p .fields + 1) (p .size + bytes)) next (drop next s)))
+      → After s w′ (p .at) r
+  unfolding completed number
+  complete-ok w′ r m next due bytes e far most few marks k stands full done = go (leb mostTermFields (p .fields)) refl
+    where
+      behind : Place
+      behind = record { at = next; due = due; depth = p .depth; fields = p .fields + 1; size = p .size + bytes; count = p .count + 1; number = 0; place = 0 }
+
+      go : (x : Bool) → leb mostTermFields (p .fields) ≡ x → After s w′ (p .at) r
+      go true t = after-refused s w′ (p .at) p r limitPassed 5 (p .at) (e ∙ ap (λ (x : Bool). cond x (refusing p 5 (p .at)) behind) t) refl (λ z. omega arith) (full t)
+      go false t =
+          let d = done t in
+          let less = leb-false mostTermFields (p .fields) t in
+          let deep = h .standing .deep in
+          let sized = h .standing .sized in
+          subst (After s w′ (p .at)) (sym (e ∙ ap (λ (x : Bool). cond x (refusing p 5 (p .at)) behind) t))
+          (after-stands s w′ (p .at) behind
+          (record { mark = d .0; placed = most; deep = omega arith; few = omega arith; sized = omega arith; scans = d .1; listed = listed-more s w w′ (p .at) next (p .count) m (h .standing .listed) far marks k stands })
+          far refl)
+
+  -- the bytes of a mark in the list lie in the work space
+  room-here : 3 * p .count + 2 < length w
+  room-here =
+      let a = h .standing .listed .counted in
+      let b = h .more in
+      let c = h .room in
+      omega arith
+
+  -- a bracket
+  bracket-ok : (w′ : List ℕ) (r : Place) (m : Mark) (n depth : ℕ) → r ≡ bracketed p depth → w′ ≡ set w (3 * p .count) n → depth ≤ p .depth + 1
+      → marksIn (drop (p .at) s) ≡ m ∷ marksIn (drop (p .at + 1) s) → MarkStands w′ (3 * p .count) m
+      → scan start 0 s ≡ scan (scanned (modeOf (p .due)) (h .standing .mark) depth (p .fields) (p .size)) (p .at + 1) (drop (p .at + 1) s)
+      → After s w′ (p .at) r
+  bracket-ok w′ r m n depth e put most marks stands scans =
+      let deep = h .standing .deep in
+      let more = h .more in
+      subst (After s w′ (p .at)) (sym e)
+      (after-stands s w′ (p .at) (bracketed p depth)
+      (record {
+        mark = h .standing .mark;
+        placed = omega arith;
+        deep = omega arith;
+        few = h .standing .few;
+        sized = h .standing .sized;
+        scans = scans;
+        listed = listed-more s w w′ (p .at) (p .at + 1) (p .count) m (h .standing .listed) (omega arith) marks (subst (λ (l : List ℕ). Kept w l (3 * p .count) (3 * p .count + 3)) (sym put) (kept-number w (3 * p .count) n)) stands;
+      })
+      (omega arith) refl)
+
+  number-put : (w′ : List ℕ) (n : ℕ) → w′ ≡ set w (3 * p .count) n → getD w′ (3 * p .count) 0 ≡ n
+  number-put w′ n e = ap (λ (l : List ℕ). getD l (3 * p .count) 0) e ∙ number-stands w (3 * p .count) n (omega (arith, room-here))
+
+  pub opening-ok : (w′ : List ℕ) (r : Place) → p .due ≡ true → getD s (p .at) 0 ≡ 40 → r ≡ bracketed p (p .depth + 1) → w′ ≡ set w (3 * p .count) 1 → After s w′ (p .at) r
+  opening-ok w′ r due is e put =
+      bracket-ok w′ r opening 1 (p .depth + 1) e put (omega arith) (marks-here 40 is ∙ opening-marks (drop (p .at + 1) s)) (opening-stands w′ (3 * p .count) (number-put w′ 1 put))
+      (scans-here true 40 due is ∙ opening-scan (h .standing .mark) (p .depth) (p .fields) (p .size) (p .at) (drop (p .at + 1) s)
+      ∙ ap (λ (t : Bool). scan (scanned (modeOf t) (h .standing .mark) (p .depth + 1) (p .fields) (p .size)) (p .at + 1) (drop (p .at + 1) s)) (sym due))
+
+  pub closing-ok : (w′ : List ℕ) (r : Place) → p .due ≡ false → getD s (p .at) 0 ≡ 41 → (p .depth ≡ 0 → ⊥) → r ≡ bracketed p (p .depth - 1) → w′ ≡ set w (3 * p .count) 0 → After s w′ (p .at) r
+  closing-ok w′ r due is some e put =
+      bracket-ok w′ r closing 0 (p .depth - 1) e put (omega arith) (marks-here 41 is ∙ closing-marks (drop (p .at + 1) s)) (closing-stands w′ (3 * p .count) (number-put w′ 0 put))
+      (scans-here false 41 due is ∙ closing-scan (h .standing .mark) (p .depth) (p .fields) (p .size) (p .at) (drop (p .at + 1) s) some
+      ∙ ap (λ (t : Bool). scan (scanned (modeOf t) (h .standing .mark) (p .depth - 1) (p .fields) (p .size)) (p .at + 1) (drop (p .at + 1) s)) (sym due))
+
+  pub closing-refused : (w′ : List ℕ) (r : Place) → p .due ≡ false → getD s (p .at) 0 ≡ 41 → p .depth ≡ 0 → r ≡ refusing p 36 (p .at) → After s w′ (p .at) r
+  unfolding number
+  closing-refused w′ r due is none e = after-refused s w′ (p .at) p r textWrong 36 (p .at) e refl (λ z. omega arith) (scans-here false 41 due is ∙ closing-wrong (h .standing .mark) (p .depth) (p .fields) (p .size) (p .at) (drop (p .at + 1) s) none)
+
+  pub had-refused : (w′ : List ℕ) (r : Place) (b : ℕ) → p .due ≡ false → getD s (p .at) 0 ≡ b → (b ≡ 32 → ⊥) → isSign b ≡ false → (b ≡ 41 → ⊥) → r ≡ refusing p 36 (p .at) → After s w′ (p .at) r
+  unfolding number
+  had-refused w′ r b due is n₁ n₂ n₃ e = after-refused s w′ (p .at) p r textWrong 36 (p .at) e refl (λ z. omega arith) (scans-here false b due is ∙ had-wrong (h .standing .mark) (p .depth) (p .fields) (p .size) (p .at) b (drop (p .at + 1) s) n₁ n₂ n₃)
+
+  pub due-refused : (w′ : List ℕ) (r : Place) (b : ℕ) → p .due ≡ true → getD s (p .at) 0 ≡ b → (b ≡ 32 → ⊥) → (b ≡ 40 → ⊥) → (b ≡ 91 → ⊥) → beginsNumbered b ≡ false → (b ≡ 105 → ⊥) → (b ≡ 60 → ⊥) → r ≡ refusing p 36 (p .at) → After s w′ (p .at) r
+  unfolding number
+  due-refused w′ r b due is n₁ n₂ n₃ n₄ n₅ n₆ e = after-refused s w′ (p .at) p r textWrong 36 (p .at) e refl (λ z. omega arith) (scans-here true b due is ∙ due-wrong (h .standing .mark) (p .depth) (p .fields) (p .size) (p .at) b (drop (p .at + 1) s) n₁ n₂ n₃ n₄ n₅ n₆)
+
+  -- a sign
+  pub sign-ok : (w′ : List ℕ) (r : Place) (b tag : ℕ) → p .due ≡ false → getD s (p .at) 0 ≡ b → SignByte b tag → w′ ≡ set w (3 * p .count) tag → r ≡ completed p (p .at + 1) true 3 → After s w′ (p .at) r
+  sign-ok w′ r b tag due is x put e =
+      let more = h .more in
+      complete-ok w′ r (sign (signOf x)) (p .at + 1) true 3 e (omega arith) (omega arith) (omega arith) (marks-here b is ∙ sign-marks x (drop (p .at + 1) s))
+      (subst (λ (l : List ℕ). Kept w l (3 * p .count) (3 * p .count + 3)) (sym put) (kept-number w (3 * p .count) tag)) (sign-stands x w′ (3 * p .count) (number-put w′ tag put))
+      (λ g. scans-here false b due is ∙ sign-full x (h .standing .mark) (p .depth) (p .fields) (p .size) (p .at) (drop (p .at + 1) s) g)
+      (λ g. (h .standing .mark, scans-here false b due is ∙ sign-done x (h .standing .mark) (p .depth) (p .fields) (p .size) (p .at) (drop (p .at + 1) s) g))
+
+  -- blanks
+  pub blanks-ok : (r : Place) (next : ℕ) → Skipped s (p .at) next → p .at < next
+      → r ≡ record { at = next; due = p .due; depth = p .depth; fields = p .fields; size = p .size; count = p .count; number = 0; place = 0 } → After s w (p .at) r
+  blanks-ok r next x far e =
+      let deep = h .standing .deep in
+      subst (After s w (p .at)) (sym e)
+      (after-stands s w (p .at) _
+      (record {
+        mark = h .standing .mark;
+        placed = x .placed;
+        deep = omega arith;
+        few = h .standing .few;
+        sized = h .standing .sized;
+        scans = h .standing .scans ∙ x .scans (p .due) (h .standing .mark) (p .depth) (p .fields) (p .size);
+        listed = listed-skip s w (p .at) next (p .count) (h .standing .listed) (omega arith) (x .marks);
+      })
+      far refl)
+
+  -- a leaf of two bytes
+  module _ (b second tag : ℕ) (due : p .due ≡ true) (is : getD s (p .at) 0 ≡ b) (x : PairBytes b second tag) where
+    half-scans : scan start 0 s ≡ scan (scanned (half x) (p .at) (p .depth) (p .fields) (p .size)) (p .at + 1) (drop (p .at + 1) s)
+    half-scans = scans-here true b due is ∙ pair-begins x (h .standing .mark) (p .depth) (p .fields) (p .size) (p .at) (drop (p .at + 1) s)
+
+    pub pair-short : (w′ : List ℕ) (r : Place) → length s ≤ p .at + 1 → r ≡ refusing p 36 (p .at + 1) → After s w′ (p .at) r
+    unfolding number
+    pair-short w′ r l e =
+        after-refused s w′ (p .at) p r textWrong 36 (p .at + 1) e refl (λ z. omega arith)
+        (half-scans ∙ ap (scan (scanned (half x) (p .at) (p .depth) (p .fields) (p .size)) (p .at + 1)) (at-end s (p .at + 1) l) ∙ pair-torn x (p .at) (p .depth) (p .fields) (p .size) (p .at + 1))
+
+    pub pair-refused : (w′ : List ℕ) (r : Place) → p .at + 1 < length s → (getD s (p .at + 1) 0 ≡ second → ⊥) → r ≡ refusing p 36 (p .at + 1) → After s w′ (p .at) r
+    unfolding number
+    pair-refused w′ r l n e =
+        after-refused s w′ (p .at) p r textWrong 36 (p .at + 1) e refl (λ z. omega arith)
+        (half-scans ∙ ap (scan (scanned (half x) (p .at) (p .depth) (p .fields) (p .size)) (p .at + 1)) (here s (p .at + 1) l)
+        ∙ pair-other x (p .at) (p .depth) (p .fields) (p .size) (p .at + 1) (getD s (p .at + 1) 0) (drop (p .at + 1 + 1) s) n)
+
+    second-is : p .at + 1 < length s → getD s (p .at + 1) 0 ≡ second → drop (p .at + 1) s ≡ second ∷ drop (p .at + 1 + 1) s
+    second-is l n = here s (p .at + 1) l ∙ ap {B = List ℕ} (λ c. c ∷ drop (p .at + 1 + 1) s) n
+
+    pub pair-ok : (w′ : List ℕ) (r : Place) → p .at + 1 < length s → getD s (p .at + 1) 0 ≡ second → w′ ≡ set w (3 * p .count) tag → r ≡ completed p (p .at + 1 + 1) false 3 → After s w′ (p .at) r
+    pair-ok w′ r l n put e =
+        let scans : scan start 0 s ≡ scan (scanned (half x) (p .at) (p .depth) (p .fields) (p .size)) (p .at + 1) (second ∷ drop (p .at + 1 + 1) s) = half-scans ∙ ap (scan (scanned (half x) (p .at) (p .depth) (p .fields) (p .size)) (p .at + 1)) (second-is l n) in
+        complete-ok w′ r (leaf (pairLeaf x)) (p .at + 1 + 1) false 3 e (omega arith) (omega arith) (omega arith)
+        (marks-here b is ∙ ap (λ (t : List ℕ). marksIn (b ∷ t)) (second-is l n) ∙ pair-marks x (drop (p .at + 1 + 1) s))
+        (subst (λ (t : List ℕ). Kept w t (3 * p .count) (3 * p .count + 3)) (sym put) (kept-number w (3 * p .count) tag)) (pair-stands x w′ (3 * p .count) (number-put w′ tag put))
+        (λ g. scans ∙ pair-full x (p .at) (p .depth) (p .fields) (p .size) (p .at + 1) (drop (p .at + 1 + 1) s) g)
+        (λ g. (p .at, scans ∙ pair-done x (p .at) (p .depth) (p .fields) (p .size) (p .at + 1) (drop (p .at + 1 + 1) s) g))
+
+  -- a number was read behind the first byte of a mark
+  module _ (v next : ℕ) (n : NumberRead s (p .at + 1) v next) where
+    -- the value and the number of a mark are put in the list
+    valued-kept : (w′ : List ℕ) (tag : ℕ) → w′ ≡ set (putWord w (3 * p .count + 1) v) (3 * p .count) tag → Kept w w′ (3 * p .count) (3 * p .count + 3)
+    valued-kept w′ tag put = subst (λ (t : List ℕ). Kept w t (3 * p .count) (3 * p .count + 3)) (sym put) (kept-valued w (3 * p .count) v tag)
+
+    -- a leaf
+    module _ (b tag : ℕ) (due : p .due ≡ true) (is : getD s (p .at) 0 ≡ b) (x : LeafByte b tag) where
+      leaf-scans : scan start 0 s ≡ scan (scanned M.begun (p .at) (p .depth) (p .fields) (p .size)) (p .at + 1) (drop (p .at + 1) s)
+      leaf-scans = scans-here true b due is ∙ leaf-begins x (h .standing .mark) (p .depth) (p .fields) (p .size) (p .at) (drop (p .at + 1) s)
+
+      pub leaf-none : (w′ : List ℕ) (r : Place) → next ≡ p .at + 1 → r ≡ refusing p 36 (p .at + 1) → After s w′ (p .at) r
+      unfolding number
+      leaf-none w′ r l e = after-refused s w′ (p .at) p r textWrong 36 (p .at + 1) e refl (λ z. omega arith) (leaf-scans ∙ no-number s (p .at + 1) v next n l (p .at) (p .depth) (p .fields) (p .size))
+
+      digits-scans : p .at + 1 < next → scan start 0 s ≡ scan (scanned (M.inDigits v) (p .at) (p .depth) (p .fields) (p .size)) next (drop next s)
+      digits-scans l = leaf-scans ∙ n .passed .leaves l (p .at) (p .depth) (p .fields) (p .size)
+
+      some-digit : (next ≡ p .at + 1 → ⊥) → p .at + 1 < next
+      some-digit l = let up = n .passed .rises in omega arith
+
+      pub leaf-large : (w′ : List ℕ) (r : Place) → (next ≡ p .at + 1 → ⊥) → mostValue < v → r ≡ refusing p 37 (p .at + 1) → After s w′ (p .at) r
+      unfolding number
+      leaf-large w′ r l o e =
+          after-refused s w′ (p .at) p r valueTooLarge 37 (p .at + 1) e refl (λ z. omega arith)
+          (digits-scans (some-digit l) ∙ digits-over v (p .at) (p .depth) (p .fields) (p .size) next (drop next s) (n .last) (lt-ltb mostValue v o))
+
+      pub leaf-ok : (w₁ w′ : List ℕ) (r : Place) → (next ≡ p .at + 1 → ⊥) → v ≤ mostValue → w₁ ≡ putWord w (3 * p .count + 1) v → w′ ≡ set w₁ (3 * p .count) tag → r ≡ completed p next false 5 → After s w′ (p .at) r
+      leaf-ok w₁ w′ r l o put₁ put₂ e =
+          let put : w′ ≡ set (putWord w (3 * p .count + 1) v) (3 * p .count) tag = put₂ ∙ ap (λ (t : List ℕ). set t (3 * p .count) tag) put₁ in
+          let up = some-digit l in
+          complete-ok w′ r (leafMark x v) next false 5 e (omega arith) (n .passed .placed) (omega arith)
+          (marks-here b is ∙ leaf-marks x (drop (p .at + 1) s)
+          ∙ ap {B = List Mark} (λ i. leafMark x i ∷ marksIn (drop (p .at + 1) s)) (value-is s (p .at + 1) v next n o)
+          ∙ ap {B = List Mark} (λ t. leafMark x v ∷ t) (n .passed .marks))
+          (valued-kept w′ tag put)
+          (leaf-stands x w′ (3 * p .count) v (ap (λ (t : List ℕ). getD t (3 * p .count) 0) put ∙ valued-number w (3 * p .count) v tag (omega (arith, room-here)))
+          (ap (λ (t : List ℕ). word t (3 * p .count + 1)) put ∙ valued-word w (3 * p .count) v tag (omega (arith, room-here))))
+          (λ g. digits-scans up ∙ digits-full v (p .at) (p .depth) (p .fields) (p .size) next (drop next s) (n .last) (le-ltb mostValue v o) g)
+          (λ g. (p .at, digits-scans up ∙ digits-done v (p .at) (p .depth) (p .fields) (p .size) next (drop next s) (n .last) (le-ltb mostValue v o) g))
+
+    -- a label
+    module _ (due : p .due ≡ true) (is : getD s (p .at) 0 ≡ 91) where
+      label-scans : scan start 0 s ≡ scan (scanned M.labelBegun (p .at) (p .depth) (p .fields) (p .size)) (p .at + 1) (drop (p .at + 1) s)
+      label-scans = scans-here true 91 due is ∙ label-begins (h .standing .mark) (p .depth) (p .fields) (p .size) (p .at) (drop (p .at + 1) s)
+
+      pub label-none : (w′ : List ℕ) (r : Place) → next ≡ p .at + 1 → r ≡ refusing p 36 (p .at + 1) → After s w′ (p .at) r
+      unfolding number
+      label-none w′ r l e = after-refused s w′ (p .at) p r textWrong 36 (p .at + 1) e refl (λ z. omega arith) (label-scans ∙ no-label-number s (p .at + 1) v next n l (p .at) (p .depth) (p .fields) (p .size))
+
+      label-digits : (next ≡ p .at + 1 → ⊥) → scan start 0 s ≡ scan (scanned (M.inLabelDigits v) (p .at) (p .depth) (p .fields) (p .size)) next (drop next s)
+      label-digits l = let up = n .passed .rises in label-scans ∙ n .passed .labels (omega arith) (p .at) (p .depth) (p .fields) (p .size)
+
+      pub label-large : (w′ : List ℕ) (r : Place) → (next ≡ p .at + 1 → ⊥) → mostValue < v → r ≡ refusing p 37 (p .at + 1) → After s w′ (p .at) r
+      unfolding number
+      label-large w′ r l o e =
+          after-refused s w′ (p .at) p r valueTooLarge 37 (p .at + 1) e refl (λ z. omega arith)
+          (label-digits l ∙ label-over v (p .at) (p .depth) (p .fields) (p .size) next (drop next s) (n .last) (lt-ltb mostValue v o))
+
+      pub label-short : (w′ : List ℕ) (r : Place) → (next ≡ p .at + 1 → ⊥) → v ≤ mostValue → length s ≤ next → r ≡ refusing p 36 next → After s w′ (p .at) r
+      unfolding number
+      label-short w′ r l o end e =
+          after-refused s w′ (p .at) p r textWrong 36 next e refl (λ z. omega arith)
+          (label-digits l ∙ ap (scan (scanned (M.inLabelDigits v) (p .at) (p .depth) (p .fields) (p .size)) next) (at-end s next end) ∙ label-torn v (p .at) (p .depth) (p .fields) (p .size) next (le-ltb mostValue v o))
+
+      pub label-refused : (w′ : List ℕ) (r : Place) → (next ≡ p .at + 1 → ⊥) → v ≤ mostValue → next < length s → (getD s next 0 ≡ 93 → ⊥) → r ≡ refusing p 36 next → After s w′ (p .at) r
+      unfolding number
+      label-refused w′ r l o end other e =
+          after-refused s w′ (p .at) p r textWrong 36 next e refl (λ z. omega arith)
+          (label-digits l ∙ ap (scan (scanned (M.inLabelDigits v) (p .at) (p .depth) (p .fields) (p .size)) next) (here s next end)
+          ∙ label-unclosed v (p .at) (p .depth) (p .fields) (p .size) next (getD s next 0) (drop (next + 1) s) (le-ltb mostValue v o) (subst NoDigit (here s next end) (n .last)) (ne-eqb (getD s next 0) 93 other))
+
+      closed : next < length s → getD s next 0 ≡ 93 → drop next s ≡ 93 ∷ drop (next + 1) s
+      closed end c = here s next end ∙ ap {B = List ℕ} (λ i. i ∷ drop (next + 1) s) c
+
+      pub label-ok : (w₁ w′ : List ℕ) (r : Place) → (next ≡ p .at + 1 → ⊥) → v ≤ mostValue → next < length s → getD s next 0 ≡ 93 → w₁ ≡ putWord w (3 * p .count + 1) v → w′ ≡ set w₁ (3 * p .count) 18 → r ≡ completed p (next + 1) true 5 → After s w′ (p .at) r
+      label-ok w₁ w′ r l o end c put₁ put₂ e =
+          let put : w′ ≡ set (putWord w (3 * p .count + 1) v) (3 * p .count) 18 = put₂ ∙ ap (λ (t : List ℕ). set t (3 * p .count) 18) put₁ in
+          let up = n .passed .rises in
+          let scans : scan start 0 s ≡ scan (scanned (M.inLabelDigits v) (p .at) (p .depth) (p .fields) (p .size)) next (93 ∷ drop (next + 1) s) = label-digits l ∙ ap (scan (scanned (M.inLabelDigits v) (p .at) (p .depth) (p .fields) (p .size)) next) (closed end c) in
+          complete-ok w′ r (labelMark v) (next + 1) true 5 e (omega arith) (omega arith) (omega arith)
+          (marks-here 91 is ∙ label-marks (drop (p .at + 1) s)
+          ∙ ap {B = List Mark} (λ i. labelMark i ∷ marksIn (drop (p .at + 1) s)) (value-is s (p .at + 1) v next n o)
+          ∙ ap {B = List Mark} (λ t. labelMark v ∷ t) (n .passed .marks ∙ ap marksIn (closed end c) ∙ label-ends-marks (drop (next + 1) s)))
+          (valued-kept w′ 18 put)
+          (label-stands w′ (3 * p .count) v (ap (λ (t : List ℕ). getD t (3 * p .count) 0) put ∙ valued-number w (3 * p .count) v 18 (omega (arith, room-here)))
+          (ap (λ (t : List ℕ). word t (3 * p .count + 1)) put ∙ valued-word w (3 * p .count) v 18 (omega (arith, room-here))))
+          (λ g. scans ∙ label-full v (p .at) (p .depth) (p .fields) (p .size) next (drop (next + 1) s) (le-ltb mostValue v o) g)
+          (λ g. (p .at, scans ∙ label-done v (p .at) (p .depth) (p .fields) (p .size) next (drop (next + 1) s) (le-ltb mostValue v o) g))
+
+-- before the first byte
+pub starts : (s w : List ℕ) → Standing s w (record { at = 0; due = true; depth = 0; fields = 0; size = 0; count = 0; number = 0; place = 0 })
+starts s w = record { mark = 0; placed = omega arith; deep = omega arith; few = omega arith; sized = omega arith; scans = refl; listed = listed-start s w }
+
+-- the answer after a refusal
+pub refused-shape : (s : List ℕ) (n told place : ℕ) → Refuses s told place → R.Refused told place ≡ scanShape n (scan start 0 s)
+unfolding scanShape told
+refused-shape s n t place x = ap (λ (i : ℕ). R.Refused i place) (x .is) ∙ sym (ap (scanShape n) (x .scans))
+
+pub not-read : (told place count size : ℕ) → R.Refused told place ≡ R.Read count size → ⊥
+not-read t place count size e = let z : _≡_ {A = ℕ} 0 1 = cc in omega arith
+
+-- at the end of the text
+module _ (s w : List ℕ) (p : Place) (h : Standing s w p) (end : length s ≤ p .at) where
+  end-scans : (due : Bool) → p .due ≡ due → scan start 0 s ≡ scan (scanned (modeOf due) (h .mark) (p .depth) (p .fields) (p .size)) (p .at) []
+  end-scans due e =
+      h .scans
+      ∙ ap (λ (t : Bool). scan (scanned (modeOf t) (h .mark) (p .depth) (p .fields) (p .size)) (p .at) (drop (p .at) s)) e
+      ∙ ap (scan (scanned (modeOf due) (h .mark) (p .depth) (p .fields) (p .size)) (p .at)) (at-end s (p .at) end)
+
+  pub end-due : (n : ℕ) → p .due ≡ true → R.Refused 36 (p .at) ≡ scanShape n (scan start 0 s)
+  unfolding scanShape told number scan atEnd endIn
+  end-due n e = sym (ap (scanShape n) (end-scans true e))
+
+  pub end-open : (n : ℕ) → p .due ≡ false → (p .depth ≡ 0 → ⊥) → R.Refused 36 (p .at) ≡ scanShape n (scan start 0 s)
+  unfolding scanShape told number scan atEnd endIn finished
+  end-open n e d = sym (ap (scanShape n) (end-scans false e) ∙ rw (ne-eqb (p .depth) 0 d))
+
+  pub end-read : p .due ≡ false → p .depth ≡ 0 → R.Read (p .count) (p .size) ≡ scanShape (length (marksIn s)) (scan start 0 s)
+  unfolding scanShape told number scan atEnd endIn finished
+  end-read e d =
+      ap (λ (i : ℕ). R.Read i (p .size)) (listed-all s w (p .at) (p .count) (h .listed) (at-end s (p .at) end))
+      ∙ sym (ap (scanShape (length (marksIn s))) (end-scans false e) ∙ rw (eq-eqb (p .depth) 0 d))
+
+  pub end-list : (size count told : ℕ) → R.Read (p .count) size ≡ R.Read count told → MarksStand w (marksIn s) count
+  end-list size count told e = let same : p .count ≡ count = cc in subst (MarksStand w (marksIn s)) same (h .listed .stand)

@@ -1,0 +1,110 @@
+-- The scan of a text in the code, mark by mark: what holds where it stands between two marks, and what a run of blanks, a number and a mark come to.
+use Prim.Native.Nat.{ℕ, _+_, _*_, _≤_, _<_}
+use mathlib.Core.Path.{_≡_}
+use mathlib.Core.Bool.{Bool, true, false, cond}
+use mathlib.Core.List.{List, []}
+use lib.Dec.{leb}
+use lib.ListN.{length, drop}
+use Rattle.format.specs.Limits.{mostTermFields}
+use Rattle.format.specs.Refusals.{Cause, number}
+use Rattle.format.specs.Results.{refused}
+use Rattle.notation.specs.Meets.{NoDigit}
+use Rattle.notation.specs.MarksIn.{numberIn, marksIn}
+use Rattle.notation.specs.Scans.{Mode, mostValue, scanned, start, scan}
+use Rattle.notation.specs.Scans as M
+use Rattle.text_reader.specs.MarkList.{MarksStand}
+use Rattle.text_reader.specs.declared.scan.Place.{Place}
+
+-- the mode of the definition between two marks
+abbrev pub modeOf : Bool → Mode
+modeOf true = M.due
+modeOf false = M.had
+
+-- The marks before a place are in the list; those that are left are the marks of the bytes from there on.
+pub record Listed (s w : List ℕ) (at count : ℕ) : Type 0 where
+  pub counted : count ≤ at
+  pub within : count ≤ length (marksIn s)
+  pub rest : drop count (marksIn s) ≡ marksIn (drop at s)
+  pub stand : MarksStand w (marksIn s) count
+
+-- The scan of the whole text is that of the bytes from here on. Between two marks the place of the mark begun last, which the definition keeps, has no effect.
+pub record Standing (s w : List ℕ) (p : Place) : Type 0 where
+  pub mark : ℕ
+  pub placed : p .at ≤ length s
+  pub deep : p .depth ≤ p .at
+  pub few : p .fields ≤ mostTermFields
+  pub sized : p .size ≤ 5 * p .fields
+  pub scans : scan start 0 s ≡ scan (scanned (modeOf (p .due)) mark (p .depth) (p .fields) (p .size)) (p .at) (drop (p .at) s)
+  pub listed : Listed s w (p .at) (p .count)
+
+-- a byte is left, and the list has room for a mark of each byte
+pub record Ready (s w : List ℕ) (p : Place) : Type 0 where
+  pub standing : Standing s w p
+  pub more : p .at < length s
+  pub short : length s < 65536
+  pub room : 3 * length s ≤ length w
+
+-- the text is refused, by a cause of that number
+pub record Refuses (s : List ℕ) (told place : ℕ) : Type 0 where
+  pub cause : Cause
+  pub is : told ≡ number cause
+  pub scans : scan start 0 s ≡ refused cause place
+
+-- Behind a mark or blanks that begin at a place: the scan stands further on, or the text is refused.
+pub record After (s w : List ℕ) (from : ℕ) (r : Place) : Type 0 where
+  pub goes : r .number ≡ 0 → Standing s w r
+  pub further : r .number ≡ 0 → from < r .at
+  pub refuses : (r .number ≡ 0 → ⊥) → Refuses s (r .number) (r .place)
+
+abbrev pub refusing : Place → (told place : ℕ) → Place
+refusing p told place = record { at = p .at; due = p .due; depth = p .depth; fields = p .fields; size = p .size; count = p .count; number = told; place = place }
+
+-- A mark that makes a field is complete, and the next byte is at a place: a field too many is refused where the mark began.
+unfoldable pub completed : Place → (next : ℕ) → (due : Bool) → (bytes : ℕ) → Place
+completed p next due bytes =
+    cond (leb mostTermFields (p .fields))
+    (refusing p 5 (p .at))
+    (record { at = next; due = due; depth = p .depth; fields = p .fields + 1; size = p .size + bytes; count = p .count + 1; number = 0; place = 0 })
+
+-- a bracket was read, and so many are not closed behind it
+abbrev pub bracketed : Place → (depth : ℕ) → Place
+bracketed p depth = record { at = p .at + 1; due = p .due; depth = depth; fields = p .fields; size = p .size; count = p .count + 1; number = 0; place = 0 }
+
+-- between two places stand blanks alone
+pub record Skipped (s : List ℕ) (from to : ℕ) : Type 0 where
+  pub rises : from ≤ to
+  pub placed : to ≤ length s
+  pub scans : (due : Bool) (k d f z : ℕ) → scan (scanned (modeOf due) k d f z) from (drop from s) ≡ scan (scanned (modeOf due) k d f z) to (drop to s)
+  pub marks : marksIn (drop from s) ≡ marksIn (drop to s)
+
+-- Digits stand from one place to another, of a leaf or of a label; the value is exact where it is not too large.
+pub record Passed (s : List ℕ) (from v to : ℕ) : Type 0 where
+  pub rises : from ≤ to
+  pub placed : to ≤ length s
+  pub none : to ≡ from → v ≡ 0
+  pub leaves : from < to → (k d f z : ℕ) → scan (scanned M.begun k d f z) from (drop from s) ≡ scan (scanned (M.inDigits v) k d f z) to (drop to s)
+  pub labels : from < to → (k d f z : ℕ) → scan (scanned M.labelBegun k d f z) from (drop from s) ≡ scan (scanned (M.inLabelDigits v) k d f z) to (drop to s)
+  pub marks : marksIn (drop from s) ≡ marksIn (drop to s)
+  pub value : v ≤ mostValue → numberIn 0 (drop from s) ≡ numberIn v (drop to s)
+
+-- and no digit follows
+pub record NumberRead (s : List ℕ) (from v to : ℕ) : Type 0 where
+  pub passed : Passed s from v to
+  pub last : NoDigit (drop to s)
+
+-- The first byte of a leaf with a number, and the leaf's tag.
+pub data LeafByte : (first tag : ℕ) → Type 0 where
+  rule : LeafByte 97 16
+  goal : LeafByte 63 23
+  tactic : LeafByte 84 24
+
+-- The two bytes of a leaf without a number, and its tag.
+pub data PairBytes : (first second tag : ℕ) → Type 0 where
+  identity : PairBytes 105 100 17
+  nothing : PairBytes 60 62 21
+
+-- The byte of a sign, and its tag.
+pub data SignByte : (byte tag : ℕ) → Type 0 where
+  semicolon : SignByte 59 19
+  star : SignByte 42 20
+  bar : SignByte 124 22
