@@ -93,7 +93,7 @@ fn reduce(least: usize, writing: Writing, work: &[u8], out: &mut [u8]) -> Writin
     ensures { λ r. ⌜ ((t : Term) (fs : List Frame) → ShownHad t fs (now (work .entry)) (now (out .entry)) (writing .front) (writing .stop) (writing .low) → 3 * waits fs ≤ writing .front → ShownHad (reducedTerm least t fs) (reducedFrames least fs) (now (work .entry)) (now (out .exit)) (r .front) (r .stop) (r .low)) ⌝ }
     ensures { λ r. ⌜ (writing .low ≤ r .low) × (r .low ≤ framesEnd) ⌝ }
 {
-    let mut here = place;
+    let mut here = writing;
     let mut more = reduces_more(here.low, least, work);
     while more {
         here = reduce_one(here, work, out);
