@@ -1,0 +1,6 @@
+pub mod StoreLaws
+pub mod DigitLaws
+pub mod TextByTag
+pub mod StackLaws
+pub mod CodeLaws
+pub mod TurnLaws
