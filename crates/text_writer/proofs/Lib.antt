@@ -4,3 +4,4 @@ pub mod TextByTag
 pub mod StackLaws
 pub mod CodeLaws
 pub mod TurnLaws
+pub mod EntryLaws

@@ -68,7 +68,7 @@ module _ (s whole w : List ℕ) (x : Writing) (t : Term) (fs : List Frame) where
       }))
 
   -- and then the term needs none
-  pub bracket-plain : Due s whole w mostFrames x t fs → (tag : ℕ) → tag ≡ getD s (x .at) 0 → wrapsTag tag (x .binds) (x .followed) ≡ true → (w′ : List ℕ) → w′ ≡ set (set w (x .len) 40) (stackPlace + x .top) 0 → (r : Writing) → r ≡ opened x → Plain s w′ r tag
+  abbrev pub bracket-plain : Due s whole w mostFrames x t fs → (tag : ℕ) → tag ≡ getD s (x .at) 0 → wrapsTag tag (x .binds) (x .followed) ≡ true → (w′ : List ℕ) → w′ ≡ set (set w (x .len) 40) (stackPlace + x .top) 0 → (r : Writing) → r ≡ opened x → Plain s w′ r tag
   bracket-plain d tag i e w′ v r q = record {
     whole = whole;
     term = t;
@@ -79,7 +79,7 @@ module _ (s whole w : List ℕ) (x : Writing) (t : Term) (fs : List Frame) where
   }
 
   -- a term that needs no brackets
-  pub plain-law : Due s whole w mostFrames x t fs → (tag : ℕ) → tag ≡ getD s (x .at) 0 → wrapsTag tag (x .binds) (x .followed) ≡ false → Plain s w x tag
+  abbrev pub plain-law : Due s whole w mostFrames x t fs → (tag : ℕ) → tag ≡ getD s (x .at) 0 → wrapsTag tag (x .binds) (x .followed) ≡ false → Plain s w x tag
   plain-law d tag i e = record {
     whole = whole;
     term = t;
@@ -128,9 +128,9 @@ module _ (s w : List ℕ) (x : Writing) (tag : ℕ) (p : Plain s w x tag) where
       let named = subst (λ (n : ℕ). textIn t (x .binds) (x .followed) ≡ textIn l (rankTag n + 1) true ++ (signText n ++ textIn u (rankTag n) (x .followed))) (sym tag-of) (a .text) in
       let frame = pair tag u (x .followed) in
       let text : textIn t (x .binds) (x .followed) ++ restText fs ≡ textIn l (rankTag tag + 1) true ++ restText (frame ∷ fs) =
-          ap (λ (y : List ℕ). y ++ restText fs) named
-          ∙ append-assoc (textIn l (rankTag tag + 1) true) (signText tag ++ textIn u (rankTag tag) (x .followed)) (restText fs)
-          ∙ ap (λ (y : List ℕ). textIn l (rankTag tag + 1) true ++ y) (append-assoc (signText tag) (textIn u (rankTag tag) (x .followed)) (restText fs)) in
+      ap (λ (y : List ℕ). y ++ restText fs) named
+      ∙ append-assoc (textIn l (rankTag tag + 1) true) (signText tag ++ textIn u (rankTag tag) (x .followed)) (restText fs)
+      ∙ ap (λ (y : List ℕ). textIn l (rankTag tag + 1) true ++ y) (append-assoc (signText tag) (textIn u (rankTag tag) (x .followed)) (restText fs)) in
       let todo = textIn l (rankTag tag + 1) true ++ restText (frame ∷ fs) in
       let one = push whole w (x .len) (x .top) frame todo fs (omega (arith, d .few, a .counts, some-fields l)) (as-todo whole w (x .len) (x .top) _ todo fs text (d .held)) in
       let ends : x .at + size t ≡ x .at + 3 + size l + size u = omega (arith, a .sizes) in
@@ -237,6 +237,9 @@ settled-next s whole w x y more st e w′ v r q more′ m =
       at-same = ap (λ (z : Writing). z .at) q ∙ st .at-same;
       on-top = m;
     }
+
+pub not-zero : {n : ℕ} → (n ≡ 0 → ⊥) → 0 < n
+not-zero h = omega (arith, h)
 
 -- the state behind the sign of a pair
 abbrev behindSign : Writing → (tag : ℕ) → (followed : Bool) → Writing
