@@ -1,13 +1,10 @@
--- The text of a term that stands in a file, by its tag.
-use Prim.Native.Nat.{ℕ, _<_}
+-- How a term is written, by the tag of its field: where brackets are needed, and the bytes of each mark.
+use Prim.Native.Nat.{ℕ}
 use mathlib.Core.Bool.{Bool, true, false, cond}
-use mathlib.Core.List.{List, _++_}
-use mathlib.Core.Path.{_≡_}
-use lib.ListN.{length, drop}
+use mathlib.Core.List.{List, [], _∷_, _++_}
 use lib.Dec.{eqb, ltb}
 use Rattle.format.specs.Terms.{Term}
-use Rattle.notation.specs.Written.{marksOf, textOf}
-use Rattle.text_writer.specs.Held.{rankTag}
+use Rattle.notation.specs.Written.{decimal, marksOf, textOf}
 
 -- the text of a term, where a sign looser than `binds` needs brackets, and where a sign follows or not
 unfoldable pub textIn : Term → (binds : ℕ) → (followed : Bool) → List ℕ
@@ -16,6 +13,10 @@ textIn t b f = textOf (marksOf t b f)
 -- the tag of a sequence, a tensor or an alternation
 unfoldable pub isPair : ℕ → Bool
 isPair k = cond (eqb k 19) true (cond (eqb k 20) true (eqb k 22))
+
+-- how tight its sign binds
+unfoldable pub rankTag : ℕ → ℕ
+rankTag k = cond (eqb k 20) 2 (cond (eqb k 22) 1 0)
 
 -- the byte of its sign
 unfoldable pub byteOf : ℕ → ℕ
@@ -29,11 +30,17 @@ wrapsTag k b f = cond (eqb k 18) f (cond (isPair k) (ltb (rankTag k) b) false)
 unfoldable pub letterOf : ℕ → ℕ
 letterOf k = cond (eqb k 16) 97 (cond (eqb k 23) 63 84)
 
--- 1 where brackets may be needed
-unfoldable pub flag : (binds : ℕ) → (followed : Bool) → ℕ
-flag b true = 1
-flag b false = cond (ltb 0 b) 1 0
+-- a sign with its blanks
+abbrev pub signText : (tag : ℕ) → List ℕ
+signText k = 32 ∷ byteOf k ∷ 32 ∷ []
 
--- x stands at the start, and behind it what stood there
-abbrev pub Wrote : (x o o′ : List ℕ) → Type 0
-Wrote x o o′ = o′ ≡ x ++ drop (length x) o
+abbrev pub labelText : (value : ℕ) → List ℕ
+labelText v = (91 ∷ decimal v) ++ (93 ∷ [])
+
+-- a leaf of a value, if it has one
+unfoldable pub leafText : (tag value : ℕ) → List ℕ
+leafText k v = cond (eqb k 17) (105 ∷ 100 ∷ []) (cond (eqb k 21) (60 ∷ 62 ∷ []) (letterOf k ∷ decimal v))
+
+-- the bytes of its field
+unfoldable pub leafSize : (tag : ℕ) → ℕ
+leafSize k = cond (eqb k 17) 3 (cond (eqb k 21) 3 5)

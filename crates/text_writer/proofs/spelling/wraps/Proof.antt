@@ -6,7 +6,7 @@ use Rattle.text_writer.proofs.spelling.wraps.Tie as tie
 use Rattle.text_writer.proofs.spelling.wraps.Reads as reads
 use Rattle.text_writer.proofs.spelling.wraps.Lts as lts
 use Rattle.text_writer.proofs.spelling.is_pair.Reads as is-pair-reads
-use Rattle.text_writer.proofs.term.rank_of.Reads as rank-of-reads
+use Rattle.text_writer.proofs.spelling.rank_of.Reads as rank-of-reads
 
 -- src/spelling.rt:103:9
 returns : tie.Need-returns
