@@ -10,7 +10,6 @@ use Rattle.format.specs.TermRead as T
 use Rattle.format.specs.Limits.{mostBytes}
 use Rattle.format.specs.Refusals.{number}
 use Rattle.format.specs.Results.{Result, told}
-use Rattle.format.specs.Inputs.{ofSize}
 use Rattle.format.specs.Tags.{tacticKind}
 use Rattle.format.specs.Terms.{Term, fields}
 use Rattle.format.specs.ReadTerms.{ParsedTerm, readTerm}

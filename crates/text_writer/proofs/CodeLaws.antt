@@ -1,11 +1,10 @@
 -- What the code leaves, from what its parts leave: a label, and the sign of a pair with the state behind it.
 -- Assumes nothing.
-use mathlib.Core.Path.{_≡_, refl, sym, ap, _∙_}
-use mathlib.Core.Bool.{Bool, true, false, cond}
-use mathlib.Core.List.{List, [], _∷_, _++_}
+use mathlib.Core.Path.{_≡_, ap, _∙_}
+use mathlib.Core.List.{List, [], _∷_}
 use Prim.Native.Nat.{ℕ, suc, _+_, _-_, _≤_}
 use native.Mathlib.Omega.{arith}
-use lib.Dec.{eqb, leb}
+use lib.Dec.{leb}
 use lib.ListN.{length, set, length-append}
 use lib.Seq.{sets}
 use borrow.Author.Tests.{eq-eqb, ne-eqb}
@@ -64,12 +63,3 @@ module _ (w : List ℕ) (x : Writing) (tag value : ℕ) (w′ : List ℕ) (r : W
 pub five-bytes : (tag : ℕ) → (tag ≡ 17 → ⊥) → (tag ≡ 21 → ⊥) → leafSize tag ≡ 5
 unfolding leafSize
 five-bytes tag i j = rw (ne-eqb tag 17 i, ne-eqb tag 21 j)
-
-pub few-bytes : (tag : ℕ) → (3 ≤ leafSize tag) × (leafSize tag ≤ 5)
-unfolding leafSize
-few-bytes tag = go (eqb tag 17) (eqb tag 21)
-  where
-    go : (c d : Bool) → (3 ≤ cond c 3 (cond d 3 5)) × (cond c 3 (cond d 3 5) ≤ 5)
-    go true d = (omega arith, omega arith)
-    go false true = (omega arith, omega arith)
-    go false false = (omega arith, omega arith)

@@ -4,4 +4,6 @@ pub mod TextByTag
 pub mod StackLaws
 pub mod CodeLaws
 pub mod TurnLaws
+pub mod ResumeLaws
+pub mod WholeLaws
 pub mod EntryLaws

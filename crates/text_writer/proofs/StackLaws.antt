@@ -1,18 +1,17 @@
 -- The bytes written and the stack: a mark written, a frame pushed and a frame taken off leave them as they should be.
 -- Assumes nothing.
-use mathlib.Core.Path.{_≡_, refl, sym, ap, subst, _∙_}
-use mathlib.Core.Bool.{Bool, true, false, cond}
+use mathlib.Core.Path.{_≡_, refl, sym, ap, _∙_}
+use mathlib.Core.Bool.{Bool, true, false}
 use mathlib.Core.List.{List, [], _∷_, _++_, append-assoc}
-use Prim.Native.Nat.{ℕ, suc, _+_, _-_, _≤_, _<_}
+use Prim.Native.Nat.{ℕ, _+_, _-_, _≤_, _<_}
 use native.Mathlib.Omega.{arith}
 use lib.Dec.{eqb, leb}
 use lib.ListN.{length, getD, set, take, length-append, length-set}
 use lib.Seq.{sets, length-sets, length-take-le, take-set-le, getD-set-same, getD-set-other}
 use borrow.Author.Tests.{eqb-true, eqb-false, eq-eqb, ne-eqb, le-leb, lt-leb}
-use Rattle.format.specs.Terms.{Term}
 use Rattle.text_writer.specs.Spelling.{isPair}
 use Rattle.text_writer.specs.Stack.{Frame, bracket, pair, stackPlace, pairByte, tagIn, frameByte, Stacked, bracketOnTop, RightsStand}
-use Rattle.text_writer.specs.Writing.{writingRoom, mostFrames, Holds}
+use Rattle.text_writer.specs.Writing.{mostFrames, Holds}
 use Rattle.text_writer.proofs.StoreLaws.{sets-front, sets-behind}
 use Rattle.text_writer.proofs.TextByTag.{no-way, pair-tag}
 

@@ -1,47 +1,37 @@
+-- `entry::write_text` meets its contract: 29, or what the call leaves with the work space cleared.
+-- Assumes nothing.
 use mathlib.Core.Path.{_≡_, sym, ap, _∙_}
 use Prim.Native.Nat.{ℕ}
 use native.Mathlib.Omega.{arith}
 use denote.Ref.{now}
 use lib.ListN.{length, replicate}
+use borrow.Author.Needs.{needs}
 use Rattle.entries.specs.LentSpace.{Written}
 use Rattle.text_writer.proofs.EntryLaws.{too-short, long-enough}
-use borrow.Author.Needs.{needs}
 use Rattle.text_writer.proofs.entry.write_text.Statement.{statement}
 use Rattle.text_writer.proofs.entry.write_text.Tie as tie
-use Rattle.text_writer.proofs.entry.write_text.Reads as reads
-use Rattle.text_writer.proofs.entry.write_text.Lts as lts
-use Rattle.answers.proofs.refusal.Reads as refusal-reads
-use Rattle.text_writer.proofs.entry.write_within.Reads as write-within-reads
-use Rattle.words.proofs.clear.Reads as clear-reads
 
--- src/entry.rt:58:9
 refusal-requires : tie.Need-refusal-requires
 refusal-requires c κs = search needs
 
--- src/entry.rt:58:9
 returns : tie.Need-returns
 returns c =
     let a = c .before .before .before .before .before .args in
     let e = too-short (now (a .term)) (now (a .work)) (now (a .out)) (omega (arith, c .before .if1 .taken)) in
     (c .refusal .ensures ∙ sym (ap (λ (x : Written). x .answer) e), (sym (ap (λ (x : Written). x .work) e), sym (ap (λ (x : Written). x .out) e)))
 
--- src/entry.rt:60:9
 write-within-requires : tie.Need-write-within-requires
 write-within-requires c κs = search needs
 
--- src/entry.rt:61:5
 clear-requires : tie.Need-clear-requires
 clear-requires c κs = search needs
 
--- src/entry.rt:52:1
 same-length : tie.Need-same-length
 same-length c = search needs
 
--- src/entry.rt:52:1
 same-length-2 : tie.Need-same-length-2
 same-length-2 c = search needs
 
--- src/entry.rt:52:1
 returns-2 : tie.Need-returns-2
 returns-2 c =
     let a = c .before .before .before .before .before .before .before .before .before .before .before .before .before .before .before .args in

@@ -1,63 +1,50 @@
+-- `entry::write_within` meets its contract: the file is refused, or its term stands in it.
+-- Assumes nothing.
 use mathlib.Core.Path.{sym, ap, _∙_}
 use mathlib.Core.List.{List}
 use Prim.Native.Nat.{ℕ}
 use native.Mathlib.Omega.{arith}
 use denote.Ref.{now}
+use borrow.Author.Needs.{needs}
 use Rattle.entries.specs.Outcomes.{Outcome}
 use Rattle.entries.specs.LentSpace.{Written}
 use Rattle.entries.specs.Left.{leftIn}
 use Rattle.text_writer.proofs.EntryLaws.{refused-place, refused-file, found-file}
-use borrow.Author.Needs.{needs}
 use Rattle.text_writer.proofs.entry.write_within.Statement.{statement}
 use Rattle.text_writer.proofs.entry.write_within.Tie as tie
-use Rattle.text_writer.proofs.entry.write_within.Reads as reads
-use Rattle.text_writer.proofs.entry.write_within.Lts as lts
-use Rattle.answers.proofs.refusal.Reads as refusal-reads
-use Rattle.files.proofs.terms.read_term_file.Reads as read-term-file-reads
-use Rattle.text_writer.proofs.entry.write_found.Reads as write-found-reads
 
--- src/entry.rt:44:9
 read-term-file-requires : tie.Need-read-term-file-requires
 read-term-file-requires c κs = search needs
 
--- src/entry.rt:46:31
 enum-known-read : tie.Need-enum-known-read
 enum-known-read c = search needs
 
--- src/entry.rt:46:49
 refusal-requires : tie.Need-refusal-requires
 refusal-requires c κs = (refused-place _ _ _ (sym (c .before .before .before .before .before .read-term-file .ensures .0) ∙ c .before .read .given .1), omega arith)
 
--- src/entry.rt:47:52
 enum-told : tie.Need-enum-told
 enum-told c = search needs
 
--- src/entry.rt:47:34
 write-found-requires : tie.Need-write-found-requires
 write-found-requires c κs =
     let f = found-file _ _ (sym (c .before .before .before .before .before .before .read-term-file .ensures .0) ∙ c .before .before .enum-told .given .1) in
     (omega (arith, c .before .before .before .before .before .before .read-term-file .kept .1 .0, c .before .before .before .before .before .before .before .before .before .before .before .pre), (f .term, f .stands))
 
--- src/entry.rt:39:1
 same-length : tie.Need-same-length
 same-length c = search needs
 
--- src/entry.rt:39:1
 returns : tie.Need-returns
 returns c =
     let a = c .before .before .before .before .before .before .before .before .before .before .before .args in
     let e = refused-file (now (a .term)) (now (a .out)) _ _ (sym (c .before .before .before .before .before .before .read-term-file .ensures .0) ∙ c .before .before .read .given .1) in
     (c .refusal .ensures ∙ ap (λ (x : Written). x .answer) e, ap (λ (x : Written). x .out) e)
 
--- src/entry.rt:39:1
 same-length-2 : tie.Need-same-length-2
 same-length-2 c = search needs
 
--- src/entry.rt:39:1
 same-length-3 : tie.Need-same-length-3
 same-length-3 c = search needs
 
--- src/entry.rt:39:1
 returns-2 : tie.Need-returns-2
 returns-2 c =
     let o = now (c .before .before .before .before .before .before .before .before .before .before .before .before .before .before .before .before .args .out) in

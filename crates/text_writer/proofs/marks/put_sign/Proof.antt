@@ -1,37 +1,30 @@
+-- `marks::put_sign` meets its contract: three stores.
+-- Assumes nothing.
 use native.Mathlib.Omega.{arith}
 use lib.ListN.{length-set}
-use Rattle.text_writer.proofs.StoreLaws.{stored-3}
 use borrow.Author.Needs.{needs}
+use Rattle.text_writer.proofs.StoreLaws.{stored-3}
 use Rattle.text_writer.proofs.marks.put_sign.Statement.{statement}
 use Rattle.text_writer.proofs.marks.put_sign.Tie as tie
-use Rattle.text_writer.proofs.marks.put_sign.Reads as reads
-use Rattle.text_writer.proofs.marks.put_sign.Lts as lts
 
--- src/marks.rt:72:5
 slice-write-out : tie.Need-slice-write-out
 slice-write-out c = search needs
 
--- src/marks.rt:73:9
 add-out : tie.Need-add-out
 add-out c = search needs
 
--- src/marks.rt:73:5
 slice-write-out-2 : tie.Need-slice-write-out-2
 slice-write-out-2 c = simp length-set (omega arith)
 
--- src/marks.rt:74:9
 add-out-2 : tie.Need-add-out-2
 add-out-2 c = search needs
 
--- src/marks.rt:74:5
 slice-write-out-3 : tie.Need-slice-write-out-3
 slice-write-out-3 c = simp length-set (omega arith)
 
--- src/marks.rt:68:1
 same-length : tie.Need-same-length
 same-length c = search needs
 
--- src/marks.rt:68:1
 returns : tie.Need-returns
 returns c = stored-3 (c .args .out .now) (c .args .at) _ _ _
 

@@ -1,21 +1,18 @@
-use borrow.Author.Tests.{eq-eqb, ne-eqb, lt-ltb, le-ltb, le-leb, lt-leb}
-use Rattle.text_writer.specs.Spelling.{isPair, byteOf, wrapsTag}
+-- `spelling::is_pair` meets its contract: each test says which case of `isPair` holds.
+-- Assumes nothing.
+use borrow.Author.Tests.{eq-eqb, ne-eqb}
+use Rattle.text_writer.specs.Spelling.{isPair}
 use Rattle.text_writer.proofs.spelling.is_pair.Statement.{statement}
 use Rattle.text_writer.proofs.spelling.is_pair.Tie as tie
-use Rattle.text_writer.proofs.spelling.is_pair.Reads as reads
-use Rattle.text_writer.proofs.spelling.is_pair.Lts as lts
 
--- src/spelling.rt:77:9
 returns : tie.Need-returns
 unfolding isPair
 returns c = simp (eq-eqb _ _ (c .if1 .taken))
 
--- src/spelling.rt:80:9
 returns-2 : tie.Need-returns-2
 unfolding isPair
 returns-2 c = simp (ne-eqb _ _ (c .before .if1 .left), eq-eqb _ _ (c .if2 .taken))
 
--- src/spelling.rt:73:1
 returns-3 : tie.Need-returns-3
 unfolding isPair
 returns-3 c = simp (ne-eqb _ _ (c .before .if1 .left), ne-eqb _ _ (c .if2 .left))

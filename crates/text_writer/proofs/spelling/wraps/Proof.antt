@@ -1,32 +1,25 @@
+-- `spelling::wraps` meets its contract: each test says which case of `wrapsTag` holds.
+-- Assumes nothing.
 use borrow.Author.Needs.{needs}
-use borrow.Author.Tests.{eq-eqb, ne-eqb, lt-ltb, le-ltb, le-leb, lt-leb}
-use Rattle.text_writer.specs.Spelling.{isPair, byteOf, wrapsTag}
+use borrow.Author.Tests.{eq-eqb, ne-eqb}
+use Rattle.text_writer.specs.Spelling.{wrapsTag}
 use Rattle.text_writer.proofs.spelling.wraps.Statement.{statement}
 use Rattle.text_writer.proofs.spelling.wraps.Tie as tie
-use Rattle.text_writer.proofs.spelling.wraps.Reads as reads
-use Rattle.text_writer.proofs.spelling.wraps.Lts as lts
-use Rattle.text_writer.proofs.spelling.is_pair.Reads as is-pair-reads
-use Rattle.text_writer.proofs.spelling.rank_of.Reads as rank-of-reads
 
--- src/spelling.rt:103:9
 returns : tie.Need-returns
 unfolding wrapsTag
 returns c = simp (eq-eqb _ _ (c .if1 .taken))
 
--- src/spelling.rt:105:8
 is-pair-requires : tie.Need-is-pair-requires
 is-pair-requires c κs = search needs
 
--- src/spelling.rt:106:16
 rank-of-requires : tie.Need-rank-of-requires
 rank-of-requires c κs = search needs
 
--- src/spelling.rt:106:9
 returns-2 : tie.Need-returns-2
 unfolding wrapsTag
 returns-2 c = simp (ne-eqb _ _ (c .before .before .before .if1 .left), ← c .before .before .is-pair .ensures, c .before .if2 .taken, ← c .rank-of .ensures)
 
--- src/spelling.rt:99:1
 returns-3 : tie.Need-returns-3
 unfolding wrapsTag
 returns-3 c = simp (ne-eqb _ _ (c .before .before .if1 .left), ← c .before .is-pair .ensures, c .if2 .left)

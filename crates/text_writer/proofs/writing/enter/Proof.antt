@@ -1,58 +1,42 @@
+-- `writing::enter` meets its contract: one law for each kind of term.
+-- Assumes nothing.
 use mathlib.Core.Path.{sym, _∙_}
 use native.Mathlib.Omega.{arith}
-use Rattle.text_writer.proofs.TurnLaws.{plain-bounds, pair-room, pair-law, label-room, label-law, leaf-room, leaf-law}
 use borrow.Author.Needs.{needs}
+use Rattle.text_writer.proofs.TurnLaws.{plain-bounds, pair-room, pair-law, label-room, label-law, leaf-room, leaf-law}
 use Rattle.text_writer.proofs.writing.enter.Statement.{statement}
 use Rattle.text_writer.proofs.writing.enter.Tie as tie
-use Rattle.text_writer.proofs.writing.enter.Reads as reads
-use Rattle.text_writer.proofs.writing.enter.Lts as lts
-use Rattle.text_writer.proofs.spelling.is_pair.Reads as is-pair-reads
-use Rattle.text_writer.proofs.writing.begin_pair.Reads as begin-pair-reads
-use Rattle.text_writer.proofs.writing.put_label.Reads as put-label-reads
-use Rattle.text_writer.proofs.writing.put_leaf.Reads as put-leaf-reads
-use Rattle.text_writer.proofs.writing.resume.Reads as resume-reads
 
--- src/writing.rt:190:8
 is-pair-requires : tie.Need-is-pair-requires
 is-pair-requires c κs = search needs
 
--- src/writing.rt:191:9
 begin-pair-requires : tie.Need-begin-pair-requires
 begin-pair-requires c κs = let p = c .before .before .before .before .before .pre in let b = plain-bounds _ _ _ _ p in let m = pair-room _ _ _ _ p (sym (c .before .before .is-pair .ensures) ∙ c .before .if1 .taken) in (omega (arith, b .before, b .file), m .0, m .1)
 
--- src/writing.rt:191:9
 same-length : tie.Need-same-length
 same-length c = search needs
 
--- src/writing.rt:191:9
 returns : tie.Need-returns
 returns c = λ p. pair-law _ _ _ _ p (sym (c .before .before .before .before .before .is-pair .ensures) ∙ c .before .before .before .before .if1 .taken) _ (c .before .before .begin-pair .ensures .1) _ (c .before .before .begin-pair .ensures .0)
 
--- src/writing.rt:194:9
 put-label-requires : tie.Need-put-label-requires
 put-label-requires c κs = let p = c .before .before .before .before .before .before .pre in let b = plain-bounds _ _ _ _ p in (label-room _ _ _ _ p (c .before .if2 .taken), b .file, b .short, omega (arith, b .room))
 
--- src/writing.rt:194:9
 same-length-2 : tie.Need-same-length-2
 same-length-2 c = search needs
 
--- src/writing.rt:194:9
 returns-2 : tie.Need-returns-2
 returns-2 c = λ p. label-law _ _ _ _ p (c .before .before .before .before .if2 .taken) _ (c .before .before .put-label .ensures .1) _ (c .before .before .put-label .ensures .0)
 
--- src/writing.rt:196:9
 put-leaf-requires : tie.Need-put-leaf-requires
 put-leaf-requires c κs = let p = c .before .before .before .before .before .before .pre in let b = plain-bounds _ _ _ _ p in (leaf-room _ _ _ _ p (sym (c .before .before .before .is-pair .ensures) ∙ c .before .before .if1 .left) (c .before .if2 .left), b .file, b .short, omega (arith, b .room))
 
--- src/writing.rt:197:5
 resume-requires : tie.Need-resume-requires
 resume-requires c κs = let p = c .before .before .before .before .before .before .before .before .before .before .pre in (_, p .whole, p .frames, leaf-law _ _ _ _ p (sym (c .before .before .before .before .before .before .before .is-pair .ensures) ∙ c .before .before .before .before .before .before .if1 .left) (c .before .before .before .before .before .if2 .left) _ (c .before .before .before .put-leaf .ensures .1) _ (c .before .before .before .put-leaf .ensures .0) .0)
 
--- src/writing.rt:186:1
 same-length-3 : tie.Need-same-length-3
 same-length-3 c = search needs
 
--- src/writing.rt:186:1
 returns-3 : tie.Need-returns-3
 returns-3 c = λ p. let l = leaf-law _ _ _ _ p (sym (c .before .before .before .before .before .before .before .before .before .before .is-pair .ensures) ∙ c .before .before .before .before .before .before .before .before .before .if1 .left) (c .before .before .before .before .before .before .before .before .if2 .left) _ (c .before .before .before .before .before .before .put-leaf .ensures .1) _ (c .before .before .before .before .before .before .put-leaf .ensures .0) in let g = c .before .before .resume .ensures _ (p .whole) (p .frames) (l .0) in (g .0, omega (arith, l .1, g .1))
 

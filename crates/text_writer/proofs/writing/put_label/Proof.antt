@@ -1,52 +1,39 @@
+-- `writing::put_label` meets its contract: the number and the two square brackets are the bytes of the label.
+-- Assumes nothing.
 use native.Mathlib.Omega.{arith}
 use denote.Ref.{now}
-use Rattle.text_writer.proofs.CodeLaws.{numbered-few, label-done}
 use borrow.Author.Needs.{needs}
+use Rattle.text_writer.proofs.CodeLaws.{numbered-few, label-done}
 use Rattle.text_writer.proofs.writing.put_label.Statement.{statement}
 use Rattle.text_writer.proofs.writing.put_label.Tie as tie
-use Rattle.text_writer.proofs.writing.put_label.Reads as reads
-use Rattle.text_writer.proofs.writing.put_label.Lts as lts
-use Rattle.text_writer.proofs.marks.put_numbered.Reads as put-numbered-reads
-use Rattle.text_writer.proofs.writing.after.Reads as after-reads
-use Rattle.words.proofs.load16.Reads as load16-reads
 
--- src/writing.rt:95:23
 add-load16 : tie.Need-add-load16
 add-load16 c = search needs
 
--- src/writing.rt:95:13
 load16-requires : tie.Need-load16-requires
 load16-requires c κs = search needs
 
--- src/writing.rt:95:13
 cast-v : tie.Need-cast-v
 cast-v c = search needs
 
--- src/writing.rt:96:9
 put-numbered-requires : tie.Need-put-numbered-requires
 put-numbered-requires c κs = search needs
 
--- src/writing.rt:97:10
 add-work : tie.Need-add-work
 add-work c = omega (arith, numbered-few _ _ (c .before .before .before .put-numbered .ensures .0), c .before .before .before .before .before .before .before .before .before .pre .2)
 
--- src/writing.rt:97:5
 slice-write-work : tie.Need-slice-write-work
 slice-write-work c = omega (arith, numbered-few _ _ (c .before .before .before .put-numbered .ensures .0), c .before .before .before .put-numbered .kept .1 .1 .1 .0, c .before .before .before .before .before .before .before .before .before .pre .2, c .before .before .before .before .before .before .before .before .before .pre .3)
 
--- src/writing.rt:98:17
 add-after : tie.Need-add-after
 add-after c = omega (arith, numbered-few _ _ (c .before .before .before .put-numbered .ensures .0))
 
--- src/writing.rt:98:5
 after-requires : tie.Need-after-requires
 after-requires c κs = (omega (arith, c .before .before .before .before .before .before .before .before .before .pre .0, c .before .before .before .before .before .before .before .before .before .pre .1), omega (arith, c .before .before .before .before .before .before .before .before .before .pre .2), omega arith, omega (arith, numbered-few _ _ (c .before .before .before .put-numbered .ensures .0)))
 
--- src/writing.rt:90:1
 same-length : tie.Need-same-length
 same-length c = search needs
 
--- src/writing.rt:90:1
 returns : tie.Need-returns
 returns c = label-done (now (c .before .before .before .before .before .before .before .before .before .before .args .work)) (c .before .before .before .before .before .before .before .before .before .before .args .x) _ _ _ _ (c .before .before .before .before .before .before .load16 .ensures) (c .before .before .before .before .put-numbered .ensures) _ (c .after .ensures)
 

@@ -1,3 +1,5 @@
+-- `writing::write_term` meets its contract: every turn of the loop writes the next field. The invariant: what is written and what is still to be written make the text of the file's term.
+-- Assumes nothing.
 use mathlib.Core.Path.{_≡_, refl, _∙_}
 use Prim.Native.Nat.{_-_}
 use native.Mathlib.Omega.{arith}
@@ -6,12 +8,9 @@ use Rattle.format.specs.Terms.{Term}
 use Rattle.files.specs.Standing.{TermFileStands}
 use Rattle.notation.specs.Written.{written}
 use Rattle.text_writer.specs.Writing.{Going}
-use Rattle.text_writer.proofs.TurnLaws.{start-law, still-due, end-law}
+use Rattle.text_writer.proofs.WholeLaws.{start-law, still-due, end-law}
 use Rattle.text_writer.proofs.writing.write_term.Statement.{statement}
 use Rattle.text_writer.proofs.writing.write_term.Tie as tie
-use Rattle.text_writer.proofs.writing.write_term.Reads as reads
-use Rattle.text_writer.proofs.writing.write_term.Lts as lts
-use Rattle.text_writer.proofs.writing.turn.Reads as turn-reads
 
 abbrev Inv-loop : tie.InvT-loop
 Inv-loop s work₀ x₀ work x = (length work ≡ length work₀) × ((t : Term) → TermFileStands s t → Going s (written t) work x)
@@ -19,27 +18,21 @@ Inv-loop s work₀ x₀ work x = (length work ≡ length work₀) × ((t : Term)
 abbrev μ-loop : tie.MeasureT-loop
 μ-loop s work₀ x₀ work x = length s - x .at
 
--- src/writing.rt:226:5
 loop-holds : tie.Need-loop-holds Inv-loop μ-loop
 loop-holds c = (refl, λ t st. start-law _ _ t st (c .before .before .pre .0))
 
--- src/writing.rt:227:9
 turn-requires : tie.Need-turn-requires Inv-loop μ-loop
 turn-requires c κs = let p = c .before .before .before .before .before .before .pre in let k = still-due _ _ _ _ (c .before .before .before .loop .inv .1 (p .1 .0) (p .1 .1)) (c .before .if1 .taken) in (written (p .1 .0), k .0, k .1, k .2)
 
--- src/writing.rt:226:5
 loop-less : tie.Need-loop-less Inv-loop μ-loop
 loop-less c = let p = c .before .before .before .before .before .before .before .before .before .pre in let k = still-due _ _ _ _ (c .before .before .before .before .before .before .loop .inv .1 (p .1 .0) (p .1 .1)) (c .before .before .before .before .if1 .taken) in omega (arith, c .before .before .turn .ensures (written (p .1 .0)) (k .0) (k .1) (k .2) .1, c .before .before .before .before .if1 .taken)
 
--- src/writing.rt:226:5
 loop-again : tie.Need-loop-again Inv-loop μ-loop
 loop-again c = (c .before .before .turn .kept .1 .1 .0 ∙ c .before .before .before .before .before .before .loop .inv .0, λ t st. let k = still-due _ _ _ _ (c .before .before .before .before .before .before .loop .inv .1 t st) (c .before .before .before .before .if1 .taken) in c .before .before .turn .ensures (written t) (k .0) (k .1) (k .2) .0)
 
--- src/writing.rt:215:1
 same-length : tie.Need-same-length Inv-loop μ-loop
 same-length c = c .before .before .loop .inv .0
 
--- src/writing.rt:215:1
 returns : tie.Need-returns Inv-loop μ-loop
 returns c = λ t st. end-law _ _ _ _ (c .before .before .loop .inv .1 t st) (c .if1 .left)
 
