@@ -26,6 +26,12 @@ enum Symbol {
 /// The offset behind a part of a text, and the bytes of the term it reads as.
 type Reading = (usize, Vec<u8>);
 
+/// A part, the sign between parts, and the chain of what is left behind it.
+type ChainForm<'a> = (fn(End) -> Symbol, &'a [u8], fn(End) -> Symbol);
+
+/// A letter, and the field that it makes with a number.
+type NumberedLeaf = (u8, fn(u16) -> Vec<u8>);
+
 /// All ways in which the grammar's symbols can stand at the offsets of a text.
 struct Grammar<'a> {
     text: &'a [u8],
@@ -110,7 +116,7 @@ impl Grammar<'_> {
         &mut self,
         at: usize,
         end: End,
-        (part, sign, chain): (fn(End) -> Symbol, &[u8], fn(End) -> Symbol),
+        (part, sign, chain): ChainForm,
         join: fn(&[u8], &[u8]) -> Vec<u8>,
     ) -> Vec<Reading> {
         let mut found = self.readings(part(end), at);
@@ -127,8 +133,7 @@ impl Grammar<'_> {
         let mut found = Vec::new();
         found.extend(self.mark(at, b"id").map(|end| (end, build::id())));
         found.extend(self.mark(at, b"<>").map(|end| (end, build::empty())));
-        let numbered: [(u8, fn(u16) -> Vec<u8>); 3] =
-            [(b'a', build::atomic), (b'?', build::assert_goal), (b'T', build::defined)];
+        let numbered: [NumberedLeaf; 3] = [(b'a', build::atomic), (b'?', build::assert_goal), (b'T', build::defined)];
         for (letter, field) in numbered {
             if self.byte(at) == Some(letter) {
                 if let Some((end, value)) = self.number(at + 1) {
