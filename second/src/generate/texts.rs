@@ -3,6 +3,9 @@
 
 use super::build::*;
 
+/// A field of two inner terms.
+type Join = fn(&[u8], &[u8]) -> Vec<u8>;
+
 /// The tactics of document 01 and of the paper's examples, and the texts that the
 /// readings of P8 name.
 pub const TACTICS: [&str; 24] = [
@@ -250,7 +253,7 @@ pub fn term_with_every_field() -> Vec<u8> {
 
 /// Every term of one sign or label in each place of another.
 pub fn terms_two_deep() -> Vec<Vec<u8>> {
-    let joins: [fn(&[u8], &[u8]) -> Vec<u8>; 3] = [sequence, alternation, tensor];
+    let joins: [Join; 3] = [sequence, alternation, tensor];
     let mut inner: Vec<Vec<u8>> = joins.iter().map(|join| join(&atomic(1), &atomic(2))).collect();
     inner.push(label(3, &atomic(1)));
     inner.extend(joins.iter().map(|join| join(&atomic(1), &label(3, &atomic(2)))));
@@ -267,8 +270,7 @@ pub fn terms_two_deep() -> Vec<Vec<u8>> {
 pub fn limit_terms() -> Vec<Vec<u8>> {
     let ids = |count: usize| vec![id(); count];
     let largest_labels = (0..4_095).fold(atomic(65_535), |inner, _| label(65_535, &inner));
-    let left_leaning =
-        |count: usize, join: fn(&[u8], &[u8]) -> Vec<u8>| (1..count).fold(id(), |left, _| join(&left, &id()));
+    let left_leaning = |count: usize, join: Join| (1..count).fold(id(), |left, _| join(&left, &id()));
     let full = labels_around(4_095, &id());
     vec![
         labels_around(4_096, &id()),

@@ -46,11 +46,12 @@ struct TextReader<'a> {
 
 impl TextReader<'_> {
     /// Reads the marks that can begin a term, up to its first leaf. Until the
-    /// leaf has come the text cannot end, nor a sign stand.
+    /// leaf has come the text cannot end, nor a sign stand. Blanks are skipped
+    /// between marks only, never inside one (B8.3).
     fn read_up_to_leaf(&mut self) -> Result<(), Refusal> {
         loop {
-            self.skip_blanks();
             match self.text.get(self.at) {
+                Some(&BLANK) => self.at += 1,
                 Some(b'(') => {
                     self.at += 1;
                     self.brackets += 1;
@@ -66,8 +67,8 @@ impl TextReader<'_> {
     /// the text ends instead. It may end only with all round brackets closed.
     fn read_up_to_sign(&mut self) -> Result<bool, Refusal> {
         loop {
-            self.skip_blanks();
             match self.text.get(self.at) {
+                Some(&BLANK) => self.at += 1,
                 Some(b')') if self.brackets > 0 => self.close_bracket(),
                 Some(&byte) => return self.read_sign(byte),
                 None if self.brackets > 0 => return Err(self.not_in_notation()),
@@ -76,14 +77,6 @@ impl TextReader<'_> {
                     return Ok(false);
                 }
             }
-        }
-    }
-
-    /// Blanks stand only between marks, before the first and behind the last, so
-    /// no mark skips any inside itself (B8.3).
-    fn skip_blanks(&mut self) {
-        while self.text.get(self.at) == Some(&BLANK) {
-            self.at += 1;
         }
     }
 
