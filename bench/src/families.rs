@@ -48,7 +48,9 @@ fn family(
 /// All of them, entry by entry.
 pub fn all() -> Vec<Family> {
     let mut list = Vec::new();
-    for entry in [Entry::Check, Entry::Flatten, Entry::CheckFlat, Entry::WriteProof, Entry::Run] {
+    let text = [Entry::ReadText, Entry::WriteText];
+    let table = [Entry::Check, Entry::Flatten, Entry::CheckFlat, Entry::WriteProof, Entry::Run];
+    for entry in table.into_iter().chain(text) {
         list.push(family(entry, "small", "document 01's first example", "file", 1, move |_| files::small(entry)));
         match entry {
             Entry::Check => list.extend([of_rules(entry), of_depth(entry), of_check()].into_iter().flatten()),
@@ -56,6 +58,7 @@ pub fn all() -> Vec<Family> {
             Entry::CheckFlat => list.extend([of_rules(entry), of_check_flat()].into_iter().flatten()),
             Entry::WriteProof => list.extend([of_rules(entry), of_write_proof()].into_iter().flatten()),
             Entry::Run => list.extend(of_run()),
+            Entry::ReadText | Entry::WriteText => {}
         }
     }
     list

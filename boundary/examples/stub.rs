@@ -1,4 +1,4 @@
-//! A library with the five C functions over the second engine. The environment
+//! A library with the seven C functions over the second engine. The environment
 //! variable HITAC_STUB_FAULT makes it wrong in one way; without it, it is right.
 
 use second::Answer;
@@ -88,6 +88,30 @@ checker!(hitac_check, second::check);
 checker!(hitac_check_flat, second::check_flat);
 writer!(hitac_flatten, second::flatten);
 writer!(hitac_write_proof, second::write_proof);
+
+macro_rules! text_function {
+    ($name:ident, $second:path) => {
+        /// # Safety
+        /// Every pointer is good for its length.
+        #[no_mangle]
+        pub unsafe extern "C" fn $name(
+            other: *const u8,
+            other_length: usize,
+            work: Space,
+            work_length: usize,
+            out: Space,
+            out_length: usize,
+        ) -> Answer {
+            look_at(work, work_length);
+            let spaces = (from_raw_parts_mut(work, work_length), from_raw_parts_mut(out, out_length));
+            let answer = $second(from_raw_parts(other, other_length), spaces.0, spaces.1);
+            spoil(answer, work, work_length, out, out_length)
+        }
+    };
+}
+
+text_function!(hitac_read_text, second::read_text);
+text_function!(hitac_write_text, second::write_text);
 
 /// # Safety
 /// Every pointer is good for its length.
