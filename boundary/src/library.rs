@@ -1,4 +1,4 @@
-//! The shared library: its seven C functions, loaded by path.
+//! The shared library: the C functions of its entries, loaded by path.
 
 use second::generate::case::Entry;
 use second::Answer;
@@ -21,7 +21,7 @@ pub type RunFunction =
 /// Takes one file and no table, and writes.
 pub type TextFunction = unsafe extern "C" fn(*const u8, usize, *mut u8, usize, *mut u8, usize) -> Answer;
 
-/// The seven functions. `Answer` of the second engine has the layout of the C
+/// The functions of the entries. `Answer` of the second engine has the layout of the C
 /// struct: eight u32 in the order of docs/ENTRIES.md.
 #[derive(Clone, Copy)]
 pub struct Library {
