@@ -14,6 +14,8 @@ pub fn inspect(inspector: &mut Inspector) -> Result<String, String> {
         torn_files(inspector, entry);
         if entry.takes_table() {
             foreign_tables(inspector, entry);
+        } else {
+            foreign_files(inspector, entry);
         }
         lent_spaces(inspector, entry);
     }
@@ -89,6 +91,19 @@ fn foreign_tables(inspector: &mut Inspector, entry: Entry) {
             let of_another_kind = other_file(kind, random, owner);
             inspector.call_with_room(entry, &owner.bytes(), &of_another_kind);
             inspector.call_with_room(entry, &of_another_kind, &other);
+        }
+    }
+}
+
+/// Files of every kind, tables among them, for an entry that takes no table.
+fn foreign_files(inspector: &mut Inspector, entry: Entry) {
+    let random = &mut Random::new(200 + u64::from(entry.code()));
+    for _ in 0..12 {
+        let table = RandomTable::make(random, Size::Small);
+        inspector.call_with_room(entry, &[], &table.bytes());
+        for kind in Entry::ALL {
+            let of_another_kind = other_file(kind, random, &table);
+            inspector.call_with_room(entry, &[], &of_another_kind);
         }
     }
 }
