@@ -8,10 +8,10 @@ ghost use Rattle.notation.specs.MarksIn.{marksIn};
 ghost use Rattle.notation.specs.Scans.{beginsNumbered, isSign, digitMore, start, scan};
 ghost use Rattle.text_reader.specs.MarkList.{MarksStand};
 ghost use Rattle.text_reader.specs.Shapes.{scanShape};
-ghost use Rattle.text_reader.specs.Places.{Standing, Ready, After, refusing, completed, bracketed, Skipped, NumberRead, LeafByte, PairBytes, SignByte};
+ghost use Rattle.text_reader.specs.Places.{Standing, Ready, After, Opened, Closed, refusing, completed, movedTo, NumberRead, LeafByte, PairBytes, SignByte};
 ghost use Rattle.text_reader.specs.declared.scan.ScanRead.the-variants as R;
 
-const MOST_FIELDS: usize = 4096;
+const MOST_FIELDS: u32 = 4096;
 
 const MOST_VALUE: usize = 65535;
 
@@ -26,9 +26,9 @@ pub struct Place {
     pub at: usize,
     // An operand is due; otherwise one was read.
     pub due: bool,
-    // The brackets that are not closed yet; the term fields made, the bytes of their headers and values; the marks in the list.
+    // The brackets that are not closed yet; the term fields made, the bytes of their headers and values; the marks in the list. The fields have a width of their own, or the compiler joins the two sums in one register and takes them out again at every mark.
     pub depth: usize,
-    pub fields: usize,
+    pub fields: u32,
     pub size: usize,
     pub count: usize,
     // Of a refusal its number and place; the number is 0 as long as nothing is refused.
@@ -68,21 +68,6 @@ fn digit_more(v: usize, b: usize) -> usize
     v * 10 + (b - 48)
 }
 
-// The place behind the blanks that stand at a place.
-fn past_blanks(text: &[u8], from: usize) -> usize
-    requires { ⌜ from ≤ length (now text) ⌝ }
-    ensures { λ r. ⌜ Skipped (now (text .entry)) from r ⌝ }
-{
-    let mut at = from;
-    while at < text.len() {
-        if text[at] != 32 {
-            return at;
-        }
-        at += 1;
-    }
-    at
-}
-
 // The digits that stand at a place, if there are any.
 fn number_at(text: &[u8], from: usize) -> Number
     requires { ⌜ from ≤ length (now text) ⌝ }
@@ -116,24 +101,75 @@ fn refused(here: Place, number: u8, place: usize) -> Place
     }
 }
 
-// A bracket is read and put in the list; so many are not closed behind it.
-fn bracket(work: &mut [u8], here: Place, kind: u8, depth: usize) -> Place
-    requires { ⌜ (3 * here .count < length (now work)) × (here .count < 65536) × (here .at < 65536) ⌝ }
-    ensures { λ r. ⌜ r ≡ bracketed here depth ⌝ }
-    ensures { λ _. ⌜ now (work .exit) ≡ set (now (work .entry)) (3 * here .count) kind ⌝ }
+// Further on, with so many brackets not closed and so many marks in the list.
+fn moved(here: Place, at: usize, depth: usize, count: usize) -> Place
+    ensures { λ r. ⌜ r ≡ movedTo here at depth count ⌝ }
 {
-    let entry = 3 * here.count;
-    work[entry] = kind;
     Place {
-        at: here.at + 1,
+        at,
         due: here.due,
         depth,
         fields: here.fields,
         size: here.size,
-        count: here.count + 1,
+        count,
         number: 0,
         place: 0,
     }
+}
+
+// Behind the blanks and the brackets that open here. They are the marks that a text can have most of, so that they have a loop of their own.
+fn past_openings(text: &[u8], work: &mut [u8], here: Place) -> Place
+    requires { ⌜ Ready (now text) (now work) here × (here .due ≡ true) ⌝ }
+    ensures { λ r. ⌜ Opened (now (text .entry)) (now (work .exit)) here r ⌝ }
+{
+    let mut at = here.at;
+    let mut depth = here.depth;
+    let mut count = here.count;
+    while at < text.len() {
+        let b = text[at];
+        if b == 32 {
+            at += 1;
+            continue;
+        }
+        if b != 40 {
+            return moved(here, at, depth, count);
+        }
+        let entry = 3 * count;
+        work[entry] = 1;
+        depth += 1;
+        count += 1;
+        at += 1;
+    }
+    moved(here, at, depth, count)
+}
+
+// Behind the blanks and the brackets that close here, as long as one is open.
+fn past_closings(text: &[u8], work: &mut [u8], here: Place) -> Place
+    requires { ⌜ Ready (now text) (now work) here × (here .due ≡ false) ⌝ }
+    ensures { λ r. ⌜ Closed (now (text .entry)) (now (work .exit)) here r ⌝ }
+{
+    let mut at = here.at;
+    let mut depth = here.depth;
+    let mut count = here.count;
+    while at < text.len() {
+        let b = text[at];
+        if b == 32 {
+            at += 1;
+            continue;
+        }
+        if b != 41 {
+            return moved(here, at, depth, count);
+        }
+        if depth == 0 {
+            return moved(here, at, depth, count);
+        }
+        let entry = 3 * count;
+        work[entry] = 0;
+        depth -= 1;
+        count += 1;
+        at += 1;
+    }
+    moved(here, at, depth, count)
 }
 
 // A mark that makes a field is complete: it is put in the list, and the field is counted unless it is one too many.
@@ -250,71 +286,55 @@ fn sign_tag(b: u8) -> u8
     0
 }
 
-// An operand is due, and no blank comes.
+// An operand is due.
 fn on_due(text: &[u8], work: &mut [u8], here: Place) -> Place
-    requires { ⌜ Ready (now text) (now work) here × (here .due ≡ true) × (getD (now text) (here .at) 0 ≡ 32 → ⊥) ⌝ }
+    requires { ⌜ Ready (now text) (now work) here × (here .due ≡ true) ⌝ }
     ensures { λ r. ⌜ After (now (text .entry)) (now (work .exit)) (here .at) r ⌝ }
 {
-    let at = here.at;
-    let b = text[at];
-    if b == 40 {
-        return bracket(work, here, 1, here.depth + 1);
+    let past = past_openings(text, work, here);
+    let at = past.at;
+    if text.len() <= at {
+        return past;
     }
+    let b = text[at];
     if b == 91 {
-        return label(text, work, here);
+        return label(text, work, past);
     }
     let tag = leaf_tag(b);
     if tag != 0 {
-        return leaf(text, work, here, tag);
+        return leaf(text, work, past, tag);
     }
     if b == 105 {
-        return pair(text, work, here, 100, 17);
+        return pair(text, work, past, 100, 17);
     }
     if b == 60 {
-        return pair(text, work, here, 62, 21);
+        return pair(text, work, past, 62, 21);
     }
-    refused(here, 36, at)
+    refused(past, 36, at)
 }
 
-// An operand was read, and no blank comes.
+// An operand was read.
 fn on_had(text: &[u8], work: &mut [u8], here: Place) -> Place
-    requires { ⌜ Ready (now text) (now work) here × (here .due ≡ false) × (getD (now text) (here .at) 0 ≡ 32 → ⊥) ⌝ }
+    requires { ⌜ Ready (now text) (now work) here × (here .due ≡ false) ⌝ }
     ensures { λ r. ⌜ After (now (text .entry)) (now (work .exit)) (here .at) r ⌝ }
 {
-    let at = here.at;
-    let b = text[at];
-    let tag = sign_tag(b);
+    let past = past_closings(text, work, here);
+    let at = past.at;
+    if text.len() <= at {
+        return past;
+    }
+    let tag = sign_tag(text[at]);
     if tag != 0 {
-        return complete(work, here, tag, at + 1, true, 3);
+        return complete(work, past, tag, at + 1, true, 3);
     }
-    if b != 41 {
-        return refused(here, 36, at);
-    }
-    if here.depth == 0 {
-        return refused(here, 36, at);
-    }
-    bracket(work, here, 0, here.depth - 1)
+    refused(past, 36, at)
 }
 
-// Behind the blanks or the mark that begin here.
+// Behind the next mark that is no bracket, or at the end of the text.
 fn pass(text: &[u8], work: &mut [u8], here: Place) -> Place
     requires { ⌜ Ready (now text) (now work) here ⌝ }
     ensures { λ r. ⌜ After (now (text .entry)) (now (work .exit)) (here .at) r ⌝ }
 {
-    let at = here.at;
-    if text[at] == 32 {
-        let next = past_blanks(text, at + 1);
-        return Place {
-            at: next,
-            due: here.due,
-            depth: here.depth,
-            fields: here.fields,
-            size: here.size,
-            count: here.count,
-            number: 0,
-            place: 0,
-        };
-    }
     if here.due {
         return on_due(text, work, here);
     }
