@@ -8,21 +8,21 @@ use Prim.Native.Nat.{ℕ, _+_, _*_, _-_, _≤_, _<_}
 use native.Mathlib.Decide.{decLt}
 use native.Mathlib.Numerals.{add-one}
 use native.Mathlib.Omega.{arith}
-use lib.Dec.{leb, ltb, eqb}
+use lib.Dec.{ltb}
 use lib.ListN.{length, getD, drop, drop-of-length-le}
 use lib.Seq.{drop-cons}
-use borrow.Author.Tests.{ltb-true, ltb-false, lt-ltb, le-ltb}
-use Rattle.format.specs.Results.{gives, refused, andThen}
+use borrow.Author.Tests.{ltb-true, ltb-false}
+use Rattle.format.specs.Results.{refused, andThen}
 use Rattle.format.specs.Refusals.{textWrong}
-use Rattle.notation.specs.Letters.{IsDigit, isDigit}
+use Rattle.notation.specs.Letters.{isDigit}
 use Rattle.notation.specs.Marks.{Mark}
 use Rattle.notation.specs.Meets.{NoDigit}
 use Rattle.notation.specs.MarksIn.{numberIn, markAt, withMark, marksIn}
 use Rattle.notation.specs.Scans as M
-use Rattle.notation.specs.Scans.{mostValue, scanned, turned, completes, onDue, onHad, digitMore, leafEnds, onDigits, labelEnds, onLabelDigits, onBegun, onLabelBegun, stepIn, step, endIn, atEnd, scan}
+use Rattle.notation.specs.Scans.{mostValue, scanned, onDue, onHad, digitMore, onDigits, onLabelDigits, onBegun, onLabelBegun, stepIn, step, endIn, atEnd, scan}
 use Rattle.notation.proofs.TextLaws.{digit-none}
 use Rattle.notation.proofs.MeetLaws.{digit-is}
-use Rattle.text_reader.specs.Places.{modeOf, Passed, NumberRead}
+use Rattle.text_reader.specs.Places.{modeOf, Skipped, Passed, NumberRead}
 
 -- the byte at a place, and those behind it
 pub here : (s : List ℕ) (at : ℕ) → at < length s → drop at s ≡ getD s at 0 ∷ drop (at + 1) s
@@ -32,14 +32,41 @@ pub at-end : (s : List ℕ) (at : ℕ) → length s ≤ at → drop at s ≡ []
 at-end s at h = drop-of-length-le s h
 
 -- a blank
-pub blank-scan : (due : Bool) (k d f z at : ℕ) (r : List ℕ) → scan (scanned (modeOf due) k d f z) at (32 ∷ r) ≡ scan (scanned (modeOf due) k d f z) (at + 1) r
+blank-scan : (due : Bool) (k d f z at : ℕ) (r : List ℕ) → scan (scanned (modeOf due) k d f z) at (32 ∷ r) ≡ scan (scanned (modeOf due) k d f z) (at + 1) r
 unfolding scan step stepIn onDue onHad andThen
 blank-scan true k d f z at r = refl
 blank-scan false k d f z at r = refl
 
-pub blank-marks : (r : List ℕ) → marksIn (32 ∷ r) ≡ marksIn r
+blank-marks : (r : List ℕ) → marksIn (32 ∷ r) ≡ marksIn r
 unfolding marksIn markAt withMark
 blank-marks r = refl
+
+at-blank : (s : List ℕ) (at : ℕ) → at < length s → getD s at 0 ≡ 32 → drop at s ≡ 32 ∷ drop (at + 1) s
+at-blank s at h e = here s at h ∙ ap {B = List ℕ} (λ b. b ∷ drop (at + 1) s) e
+
+pub skipped-none : (s : List ℕ) (from : ℕ) → from ≤ length s → Skipped s from from
+skipped-none s from h = record { rises = omega arith; placed = h; scans = λ due k d f z. refl; marks = refl }
+
+pub skipped-more : (s : List ℕ) (from at : ℕ) → Skipped s from at → at < length s → getD s at 0 ≡ 32 → Skipped s from (at + 1)
+skipped-more s from at x h e =
+    let up = x .rises in
+    record {
+      rises = omega arith;
+      placed = omega arith;
+      scans = λ due k d f z. x .scans due k d f z ∙ ap (scan (scanned (modeOf due) k d f z) at) (at-blank s at h e) ∙ blank-scan due k d f z at (drop (at + 1) s);
+      marks = x .marks ∙ ap marksIn (at-blank s at h e) ∙ blank-marks (drop (at + 1) s);
+    }
+
+-- a blank in front of blanks
+pub skipped-first : (s : List ℕ) (at to : ℕ) → at < length s → getD s at 0 ≡ 32 → Skipped s (at + 1) to → Skipped s at to
+skipped-first s at to h e x =
+    let up = x .rises in
+    record {
+      rises = omega arith;
+      placed = x .placed;
+      scans = λ due k d f z. ap (scan (scanned (modeOf due) k d f z) at) (at-blank s at h e) ∙ blank-scan due k d f z at (drop (at + 1) s) ∙ x .scans due k d f z;
+      marks = ap marksIn (at-blank s at h e) ∙ blank-marks (drop (at + 1) s) ∙ x .marks;
+    }
 
 -- a digit
 module _ (b : ℕ) (e : isDigit b ≡ true) where

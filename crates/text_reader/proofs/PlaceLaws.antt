@@ -5,29 +5,27 @@ use mathlib.Core.Bool.{Bool, true, false, cond}
 use mathlib.Core.List.{List, [], _∷_}
 use Prim.Native.Nat.{ℕ, _+_, _*_, _-_, _≤_, _<_}
 use native.Mathlib.Omega.{arith}
-use lib.Dec.{leb, ltb, eqb}
-use lib.ListN.{length, getD, set, drop, length-set}
+use lib.Dec.{leb}
+use lib.ListN.{length, getD, set, drop}
 use borrow.Author.Tests.{leb-false, lt-ltb, le-ltb, eq-eqb, ne-eqb}
 use Rattle.words.specs.Word.{word, putWord}
 use Rattle.words.specs.Kept.{Kept}
 use Rattle.format.specs.Limits.{mostTermFields}
 use Rattle.format.specs.Refusals.{Cause, limitPassed, textWrong, valueTooLarge, number}
-use Rattle.format.specs.Results.{Result, gives, refused, told}
-use Rattle.notation.specs.Letters.{isDigit}
+use Rattle.format.specs.Results.{refused, told}
 use Rattle.notation.specs.Marks.{Mark, leaf, labelMark, sign, opening, closing}
-use Rattle.notation.specs.MarksIn.{numberIn, marksIn}
+use Rattle.notation.specs.MarksIn.{marksIn}
 use Rattle.notation.specs.Meets.{NoDigit}
-use Rattle.notation.specs.Scans.{Mode, mostValue, scanned, start, beginsNumbered, isSign, finished, endIn, atEnd, scan}
+use Rattle.notation.specs.Scans.{mostValue, scanned, start, beginsNumbered, isSign, finished, endIn, atEnd, scan}
 use Rattle.notation.specs.Scans as M
 use Rattle.notation.proofs.ScanLaws.{digits-over, digits-full, digits-done, label-over, label-full, label-done}
 use Rattle.text_reader.specs.MarkList.{MarkStands, MarksStand}
 use Rattle.text_reader.specs.Shapes.{scanShape}
-use Rattle.text_reader.specs.Places.{modeOf, Listed, Standing, Ready, Refuses, After, refusing, completed, movedTo, Moved, Opened, Closed, Passed, NumberRead, LeafByte, PairBytes, SignByte}
+use Rattle.text_reader.specs.Places.{modeOf, Standing, Ready, Refuses, After, refusing, completed, movedTo, Moved, Opened, Closed, Skipped, NumberRead, LeafByte, PairBytes, SignByte}
 use Rattle.text_reader.specs.declared.scan.Place.{Place}
-use Rattle.text_reader.specs.declared.scan.ScanRead.{ScanRead}
 use Rattle.text_reader.specs.declared.scan.ScanRead.the-variants as R
 use Rattle.text_reader.proofs.ListLaws.{listed-more, listed-skip, listed-start, listed-all, kept-number, kept-valued, number-stands, valued-number, valued-word}
-use Rattle.text_reader.proofs.PassLaws.{here, at-end, blank-scan, blank-marks, value-is, no-number, no-label-number}
+use Rattle.text_reader.proofs.PassLaws.{here, at-end, skipped-first, value-is, no-number, no-label-number}
 use Rattle.text_reader.proofs.MarkLaws.{leafMark, leaf-begins, leaf-marks, leaf-stands, label-begins, label-marks, label-stands, label-ends-marks, label-torn, label-unclosed, pairLeaf, half, pair-begins, pair-torn, pair-other, pair-full, pair-done, pair-marks, pair-stands, signOf, sign-full, sign-done, sign-marks, sign-stands, opening-scan, opening-marks, opening-stands, closing-scan, closing-marks, closing-stands, due-wrong, had-wrong}
 
 pub after-refused : (s w : List ℕ) (from : ℕ) (p r : Place) (c : Cause) (n x : ℕ) → r ≡ refusing p n x → n ≡ number c → (n ≡ 0 → ⊥) → scan start 0 s ≡ refused c x → After s w from r
@@ -60,17 +58,19 @@ module _ (s w : List ℕ) (p : Place) (at depth count : ℕ) (x : Standing s w (
       ∙ ap (λ (t : Bool). scan (scanned (modeOf t) (x .mark) depth (p .fields) (p .size)) at (drop at s)) e
       ∙ ap (scan (scanned (modeOf due) (x .mark) depth (p .fields) (p .size)) at) (here-is b is)
 
-  pub blank-stands : getD s at 0 ≡ 32 → Standing s w (movedTo p (at + 1) depth count)
-  blank-stands is =
+  pub blank-stands : (next : ℕ) → getD s at 0 ≡ 32 → Skipped s (at + 1) next → Standing s w (movedTo p next depth count)
+  blank-stands next is y =
       let deep = x .deep in
+      let up = y .rises in
+      let z = skipped-first s at next more is y in
       record {
         mark = x .mark;
-        placed = omega arith;
+        placed = y .placed;
         deep = omega arith;
         few = x .few;
         sized = x .sized;
-        scans = here-scans (p .due) 32 refl is ∙ blank-scan (p .due) (x .mark) depth (p .fields) (p .size) at (drop (at + 1) s);
-        listed = listed-skip s w at (at + 1) count (x .listed) (omega arith) (ap marksIn (here-is 32 is) ∙ blank-marks (drop (at + 1) s));
+        scans = x .scans ∙ z .scans (p .due) (x .mark) depth (p .fields) (p .size);
+        listed = listed-skip s w at next count (x .listed) (omega arith) (z .marks);
       }
 
   -- a bracket is put in the list, and as many are open as the definition has
@@ -99,6 +99,10 @@ module _ (s w : List ℕ) (p : Place) (at depth count : ℕ) (x : Standing s w (
       bracket-stands closing 0 (depth - 1) (omega arith) room (ap marksIn (here-is 41 is) ∙ closing-marks (drop (at + 1) s)) (closing-stands (set w (3 * count) 0) (3 * count) (number-stands w (3 * count) 0 room))
       (here-scans false 41 due is ∙ closing-scan (x .mark) depth (p .fields) (p .size) at (drop (at + 1) s) some
       ∙ ap (λ (t : Bool). scan (scanned (modeOf t) (x .mark) (depth - 1) (p .fields) (p .size)) (at + 1) (drop (at + 1) s)) (sym due))
+
+-- a byte has one value
+pub not-both : (b x y : ℕ) → b ≡ x → (x ≡ y → ⊥) → b ≡ y → ⊥
+not-both b x y e n f = n (sym e ∙ f)
 
 -- before the first of them, and behind the last
 pub run-starts : (s w : List ℕ) (p : Place) → Standing s w p → Standing s w (movedTo p (p .at) (p .depth) (p .count))

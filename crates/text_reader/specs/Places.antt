@@ -2,7 +2,7 @@
 use Prim.Native.Nat.{ℕ, _+_, _*_, _≤_, _<_}
 use mathlib.Core.Path.{_≡_}
 use mathlib.Core.Bool.{Bool, true, false, cond}
-use mathlib.Core.List.{List, []}
+use mathlib.Core.List.{List}
 use lib.Dec.{leb}
 use lib.ListN.{length, getD, drop}
 use Rattle.format.specs.Limits.{mostTermFields}
@@ -88,6 +88,13 @@ pub record Closed (s w : List ℕ) (p r : Place) : Type 0 where
   pub moved : Moved s w p r
   pub no-blank : r .at < length s → getD s (r .at) 0 ≡ 32 → ⊥
   pub no-bracket : r .at < length s → getD s (r .at) 0 ≡ 41 → r .depth ≡ 0
+
+-- between two places stand blanks alone
+pub record Skipped (s : List ℕ) (from to : ℕ) : Type 0 where
+  pub rises : from ≤ to
+  pub placed : to ≤ length s
+  pub scans : (due : Bool) (k d f z : ℕ) → scan (scanned (modeOf due) k d f z) from (drop from s) ≡ scan (scanned (modeOf due) k d f z) to (drop to s)
+  pub marks : marksIn (drop from s) ≡ marksIn (drop to s)
 
 -- Digits stand from one place to another, of a leaf or of a label; the value is exact where it is not too large.
 pub record Passed (s : List ℕ) (from v to : ℕ) : Type 0 where

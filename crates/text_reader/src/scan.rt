@@ -8,7 +8,7 @@ ghost use Rattle.notation.specs.MarksIn.{marksIn};
 ghost use Rattle.notation.specs.Scans.{beginsNumbered, isSign, digitMore, start, scan};
 ghost use Rattle.text_reader.specs.MarkList.{MarksStand};
 ghost use Rattle.text_reader.specs.Shapes.{scanShape};
-ghost use Rattle.text_reader.specs.Places.{Standing, Ready, After, Opened, Closed, refusing, completed, movedTo, NumberRead, LeafByte, PairBytes, SignByte};
+ghost use Rattle.text_reader.specs.Places.{Standing, Ready, After, Opened, Closed, refusing, completed, movedTo, Skipped, NumberRead, LeafByte, PairBytes, SignByte};
 ghost use Rattle.text_reader.specs.declared.scan.ScanRead.the-variants as R;
 
 const MOST_FIELDS: u32 = 4096;
@@ -66,6 +66,21 @@ fn digit_more(v: usize, b: usize) -> usize
         return v;
     }
     v * 10 + (b - 48)
+}
+
+// The place behind the blanks that stand at a place.
+fn past_blanks(text: &[u8], from: usize) -> usize
+    requires { ⌜ from ≤ length (now text) ⌝ }
+    ensures { λ r. ⌜ Skipped (now (text .entry)) from r ⌝ }
+{
+    let mut at = from;
+    while at < text.len() {
+        if text[at] != 32 {
+            return at;
+        }
+        at += 1;
+    }
+    at
 }
 
 // The digits that stand at a place, if there are any.
@@ -127,18 +142,18 @@ fn past_openings(text: &[u8], work: &mut [u8], here: Place) -> Place
     let mut count = here.count;
     while at < text.len() {
         let b = text[at];
-        if b == 32 {
+        if b == 40 {
+            let entry = 3 * count;
+            work[entry] = 1;
+            depth += 1;
+            count += 1;
             at += 1;
             continue;
         }
-        if b != 40 {
+        if b != 32 {
             return moved(here, at, depth, count);
         }
-        let entry = 3 * count;
-        work[entry] = 1;
-        depth += 1;
-        count += 1;
-        at += 1;
+        at = past_blanks(text, at + 1);
     }
     moved(here, at, depth, count)
 }
@@ -153,21 +168,21 @@ fn past_closings(text: &[u8], work: &mut [u8], here: Place) -> Place
     let mut count = here.count;
     while at < text.len() {
         let b = text[at];
-        if b == 32 {
+        if b == 41 {
+            if depth == 0 {
+                return moved(here, at, depth, count);
+            }
+            let entry = 3 * count;
+            work[entry] = 0;
+            depth -= 1;
+            count += 1;
             at += 1;
             continue;
         }
-        if b != 41 {
+        if b != 32 {
             return moved(here, at, depth, count);
         }
-        if depth == 0 {
-            return moved(here, at, depth, count);
-        }
-        let entry = 3 * count;
-        work[entry] = 0;
-        depth -= 1;
-        count += 1;
-        at += 1;
+        at = past_blanks(text, at + 1);
     }
     moved(here, at, depth, count)
 }

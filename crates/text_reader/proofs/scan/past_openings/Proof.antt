@@ -1,15 +1,14 @@
-use Rattle.text_reader.proofs.PlaceLaws.{blank-stands, opening-stands-here, run-starts, opened-other, opened-end}
-use Rattle.text_reader.specs.Places.{Standing, movedTo}
-use borrow.Author.Needs.{needs}
-use lib.ListN.{length, length-set}
-use native.Mathlib.Omega.{arith}
+-- `scan::past_openings` meets its contract: the invariant: the scan stands at the place reached.
+-- Assumes nothing.
+use mathlib.Core.Path.{_≡_, refl}
 use Prim.Native.Nat.{_-_, _≤_}
-use mathlib.Core.Path.{_≡_, refl, sym, _∙_}
+use native.Mathlib.Omega.{arith}
+use lib.ListN.{length, length-set}
+use borrow.Author.Needs.{needs}
+use Rattle.text_reader.specs.Places.{Standing, movedTo}
+use Rattle.text_reader.proofs.PlaceLaws.{blank-stands, opening-stands-here, run-starts, opened-other, opened-end}
 use Rattle.text_reader.proofs.scan.past_openings.Statement.{statement}
 use Rattle.text_reader.proofs.scan.past_openings.Tie as tie
-use Rattle.text_reader.proofs.scan.past_openings.Reads as reads
-use Rattle.text_reader.proofs.scan.past_openings.Lts as lts
-use Rattle.text_reader.proofs.scan.moved.Reads as moved-reads
 
 abbrev Inv-loop : tie.InvT-loop
 Inv-loop text work₀ here at₀ depth₀ count₀ work at depth count = Standing text work (movedTo here at depth count) × (here .at ≤ at) × (length work ≡ length work₀)
@@ -17,77 +16,62 @@ Inv-loop text work₀ here at₀ depth₀ count₀ work at depth count = Standin
 abbrev μ-loop : tie.MeasureT-loop
 μ-loop text work₀ here at₀ depth₀ count₀ work at depth count = length text - at
 
--- src/scan.rt:128:5
 loop-holds : tie.Need-loop-holds Inv-loop μ-loop
 loop-holds c = (run-starts _ _ _ (c .before .before .pre .0 .standing), omega arith, refl)
 
--- src/scan.rt:129:17
 shared-slice-read-b : tie.Need-shared-slice-read-b Inv-loop μ-loop
 shared-slice-read-b c = search needs
 
--- src/scan.rt:131:13
+mul-entry : tie.Need-mul-entry Inv-loop μ-loop
+mul-entry c = omega (arith, c .before .before .before .loop .inv .0 .listed .counted, (c .before .before .before .loop .inv .2), c .before .before .before .before .before .before .pre .0 .room, (c .before .before .loop-test .taken), c .before .before .before .loop .inv .0 .deep, c .before .before .before .before .before .before .pre .0 .short)
+
+slice-write-work : tie.Need-slice-write-work Inv-loop μ-loop
+slice-write-work c = omega (arith, c .before .before .before .loop .inv .0 .listed .counted, (c .before .before .before .loop .inv .2), c .before .before .before .before .before .before .pre .0 .room, (c .before .before .loop-test .taken), c .before .before .before .loop .inv .0 .deep, c .before .before .before .before .before .before .pre .0 .short)
+
+add-depth : tie.Need-add-depth Inv-loop μ-loop
+add-depth c = omega (arith, c .before .before .before .loop .inv .0 .listed .counted, (c .before .before .before .loop .inv .2), c .before .before .before .before .before .before .pre .0 .room, (c .before .before .loop-test .taken), c .before .before .before .loop .inv .0 .deep, c .before .before .before .before .before .before .pre .0 .short)
+
+add-count : tie.Need-add-count Inv-loop μ-loop
+add-count c = omega (arith, c .before .before .before .loop .inv .0 .listed .counted, (c .before .before .before .loop .inv .2), c .before .before .before .before .before .before .pre .0 .room, (c .before .before .loop-test .taken), c .before .before .before .loop .inv .0 .deep, c .before .before .before .before .before .before .pre .0 .short)
+
 add-at : tie.Need-add-at Inv-loop μ-loop
-add-at c = omega (arith, c .before .before .before .loop .inv .0 .listed .counted, c .before .before .before .loop .inv .2, c .before .before .before .before .before .before .pre .0 .room, c .before .before .loop-test .taken, c .before .before .before .loop .inv .0 .deep, c .before .before .before .before .before .before .pre .0 .short)
+add-at c = omega (arith, c .before .before .before .loop .inv .0 .listed .counted, (c .before .before .before .loop .inv .2), c .before .before .before .before .before .before .pre .0 .room, (c .before .before .loop-test .taken), c .before .before .before .loop .inv .0 .deep, c .before .before .before .before .before .before .pre .0 .short)
 
--- src/scan.rt:128:5
 loop-less : tie.Need-loop-less Inv-loop μ-loop
-loop-less c = omega (arith, c .before .before .loop-test .taken)
+loop-less c = omega (arith, (c .before .before .loop-test .taken))
 
--- src/scan.rt:128:5
 loop-again : tie.Need-loop-again Inv-loop μ-loop
-loop-again c = (blank-stands _ _ (c .before .before .before .before .before .before .args .here) _ _ _ (c .before .before .before .loop .inv .0) (c .before .before .loop-test .taken) (c .if1 .taken), omega (arith, c .before .before .before .loop .inv .1), c .before .before .before .loop .inv .2)
+loop-again c = (opening-stands-here _ _ (c .before .before .before .before .before .before .args .here) _ _ _ (c .before .before .before .loop .inv .0) (c .before .before .loop-test .taken) (c .before .before .before .before .before .before .pre .1) (c .if1 .taken) (omega (arith, c .before .before .before .loop .inv .0 .listed .counted, (c .before .before .before .loop .inv .2), c .before .before .before .before .before .before .pre .0 .room, (c .before .before .loop-test .taken), c .before .before .before .loop .inv .0 .deep, c .before .before .before .before .before .before .pre .0 .short)), omega (arith, (c .before .before .before .loop .inv .1)), simp length-set (c .before .before .before .loop .inv .2))
 
--- src/scan.rt:135:13
 moved-requires : tie.Need-moved-requires Inv-loop μ-loop
 moved-requires c κs = search needs
 
--- src/scan.rt:135:13
 same-length : tie.Need-same-length Inv-loop μ-loop
-same-length c = c .before .before .before .before .before .loop .inv .2
+same-length c = (c .before .before .before .before .before .loop .inv .2)
 
--- src/scan.rt:135:13
 returns : tie.Need-returns Inv-loop μ-loop
-returns c = opened-other _ _ _ _ _ _ _ (c .moved .ensures) (c .before .before .before .before .before .loop .inv .0) (c .before .before .before .before .before .loop .inv .1) (c .before .before .if1 .left) (c .before .if2 .taken)
+returns c = opened-other _ _ (c .before .before .before .before .before .before .before .before .args .here) _ _ _ _ (c .moved .ensures) (c .before .before .before .before .before .loop .inv .0) (c .before .before .before .before .before .loop .inv .1) (c .before .if2 .taken) (c .before .before .if1 .left)
 
--- src/scan.rt:137:21
-mul-entry : tie.Need-mul-entry Inv-loop μ-loop
-mul-entry c = omega (arith, c .before .before .before .before .loop .inv .0 .listed .counted, c .before .before .before .before .loop .inv .2, c .before .before .before .before .before .before .before .pre .0 .room, c .before .before .before .loop-test .taken, c .before .before .before .before .loop .inv .0 .deep, c .before .before .before .before .before .before .before .pre .0 .short)
+add-past-blanks : tie.Need-add-past-blanks Inv-loop μ-loop
+add-past-blanks c = omega (arith, c .before .before .before .before .loop .inv .0 .listed .counted, (c .before .before .before .before .loop .inv .2), c .before .before .before .before .before .before .before .pre .0 .room, (c .before .before .before .loop-test .taken), c .before .before .before .before .loop .inv .0 .deep, c .before .before .before .before .before .before .before .pre .0 .short)
 
--- src/scan.rt:138:9
-slice-write-work : tie.Need-slice-write-work Inv-loop μ-loop
-slice-write-work c = omega (arith, c .before .before .before .before .loop .inv .0 .listed .counted, c .before .before .before .before .loop .inv .2, c .before .before .before .before .before .before .before .pre .0 .room, c .before .before .before .loop-test .taken, c .before .before .before .before .loop .inv .0 .deep, c .before .before .before .before .before .before .before .pre .0 .short)
+past-blanks-requires : tie.Need-past-blanks-requires Inv-loop μ-loop
+past-blanks-requires c κs = omega (arith, (c .before .before .before .loop-test .taken))
 
--- src/scan.rt:139:9
-add-depth : tie.Need-add-depth Inv-loop μ-loop
-add-depth c = omega (arith, c .before .before .before .before .loop .inv .0 .listed .counted, c .before .before .before .before .loop .inv .2, c .before .before .before .before .before .before .before .pre .0 .room, c .before .before .before .loop-test .taken, c .before .before .before .before .loop .inv .0 .deep, c .before .before .before .before .before .before .before .pre .0 .short)
-
--- src/scan.rt:140:9
-add-count : tie.Need-add-count Inv-loop μ-loop
-add-count c = omega (arith, c .before .before .before .before .loop .inv .0 .listed .counted, c .before .before .before .before .loop .inv .2, c .before .before .before .before .before .before .before .pre .0 .room, c .before .before .before .loop-test .taken, c .before .before .before .before .loop .inv .0 .deep, c .before .before .before .before .before .before .before .pre .0 .short)
-
--- src/scan.rt:141:9
-add-at-2 : tie.Need-add-at-2 Inv-loop μ-loop
-add-at-2 c = omega (arith, c .before .before .before .before .loop .inv .0 .listed .counted, c .before .before .before .before .loop .inv .2, c .before .before .before .before .before .before .before .pre .0 .room, c .before .before .before .loop-test .taken, c .before .before .before .before .loop .inv .0 .deep, c .before .before .before .before .before .before .before .pre .0 .short)
-
--- src/scan.rt:128:5
 loop-less-2 : tie.Need-loop-less-2 Inv-loop μ-loop
-loop-less-2 c = omega (arith, c .before .before .before .loop-test .taken)
+loop-less-2 c = omega (arith, (c .before .before .before .before .loop-test .taken), c .past-blanks .ensures .rises)
 
--- src/scan.rt:128:5
 loop-again-2 : tie.Need-loop-again-2 Inv-loop μ-loop
-loop-again-2 c = (opening-stands-here _ _ (c .before .before .before .before .before .before .before .args .here) _ _ _ (c .before .before .before .before .loop .inv .0) (c .before .before .before .loop-test .taken) (c .before .before .before .before .before .before .before .pre .1) (c .if2 .left) (omega (arith, c .before .before .before .before .loop .inv .0 .listed .counted, c .before .before .before .before .loop .inv .2, c .before .before .before .before .before .before .before .pre .0 .room, c .before .before .before .loop-test .taken, c .before .before .before .before .loop .inv .0 .deep, c .before .before .before .before .before .before .before .pre .0 .short)), omega (arith, c .before .before .before .before .loop .inv .1), simp length-set (c .before .before .before .before .loop .inv .2))
+loop-again-2 c = (blank-stands _ _ (c .before .before .before .before .before .before .before .before .args .here) _ _ _ (c .before .before .before .before .before .loop .inv .0) (c .before .before .before .before .loop-test .taken) _ (c .before .if2 .left) (c .past-blanks .ensures), omega (arith, (c .before .before .before .before .before .loop .inv .1), c .past-blanks .ensures .rises), (c .before .before .before .before .before .loop .inv .2))
 
--- src/scan.rt:143:5
 moved-requires-2 : tie.Need-moved-requires-2 Inv-loop μ-loop
 moved-requires-2 c κs = search needs
 
--- src/scan.rt:121:1
 same-length-2 : tie.Need-same-length-2 Inv-loop μ-loop
-same-length-2 c = c .before .before .loop .inv .2
+same-length-2 c = (c .before .before .loop .inv .2)
 
--- src/scan.rt:121:1
 returns-2 : tie.Need-returns-2 Inv-loop μ-loop
-returns-2 c = opened-end _ _ _ _ _ _ _ (c .moved2 .ensures) (c .before .before .loop .inv .0) (c .before .before .loop .inv .1) (c .before .loop-test .left)
+returns-2 c = opened-end _ _ (c .before .before .before .before .before .args .here) _ _ _ _ (c .moved2 .ensures) (c .before .before .loop .inv .0) (c .before .before .loop .inv .1) (c .before .loop-test .left)
 
 pub past-openings-spec : {M : Type 1} → statement M
 past-openings-spec =
@@ -97,17 +81,18 @@ past-openings-spec =
     μ-loop
     loop-holds
     shared-slice-read-b
+    mul-entry
+    slice-write-work
+    add-depth
+    add-count
     add-at
     loop-less
     loop-again
     moved-requires
     same-length
     returns
-    mul-entry
-    slice-write-work
-    add-depth
-    add-count
-    add-at-2
+    add-past-blanks
+    past-blanks-requires
     loop-less-2
     loop-again-2
     moved-requires-2
