@@ -116,6 +116,22 @@ fn refused(here: Place, number: u8, place: usize) -> Place
     }
 }
 
+// The byte behind the first of a mark is wrong, or the text ends there: 36 at that place.
+fn wrong_second(here: Place) -> Place
+    requires { ⌜ here .at < 65536 ⌝ }
+    ensures { λ r. ⌜ r ≡ refusing here 36 (here .at + 1) ⌝ }
+{
+    refused(here, 36, here.at + 1)
+}
+
+// The value of a mark is over 65,535: 37 at its first digit.
+fn too_large(here: Place) -> Place
+    requires { ⌜ here .at < 65536 ⌝ }
+    ensures { λ r. ⌜ r ≡ refusing here 37 (here .at + 1) ⌝ }
+{
+    refused(here, 37, here.at + 1)
+}
+
 // Further on, with so many brackets not closed and so many marks in the list.
 fn moved(here: Place, at: usize, depth: usize, count: usize) -> Place
     ensures { λ r. ⌜ r ≡ movedTo here at depth count ⌝ }
@@ -220,10 +236,10 @@ fn leaf(text: &[u8], work: &mut [u8], here: Place, tag: u8) -> Place
     let value = read.value;
     let next = read.next;
     if next == from {
-        return refused(here, 36, from);
+        return wrong_second(here);
     }
     if MOST_VALUE < value {
-        return refused(here, 37, from);
+        return too_large(here);
     }
     words::store16(work, 3 * here.count + 1, value as u16);
     complete(work, here, tag, next, false, 5)
@@ -239,10 +255,10 @@ fn label(text: &[u8], work: &mut [u8], here: Place) -> Place
     let value = read.value;
     let next = read.next;
     if next == from {
-        return refused(here, 36, from);
+        return wrong_second(here);
     }
     if MOST_VALUE < value {
-        return refused(here, 37, from);
+        return too_large(here);
     }
     if text.len() <= next {
         return refused(here, 36, next);
@@ -261,10 +277,10 @@ fn pair(text: &[u8], work: &mut [u8], here: Place, second: u8, tag: u8) -> Place
 {
     let from = here.at + 1;
     if text.len() <= from {
-        return refused(here, 36, from);
+        return wrong_second(here);
     }
     if text[from] != second {
-        return refused(here, 36, from);
+        return wrong_second(here);
     }
     complete(work, here, tag, from + 1, false, 3)
 }

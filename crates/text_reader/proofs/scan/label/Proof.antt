@@ -11,32 +11,32 @@ add-from c = search needs
 number-at-requires : tie.Need-number-at-requires
 number-at-requires c κs = search needs
 
+wrong-second-requires : tie.Need-wrong-second-requires
+wrong-second-requires c κs = search needs
+
+returns : tie.Need-returns
+returns c = label-none _ _ _ (c .before .before .before .before .before .before .pre .0) _ _ (c .before .before .number-at .ensures) (c .before .before .before .before .before .before .pre .1) (c .before .before .before .before .before .before .pre .2) _ _ (c .before .if1 .taken) (c .wrong-second .ensures)
+
+too-large-requires : tie.Need-too-large-requires
+too-large-requires c κs = search needs
+
+returns-2 : tie.Need-returns-2
+returns-2 c = label-large _ _ _ (c .before .before .before .before .before .before .before .pre .0) _ _ (c .before .before .before .number-at .ensures) (c .before .before .before .before .before .before .before .pre .1) (c .before .before .before .before .before .before .before .pre .2) _ _ (c .before .before .if1 .left) (c .before .if2 .taken) (c .too-large .ensures)
+
 refused-requires : tie.Need-refused-requires
 refused-requires c κs = search needs
 
-returns : tie.Need-returns
-returns c = label-none _ _ _ (c .before .before .before .before .before .before .pre .0) _ _ (c .before .before .number-at .ensures) (c .before .before .before .before .before .before .pre .1) (c .before .before .before .before .before .before .pre .2) _ _ (c .before .if1 .taken) (c .refused .ensures)
-
-refused-requires-2 : tie.Need-refused-requires-2
-refused-requires-2 c κs = search needs
-
-returns-2 : tie.Need-returns-2
-returns-2 c = label-large _ _ _ (c .before .before .before .before .before .before .before .pre .0) _ _ (c .before .before .before .number-at .ensures) (c .before .before .before .before .before .before .before .pre .1) (c .before .before .before .before .before .before .before .pre .2) _ _ (c .before .before .if1 .left) (c .before .if2 .taken) (c .refused2 .ensures)
-
-refused-requires-3 : tie.Need-refused-requires-3
-refused-requires-3 c κs = search needs
-
 returns-3 : tie.Need-returns-3
-returns-3 c = label-short _ _ _ (c .before .before .before .before .before .before .before .before .pre .0) _ _ (c .before .before .before .before .number-at .ensures) (c .before .before .before .before .before .before .before .before .pre .1) (c .before .before .before .before .before .before .before .before .pre .2) _ _ (c .before .before .before .if1 .left) (c .before .before .if2 .left) (c .before .if3 .taken) (c .refused3 .ensures)
+returns-3 c = label-short _ _ _ (c .before .before .before .before .before .before .before .before .pre .0) _ _ (c .before .before .before .before .number-at .ensures) (c .before .before .before .before .before .before .before .before .pre .1) (c .before .before .before .before .before .before .before .before .pre .2) _ _ (c .before .before .before .if1 .left) (c .before .before .if2 .left) (c .before .if3 .taken) (c .refused .ensures)
 
 shared-slice-read-if4 : tie.Need-shared-slice-read-if4
 shared-slice-read-if4 c = search needs
 
-refused-requires-4 : tie.Need-refused-requires-4
-refused-requires-4 c κs = search needs
+refused-requires-2 : tie.Need-refused-requires-2
+refused-requires-2 c κs = search needs
 
 returns-4 : tie.Need-returns-4
-returns-4 c = label-refused _ _ _ (c .before .before .before .before .before .before .before .before .before .before .pre .0) _ _ (c .before .before .before .before .before .before .number-at .ensures) (c .before .before .before .before .before .before .before .before .before .before .pre .1) (c .before .before .before .before .before .before .before .before .before .before .pre .2) _ _ (c .before .before .before .before .before .if1 .left) (c .before .before .before .before .if2 .left) (c .before .before .before .if3 .left) (c .before .if4 .taken) (c .refused4 .ensures)
+returns-4 c = label-refused _ _ _ (c .before .before .before .before .before .before .before .before .before .before .pre .0) _ _ (c .before .before .before .before .before .before .number-at .ensures) (c .before .before .before .before .before .before .before .before .before .before .pre .1) (c .before .before .before .before .before .before .before .before .before .before .pre .2) _ _ (c .before .before .before .before .before .if1 .left) (c .before .before .before .before .if2 .left) (c .before .before .before .if3 .left) (c .before .if4 .taken) (c .refused2 .ensures)
 
 mul-store16 : tie.Need-mul-store16
 mul-store16 c = search needs
@@ -68,14 +68,14 @@ label-spec =
     (tie.spec
     add-from
     number-at-requires
-    refused-requires
+    wrong-second-requires
     returns
-    refused-requires-2
+    too-large-requires
     returns-2
-    refused-requires-3
+    refused-requires
     returns-3
     shared-slice-read-if4
-    refused-requires-4
+    refused-requires-2
     returns-4
     mul-store16
     add-store16

@@ -12,17 +12,17 @@ add-from c = search needs
 number-at-requires : tie.Need-number-at-requires
 number-at-requires c κs = search needs
 
-refused-requires : tie.Need-refused-requires
-refused-requires c κs = search needs
+wrong-second-requires : tie.Need-wrong-second-requires
+wrong-second-requires c κs = search needs
 
 returns : tie.Need-returns
-returns c = leaf-none _ _ _ (c .before .before .before .before .before .before .pre .0) _ _ (c .before .before .number-at .ensures) _ _ (c .before .before .before .before .before .before .pre .1) refl (c .before .before .before .before .before .before .pre .2) _ _ (c .before .if1 .taken) (c .refused .ensures)
+returns c = leaf-none _ _ _ (c .before .before .before .before .before .before .pre .0) _ _ (c .before .before .number-at .ensures) _ _ (c .before .before .before .before .before .before .pre .1) refl (c .before .before .before .before .before .before .pre .2) _ _ (c .before .if1 .taken) (c .wrong-second .ensures)
 
-refused-requires-2 : tie.Need-refused-requires-2
-refused-requires-2 c κs = search needs
+too-large-requires : tie.Need-too-large-requires
+too-large-requires c κs = search needs
 
 returns-2 : tie.Need-returns-2
-returns-2 c = leaf-large _ _ _ (c .before .before .before .before .before .before .before .pre .0) _ _ (c .before .before .before .number-at .ensures) _ _ (c .before .before .before .before .before .before .before .pre .1) refl (c .before .before .before .before .before .before .before .pre .2) _ _ (c .before .before .if1 .left) (c .before .if2 .taken) (c .refused2 .ensures)
+returns-2 c = leaf-large _ _ _ (c .before .before .before .before .before .before .before .pre .0) _ _ (c .before .before .before .number-at .ensures) _ _ (c .before .before .before .before .before .before .before .pre .1) refl (c .before .before .before .before .before .before .before .pre .2) _ _ (c .before .before .if1 .left) (c .before .if2 .taken) (c .too-large .ensures)
 
 mul-store16 : tie.Need-mul-store16
 mul-store16 c = search needs
@@ -51,9 +51,9 @@ leaf-spec =
     (tie.spec
     add-from
     number-at-requires
-    refused-requires
+    wrong-second-requires
     returns
-    refused-requires-2
+    too-large-requires
     returns-2
     mul-store16
     add-store16

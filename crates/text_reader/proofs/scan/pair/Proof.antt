@@ -9,20 +9,20 @@ use Rattle.text_reader.proofs.scan.pair.Tie as tie
 add-from : tie.Need-add-from
 add-from c = search needs
 
-refused-requires : tie.Need-refused-requires
-refused-requires c κs = search needs
+wrong-second-requires : tie.Need-wrong-second-requires
+wrong-second-requires c κs = search needs
 
 returns : tie.Need-returns
-returns c = pair-short _ _ _ (c .before .before .before .before .before .pre .0) _ _ _ (c .before .before .before .before .before .pre .1) refl (c .before .before .before .before .before .pre .2) _ _ (c .before .if1 .taken) (c .refused .ensures)
+returns c = pair-short _ _ _ (c .before .before .before .before .before .pre .0) _ _ _ (c .before .before .before .before .before .pre .1) refl (c .before .before .before .before .before .pre .2) _ _ (c .before .if1 .taken) (c .wrong-second .ensures)
 
 shared-slice-read-if2 : tie.Need-shared-slice-read-if2
 shared-slice-read-if2 c = search needs
 
-refused-requires-2 : tie.Need-refused-requires-2
-refused-requires-2 c κs = search needs
+wrong-second-requires-2 : tie.Need-wrong-second-requires-2
+wrong-second-requires-2 c κs = search needs
 
 returns-2 : tie.Need-returns-2
-returns-2 c = pair-refused _ _ _ (c .before .before .before .before .before .before .before .pre .0) _ _ _ (c .before .before .before .before .before .before .before .pre .1) refl (c .before .before .before .before .before .before .before .pre .2) _ _ (c .before .before .before .if1 .left) (c .before .if2 .taken) (c .refused2 .ensures)
+returns-2 c = pair-refused _ _ _ (c .before .before .before .before .before .before .before .pre .0) _ _ _ (c .before .before .before .before .before .before .before .pre .1) refl (c .before .before .before .before .before .before .before .pre .2) _ _ (c .before .before .before .if1 .left) (c .before .if2 .taken) (c .wrong-second2 .ensures)
 
 add-complete : tie.Need-add-complete
 add-complete c = search needs
@@ -41,10 +41,10 @@ pair-spec =
     tie.close
     (tie.spec
     add-from
-    refused-requires
+    wrong-second-requires
     returns
     shared-slice-read-if2
-    refused-requires-2
+    wrong-second-requires-2
     returns-2
     add-complete
     complete-requires
