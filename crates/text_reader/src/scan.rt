@@ -148,7 +148,7 @@ fn moved(here: Place, at: usize, depth: usize, count: usize) -> Place
     }
 }
 
-// Behind the blanks and the brackets that open here. They are the marks that a text can have most of, so that they have a loop of their own.
+// Behind the blanks and the brackets that open here. A text can have many more of these than of term fields, so that they have a loop of their own.
 fn past_openings(text: &[u8], work: &mut [u8], here: Place) -> Place
     requires { ⌜ Ready (now text) (now work) here × (here .due ≡ true) ⌝ }
     ensures { λ r. ⌜ Opened (now (text .entry)) (now (work .exit)) here r ⌝ }

@@ -2,6 +2,8 @@
 -- Assumes nothing.
 use mathlib.Core.Path.{refl}
 use borrow.Author.Tests.{le-leb, lt-leb}
+use native.Mathlib.Omega.{arith}
+use Rattle.format.specs.Limits.{mostTermFields}
 use borrow.Author.Needs.{needs}
 use Rattle.text_reader.specs.Places.{completed}
 use Rattle.text_reader.proofs.scan.complete.Statement.{statement}
@@ -21,7 +23,7 @@ same-length c = search needs
 
 returns : tie.Need-returns
 unfolding completed
-returns c = (simp (le-leb _ _ (c .before .if1 .taken), c .refused .ensures), refl)
+returns c = (simp (le-leb mostTermFields (c .before .before .before .before .before .args .here .fields) (omega (arith, c .before .if1 .taken)), c .refused .ensures), refl)
 
 add-t10 : tie.Need-add-t10
 add-t10 c = search needs
@@ -37,7 +39,7 @@ same-length-2 c = search needs
 
 returns-2 : tie.Need-returns-2
 unfolding completed
-returns-2 c = (simp (lt-leb _ _ (c .before .before .before .if1 .left)), refl)
+returns-2 c = (simp (lt-leb mostTermFields (c .before .before .before .before .before .before .before .args .here .fields) (omega (arith, c .before .before .before .if1 .left))), refl)
 
 pub complete-spec : {M : Type 1} → statement M
 complete-spec =

@@ -1,6 +1,7 @@
 -- `scan::leaf` meets its contract: one law for each answer.
 -- Assumes nothing.
 use mathlib.Core.Path.{refl}
+use native.Mathlib.Omega.{arith}
 use borrow.Author.Needs.{needs}
 use Rattle.text_reader.proofs.PlaceLaws.{leaf-none, leaf-large, leaf-ok}
 use Rattle.text_reader.proofs.scan.leaf.Statement.{statement}
@@ -22,7 +23,7 @@ too-large-requires : tie.Need-too-large-requires
 too-large-requires c κs = search needs
 
 returns-2 : tie.Need-returns-2
-returns-2 c = leaf-large _ _ _ (c .before .before .before .before .before .before .before .pre .0) _ _ (c .before .before .before .number-at .ensures) _ _ (c .before .before .before .before .before .before .before .pre .1) refl (c .before .before .before .before .before .before .before .pre .2) _ _ (c .before .before .if1 .left) (c .before .if2 .taken) (c .too-large .ensures)
+returns-2 c = leaf-large _ _ _ (c .before .before .before .before .before .before .before .pre .0) _ _ (c .before .before .before .number-at .ensures) _ _ (c .before .before .before .before .before .before .before .pre .1) refl (c .before .before .before .before .before .before .before .pre .2) _ _ (c .before .before .if1 .left) (omega (arith, c .before .if2 .taken)) (c .too-large .ensures)
 
 mul-store16 : tie.Need-mul-store16
 mul-store16 c = search needs
@@ -43,7 +44,7 @@ same-length : tie.Need-same-length
 same-length c = search needs
 
 returns-3 : tie.Need-returns-3
-returns-3 c = leaf-ok _ _ _ (c .before .before .before .before .before .before .before .before .before .before .before .before .before .before .before .pre .0) _ _ (c .before .before .before .before .before .before .before .before .before .before .before .number-at .ensures) _ _ (c .before .before .before .before .before .before .before .before .before .before .before .before .before .before .before .pre .1) refl (c .before .before .before .before .before .before .before .before .before .before .before .before .before .before .before .pre .2) _ _ _ (c .before .before .before .before .before .before .before .before .before .before .if1 .left) (c .before .before .before .before .before .before .before .before .before .if2 .left) (c .before .before .before .before .before .before .store16 .ensures) (c .before .before .complete .ensures .1) (c .before .before .complete .ensures .0)
+returns-3 c = leaf-ok _ _ _ (c .before .before .before .before .before .before .before .before .before .before .before .before .before .before .before .pre .0) _ _ (c .before .before .before .before .before .before .before .before .before .before .before .number-at .ensures) _ _ (c .before .before .before .before .before .before .before .before .before .before .before .before .before .before .before .pre .1) refl (c .before .before .before .before .before .before .before .before .before .before .before .before .before .before .before .pre .2) _ _ _ (c .before .before .before .before .before .before .before .before .before .before .if1 .left) (omega (arith, c .before .before .before .before .before .before .before .before .before .if2 .left)) (c .before .before .before .before .before .before .store16 .ensures) (c .before .before .complete .ensures .1) (c .before .before .complete .ensures .0)
 
 pub leaf-spec : {M : Type 1} → statement M
 leaf-spec =

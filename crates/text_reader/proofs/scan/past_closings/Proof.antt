@@ -29,7 +29,7 @@ same-length : tie.Need-same-length Inv-loop μ-loop
 same-length c = (c .before .before .before .before .before .loop .inv .2)
 
 returns : tie.Need-returns Inv-loop μ-loop
-returns c = closed-other _ _ (c .before .before .before .before .before .before .before .before .args .here) _ _ _ _ (c .moved .ensures) (c .before .before .before .before .before .loop .inv .0) (c .before .before .before .before .before .loop .inv .1) (not-both _ 41 32 (c .before .before .if1 .taken) (λ e. omega arith)) (λ e. c .before .if2 .taken)
+returns c = closed-other _ _ (c .before .before .before .before .before .before .before .before .args .here) _ _ _ _ (c .moved .ensures) (c .before .before .before .before .before .loop .inv .0) (c .before .before .before .before .before .loop .inv .1) (not-both _ 41 32 (c .before .before .if1 .taken) (λ e. omega arith)) (λ e. omega (arith, c .before .if2 .taken))
 
 mul-entry : tie.Need-mul-entry Inv-loop μ-loop
 mul-entry c = omega (arith, c .before .before .before .before .loop .inv .0 .listed .counted, (c .before .before .before .before .loop .inv .2), c .before .before .before .before .before .before .before .pre .0 .room, (c .before .before .before .loop-test .taken), c .before .before .before .before .loop .inv .0 .deep, c .before .before .before .before .before .before .before .pre .0 .short)
@@ -50,7 +50,7 @@ loop-less : tie.Need-loop-less Inv-loop μ-loop
 loop-less c = omega (arith, (c .before .before .before .loop-test .taken))
 
 loop-again : tie.Need-loop-again Inv-loop μ-loop
-loop-again c = (closing-stands-here _ _ (c .before .before .before .before .before .before .before .args .here) _ _ _ (c .before .before .before .before .loop .inv .0) (c .before .before .before .loop-test .taken) (c .before .before .before .before .before .before .before .pre .1) (c .before .if1 .taken) (c .if2 .left) (omega (arith, c .before .before .before .before .loop .inv .0 .listed .counted, (c .before .before .before .before .loop .inv .2), c .before .before .before .before .before .before .before .pre .0 .room, (c .before .before .before .loop-test .taken), c .before .before .before .before .loop .inv .0 .deep, c .before .before .before .before .before .before .before .pre .0 .short)), omega (arith, (c .before .before .before .before .loop .inv .1)), simp length-set (c .before .before .before .before .loop .inv .2))
+loop-again c = (closing-stands-here _ _ (c .before .before .before .before .before .before .before .args .here) _ _ _ (c .before .before .before .before .loop .inv .0) (c .before .before .before .loop-test .taken) (c .before .before .before .before .before .before .before .pre .1) (c .before .if1 .taken) (λ e. omega (arith, c .if2 .left)) (omega (arith, c .before .before .before .before .loop .inv .0 .listed .counted, (c .before .before .before .before .loop .inv .2), c .before .before .before .before .before .before .before .pre .0 .room, (c .before .before .before .loop-test .taken), c .before .before .before .before .loop .inv .0 .deep, c .before .before .before .before .before .before .before .pre .0 .short)), omega (arith, (c .before .before .before .before .loop .inv .1)), simp length-set (c .before .before .before .before .loop .inv .2))
 
 moved-requires-2 : tie.Need-moved-requires-2 Inv-loop μ-loop
 moved-requires-2 c κs = search needs

@@ -43,13 +43,13 @@ same-length-3 : tie.Need-same-length-3 Inv-loop μ-loop
 same-length-3 c = c .before .before .before .before .before .loop .inv .1
 
 returns-3 : tie.Need-returns-3 Inv-loop μ-loop
-returns-3 c = (end-open _ _ _ (c .before .before .before .before .before .loop .inv .0) (c .before .before .before .if1 .left) _ (c .before .before .if3 .left) (c .if4 .taken), λ count size e. absurd (not-read _ _ _ _ e))
+returns-3 c = (end-open _ _ _ (c .before .before .before .before .before .loop .inv .0) (c .before .before .before .if1 .left) _ (c .before .before .if3 .left) (λ e. omega (arith, c .if4 .taken)), λ count size e. absurd (not-read _ _ _ _ e))
 
 same-length-4 : tie.Need-same-length-4 Inv-loop μ-loop
 same-length-4 c = c .before .before .before .before .before .loop .inv .1
 
 returns-4 : tie.Need-returns-4 Inv-loop μ-loop
-returns-4 c = (end-read _ _ _ (c .before .before .before .before .before .loop .inv .0) (c .before .before .before .if1 .left) (c .before .before .if3 .left) (c .if4 .left), λ count size e. end-list _ _ _ (c .before .before .before .before .before .loop .inv .0) (c .before .before .before .if1 .left) _ count size e)
+returns-4 c = (end-read _ _ _ (c .before .before .before .before .before .loop .inv .0) (c .before .before .before .if1 .left) (c .before .before .if3 .left) (omega (arith, c .if4 .left)), λ count size e. end-list _ _ _ (c .before .before .before .before .before .loop .inv .0) (c .before .before .before .if1 .left) _ count size e)
 
 pub scan-text-spec : {M : Type 1} → statement M
 scan-text-spec =
