@@ -16,19 +16,28 @@ wrong-second-requires : tie.Need-wrong-second-requires
 wrong-second-requires c κs = search needs
 
 returns : tie.Need-returns
-returns c = label-none _ _ _ (c .before .before .before .before .before .before .pre .0) _ _ (c .before .before .number-at .ensures) (c .before .before .before .before .before .before .pre .1) (c .before .before .before .before .before .before .pre .2) _ _ (c .before .if1 .taken) (c .wrong-second .ensures)
+returns c =
+    let number = c .before .before in
+    let entry = number .before .before .before .before in
+    label-none _ _ _ (entry .pre .0) _ _ (number .number-at .ensures) (entry .pre .1) (entry .pre .2) _ _ (c .before .if1 .taken) (c .wrong-second .ensures)
 
 too-large-requires : tie.Need-too-large-requires
 too-large-requires c κs = search needs
 
 returns-2 : tie.Need-returns-2
-returns-2 c = label-large _ _ _ (c .before .before .before .before .before .before .before .pre .0) _ _ (c .before .before .before .number-at .ensures) (c .before .before .before .before .before .before .before .pre .1) (c .before .before .before .before .before .before .before .pre .2) _ _ (c .before .before .if1 .left) (omega (arith, c .before .if2 .taken)) (c .too-large .ensures)
+returns-2 c =
+    let number = c .before .before .before in
+    let entry = number .before .before .before .before in
+    label-large _ _ _ (entry .pre .0) _ _ (number .number-at .ensures) (entry .pre .1) (entry .pre .2) _ _ (c .before .before .if1 .left) (omega (arith, c .before .if2 .taken)) (c .too-large .ensures)
 
 refused-requires : tie.Need-refused-requires
 refused-requires c κs = search needs
 
 returns-3 : tie.Need-returns-3
-returns-3 c = label-short _ _ _ (c .before .before .before .before .before .before .before .before .pre .0) _ _ (c .before .before .before .before .number-at .ensures) (c .before .before .before .before .before .before .before .before .pre .1) (c .before .before .before .before .before .before .before .before .pre .2) _ _ (c .before .before .before .if1 .left) (omega (arith, c .before .before .if2 .left)) (c .before .if3 .taken) (c .refused .ensures)
+returns-3 c =
+    let number = c .before .before .before .before in
+    let entry = number .before .before .before .before in
+    label-short _ _ _ (entry .pre .0) _ _ (number .number-at .ensures) (entry .pre .1) (entry .pre .2) _ _ (c .before .before .before .if1 .left) (omega (arith, c .before .before .if2 .left)) (c .before .if3 .taken) (c .refused .ensures)
 
 shared-slice-read-if4 : tie.Need-shared-slice-read-if4
 shared-slice-read-if4 c = search needs
@@ -37,7 +46,10 @@ refused-requires-2 : tie.Need-refused-requires-2
 refused-requires-2 c κs = search needs
 
 returns-4 : tie.Need-returns-4
-returns-4 c = label-refused _ _ _ (c .before .before .before .before .before .before .before .before .before .before .pre .0) _ _ (c .before .before .before .before .before .before .number-at .ensures) (c .before .before .before .before .before .before .before .before .before .before .pre .1) (c .before .before .before .before .before .before .before .before .before .before .pre .2) _ _ (c .before .before .before .before .before .if1 .left) (omega (arith, c .before .before .before .before .if2 .left)) (c .before .before .before .if3 .left) (c .before .if4 .taken) (c .refused2 .ensures)
+returns-4 c =
+    let number = c .before .before .before .before .before .before in
+    let entry = number .before .before .before .before in
+    label-refused _ _ _ (entry .pre .0) _ _ (number .number-at .ensures) (entry .pre .1) (entry .pre .2) _ _ (c .before .before .before .before .before .if1 .left) (omega (arith, c .before .before .before .before .if2 .left)) (c .before .before .before .if3 .left) (c .before .if4 .taken) (c .refused2 .ensures)
 
 mul-store16 : tie.Need-mul-store16
 mul-store16 c = search needs
@@ -61,7 +73,12 @@ same-length : tie.Need-same-length
 same-length c = search needs
 
 returns-5 : tie.Need-returns-5
-returns-5 c = label-ok _ _ _ (c .before .before .before .before .before .before .before .before .before .before .before .before .before .before .before .before .before .before .pre .0) _ _ (c .before .before .before .before .before .before .before .before .before .before .before .before .before .before .number-at .ensures) (c .before .before .before .before .before .before .before .before .before .before .before .before .before .before .before .before .before .before .pre .1) (c .before .before .before .before .before .before .before .before .before .before .before .before .before .before .before .before .before .before .pre .2) _ _ _ (c .before .before .before .before .before .before .before .before .before .before .before .before .before .if1 .left) (omega (arith, c .before .before .before .before .before .before .before .before .before .before .before .before .if2 .left)) (c .before .before .before .before .before .before .before .before .before .before .before .if3 .left) (c .before .before .before .before .before .before .before .before .before .if4 .left) (c .before .before .before .before .before .before .store16 .ensures) (c .before .before .complete .ensures .1) (c .before .before .complete .ensures .0)
+returns-5 c =
+    let done = c .before .before in
+    let store = done .before .before .before .before in
+    let number = store .before .before .before .before .before .before .before .before in
+    let entry = number .before .before .before .before in
+    label-ok _ _ _ (entry .pre .0) _ _ (number .number-at .ensures) (entry .pre .1) (entry .pre .2) _ _ _ (store .before .before .before .before .before .before .before .if1 .left) (omega (arith, store .before .before .before .before .before .before .if2 .left)) (store .before .before .before .before .before .if3 .left) (store .before .before .before .if4 .left) (store .store16 .ensures) (done .complete .ensures .1) (done .complete .ensures .0)
 
 pub label-spec : {M : Type 1} → statement M
 label-spec =

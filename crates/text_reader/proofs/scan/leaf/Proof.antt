@@ -17,13 +17,19 @@ wrong-second-requires : tie.Need-wrong-second-requires
 wrong-second-requires c κs = search needs
 
 returns : tie.Need-returns
-returns c = leaf-none _ _ _ (c .before .before .before .before .before .before .pre .0) _ _ (c .before .before .number-at .ensures) _ _ (c .before .before .before .before .before .before .pre .1) refl (c .before .before .before .before .before .before .pre .2) _ _ (c .before .if1 .taken) (c .wrong-second .ensures)
+returns c =
+    let number = c .before .before in
+    let entry = number .before .before .before .before in
+    leaf-none _ _ _ (entry .pre .0) _ _ (number .number-at .ensures) _ _ (entry .pre .1) refl (entry .pre .2) _ _ (c .before .if1 .taken) (c .wrong-second .ensures)
 
 too-large-requires : tie.Need-too-large-requires
 too-large-requires c κs = search needs
 
 returns-2 : tie.Need-returns-2
-returns-2 c = leaf-large _ _ _ (c .before .before .before .before .before .before .before .pre .0) _ _ (c .before .before .before .number-at .ensures) _ _ (c .before .before .before .before .before .before .before .pre .1) refl (c .before .before .before .before .before .before .before .pre .2) _ _ (c .before .before .if1 .left) (omega (arith, c .before .if2 .taken)) (c .too-large .ensures)
+returns-2 c =
+    let number = c .before .before .before in
+    let entry = number .before .before .before .before in
+    leaf-large _ _ _ (entry .pre .0) _ _ (number .number-at .ensures) _ _ (entry .pre .1) refl (entry .pre .2) _ _ (c .before .before .if1 .left) (omega (arith, c .before .if2 .taken)) (c .too-large .ensures)
 
 mul-store16 : tie.Need-mul-store16
 mul-store16 c = search needs
@@ -44,7 +50,12 @@ same-length : tie.Need-same-length
 same-length c = search needs
 
 returns-3 : tie.Need-returns-3
-returns-3 c = leaf-ok _ _ _ (c .before .before .before .before .before .before .before .before .before .before .before .before .before .before .before .pre .0) _ _ (c .before .before .before .before .before .before .before .before .before .before .before .number-at .ensures) _ _ (c .before .before .before .before .before .before .before .before .before .before .before .before .before .before .before .pre .1) refl (c .before .before .before .before .before .before .before .before .before .before .before .before .before .before .before .pre .2) _ _ _ (c .before .before .before .before .before .before .before .before .before .before .if1 .left) (omega (arith, c .before .before .before .before .before .before .before .before .before .if2 .left)) (c .before .before .before .before .before .before .store16 .ensures) (c .before .before .complete .ensures .1) (c .before .before .complete .ensures .0)
+returns-3 c =
+    let done = c .before .before in
+    let store = done .before .before .before .before in
+    let number = store .before .before .before .before .before in
+    let entry = number .before .before .before .before in
+    leaf-ok _ _ _ (entry .pre .0) _ _ (number .number-at .ensures) _ _ (entry .pre .1) refl (entry .pre .2) _ _ _ (store .before .before .before .before .if1 .left) (omega (arith, store .before .before .before .if2 .left)) (store .store16 .ensures) (done .complete .ensures .1) (done .complete .ensures .0)
 
 pub leaf-spec : {M : Type 1} → statement M
 leaf-spec =

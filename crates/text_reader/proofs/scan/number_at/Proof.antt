@@ -31,7 +31,9 @@ is-digit-requires : tie.Need-is-digit-requires Inv-loop μ-loop
 is-digit-requires c κs = search needs
 
 returns : tie.Need-returns Inv-loop μ-loop
-returns c = record { passed = c .before .before .before .before .before .loop .inv; last = no-digit _ _ _ (c .before .before .before .before .loop-test .taken) (c .before .before .wide .ensures .0) (sym (c .before .is-digit .ensures) ∙ not-true _ (c .if1 .taken)) }
+returns c =
+    let turn = c .before .before .before .before .before in
+    record { passed = turn .loop .inv; last = no-digit _ _ _ (c .before .before .before .before .loop-test .taken) (c .before .before .wide .ensures .0) (sym (c .before .is-digit .ensures) ∙ not-true _ (c .if1 .taken)) }
 
 digit-more-requires : tie.Need-digit-more-requires Inv-loop μ-loop
 digit-more-requires c κs = (digit-is _ (sym (c .before .is-digit .ensures) ∙ not-false _ (c .if1 .left)) .0, c .before .before .wide .ensures .1)
@@ -43,7 +45,9 @@ loop-less : tie.Need-loop-less Inv-loop μ-loop
 loop-less c = omega (arith, c .before .before .before .before .before .loop-test .taken)
 
 loop-again : tie.Need-loop-again Inv-loop μ-loop
-loop-again c = passed-next _ _ _ _ _ _ (c .before .before .before .before .before .before .loop .inv) (c .before .before .before .before .before .loop-test .taken) (c .before .before .before .wide .ensures .0) (sym (c .before .before .is-digit .ensures) ∙ not-false _ (c .before .if1 .left)) (c .digit-more .ensures)
+loop-again c =
+    let turn = c .before .before .before .before .before .before in
+    passed-next _ _ _ _ _ _ (turn .loop .inv) (c .before .before .before .before .before .loop-test .taken) (c .before .before .before .wide .ensures .0) (sym (c .before .before .is-digit .ensures) ∙ not-false _ (c .before .if1 .left)) (c .digit-more .ensures)
 
 returns-2 : tie.Need-returns-2 Inv-loop μ-loop
 returns-2 c = record { passed = c .before .loop .inv; last = no-more _ _ (c .loop-test .left) }

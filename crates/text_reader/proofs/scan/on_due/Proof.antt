@@ -21,7 +21,10 @@ shared-slice-read-b : tie.Need-shared-slice-read-b
 shared-slice-read-b c = search needs
 
 label-requires : tie.Need-label-requires
-label-requires c κs = ((ready-past _ _ _ _ _ (c .before .before .before .before .before .before .before .before .before .before .pre .0) (c .before .before .before .before .before .before .past-openings .ensures .moved) (c .before .before .before .before .before .before .past-openings .kept .1 .0) (c .before .before .before .if1 .left)), (c .before .before .before .before .before .before .past-openings .ensures .moved .same ∙ c .before .before .before .before .before .before .before .before .before .before .pre .1), c .before .if2 .taken)
+label-requires c κs =
+    let run = c .before .before .before .before .before .before in
+    let entry = run .before .before .before .before in
+    ((ready-past _ _ _ _ _ (entry .pre .0) (run .past-openings .ensures .moved) (run .past-openings .kept .1 .0) (c .before .before .before .if1 .left)), (run .past-openings .ensures .moved .same ∙ entry .pre .1), c .before .if2 .taken)
 
 same-length-2 : tie.Need-same-length-2
 same-length-2 c = search needs
@@ -33,7 +36,10 @@ leaf-tag-requires : tie.Need-leaf-tag-requires
 leaf-tag-requires c κs = search needs
 
 leaf-requires : tie.Need-leaf-requires
-leaf-requires c κs = ((ready-past _ _ _ _ _ (c .before .before .before .before .before .before .before .before .before .before .before .before .pre .0) (c .before .before .before .before .before .before .before .before .past-openings .ensures .moved) (c .before .before .before .before .before .before .before .before .past-openings .kept .1 .0) (c .before .before .before .before .before .if1 .left)), (c .before .before .before .before .before .before .before .before .past-openings .ensures .moved .same ∙ c .before .before .before .before .before .before .before .before .before .before .before .before .pre .1), c .before .before .leaf-tag .ensures .0 (c .before .if3 .taken))
+leaf-requires c κs =
+    let run = c .before .before .before .before .before .before .before .before in
+    let entry = run .before .before .before .before in
+    ((ready-past _ _ _ _ _ (entry .pre .0) (run .past-openings .ensures .moved) (run .past-openings .kept .1 .0) (c .before .before .before .before .before .if1 .left)), (run .past-openings .ensures .moved .same ∙ entry .pre .1), c .before .before .leaf-tag .ensures .0 (c .before .if3 .taken))
 
 same-length-3 : tie.Need-same-length-3
 same-length-3 c = search needs
@@ -42,7 +48,10 @@ returns-3 : tie.Need-returns-3
 returns-3 c = after-from _ _ _ _ _ (c .before .before .leaf .ensures) (c .before .before .before .before .before .before .before .before .before .before .before .past-openings .ensures .moved .rises)
 
 pair-requires : tie.Need-pair-requires
-pair-requires c κs = ((ready-past _ _ _ _ _ (c .before .before .before .before .before .before .before .before .before .before .before .before .before .pre .0) (c .before .before .before .before .before .before .before .before .before .past-openings .ensures .moved) (c .before .before .before .before .before .before .before .before .before .past-openings .kept .1 .0) (c .before .before .before .before .before .before .if1 .left)), (c .before .before .before .before .before .before .before .before .before .past-openings .ensures .moved .same ∙ c .before .before .before .before .before .before .before .before .before .before .before .before .before .pre .1), subst (λ (b : ℕ). PairBytes b 100 17) (sym (c .before .if4 .taken)) identity)
+pair-requires c κs =
+    let run = c .before .before .before .before .before .before .before .before .before in
+    let entry = run .before .before .before .before in
+    ((ready-past _ _ _ _ _ (entry .pre .0) (run .past-openings .ensures .moved) (run .past-openings .kept .1 .0) (c .before .before .before .before .before .before .if1 .left)), (run .past-openings .ensures .moved .same ∙ entry .pre .1), subst (λ (b : ℕ). PairBytes b 100 17) (sym (c .before .if4 .taken)) identity)
 
 same-length-4 : tie.Need-same-length-4
 same-length-4 c = search needs
@@ -51,7 +60,10 @@ returns-4 : tie.Need-returns-4
 returns-4 c = after-from _ _ _ _ _ (c .before .before .pair .ensures) (c .before .before .before .before .before .before .before .before .before .before .before .before .past-openings .ensures .moved .rises)
 
 pair-requires-2 : tie.Need-pair-requires-2
-pair-requires-2 c κs = ((ready-past _ _ _ _ _ (c .before .before .before .before .before .before .before .before .before .before .before .before .before .before .pre .0) (c .before .before .before .before .before .before .before .before .before .before .past-openings .ensures .moved) (c .before .before .before .before .before .before .before .before .before .before .past-openings .kept .1 .0) (c .before .before .before .before .before .before .before .if1 .left)), (c .before .before .before .before .before .before .before .before .before .before .past-openings .ensures .moved .same ∙ c .before .before .before .before .before .before .before .before .before .before .before .before .before .before .pre .1), subst (λ (b : ℕ). PairBytes b 62 21) (sym (c .before .if5 .taken)) nothing)
+pair-requires-2 c κs =
+    let run = c .before .before .before .before .before .before .before .before .before .before in
+    let entry = run .before .before .before .before in
+    ((ready-past _ _ _ _ _ (entry .pre .0) (run .past-openings .ensures .moved) (run .past-openings .kept .1 .0) (c .before .before .before .before .before .before .before .if1 .left)), (run .past-openings .ensures .moved .same ∙ entry .pre .1), subst (λ (b : ℕ). PairBytes b 62 21) (sym (c .before .if5 .taken)) nothing)
 
 same-length-5 : tie.Need-same-length-5
 same-length-5 c = search needs
@@ -66,7 +78,10 @@ same-length-6 : tie.Need-same-length-6
 same-length-6 c = search needs
 
 returns-6 : tie.Need-returns-6
-returns-6 c = after-from _ _ _ _ _ (due-refused _ _ _ (ready-past _ _ _ _ _ (c .before .before .before .before .before .before .before .before .before .before .before .before .before .before .pre .0) (c .before .before .before .before .before .before .before .before .before .before .past-openings .ensures .moved) (c .before .before .before .before .before .before .before .before .before .before .past-openings .kept .1 .0) (c .before .before .before .before .before .before .before .if1 .left)) _ _ _ (c .before .before .before .before .before .before .before .before .before .before .past-openings .ensures .moved .same ∙ c .before .before .before .before .before .before .before .before .before .before .before .before .before .before .pre .1) refl (c .before .before .before .before .before .before .before .before .before .before .past-openings .ensures .no-blank (c .before .before .before .before .before .before .before .if1 .left)) (c .before .before .before .before .before .before .before .before .before .before .past-openings .ensures .no-bracket (c .before .before .before .before .before .before .before .if1 .left)) (c .before .before .before .before .before .if2 .left) (c .before .before .before .before .leaf-tag .ensures .1 (c .before .before .before .if3 .left)) (c .before .before .if4 .left) (c .before .if5 .left) (c .refused .ensures)) (c .before .before .before .before .before .before .before .before .before .before .past-openings .ensures .moved .rises)
+returns-6 c =
+    let run = c .before .before .before .before .before .before .before .before .before .before in
+    let entry = run .before .before .before .before in
+    after-from _ _ _ _ _ (due-refused _ _ _ (ready-past _ _ _ _ _ (entry .pre .0) (run .past-openings .ensures .moved) (run .past-openings .kept .1 .0) (c .before .before .before .before .before .before .before .if1 .left)) _ _ _ (run .past-openings .ensures .moved .same ∙ entry .pre .1) refl (run .past-openings .ensures .no-blank (c .before .before .before .before .before .before .before .if1 .left)) (run .past-openings .ensures .no-bracket (c .before .before .before .before .before .before .before .if1 .left)) (c .before .before .before .before .before .if2 .left) (c .before .before .before .before .leaf-tag .ensures .1 (c .before .before .before .if3 .left)) (c .before .before .if4 .left) (c .before .if5 .left) (c .refused .ensures)) (run .past-openings .ensures .moved .rises)
 
 pub on-due-spec : {M : Type 1} → statement M
 on-due-spec =

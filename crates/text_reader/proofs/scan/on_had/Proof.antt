@@ -31,7 +31,11 @@ same-length-2 : tie.Need-same-length-2
 same-length-2 c = search needs
 
 returns-2 : tie.Need-returns-2
-returns-2 c = after-from _ _ _ _ _ (sign-ok _ _ _ (ready-past _ _ _ _ _ (c .before .before .before .before .before .before .before .before .before .before .before .before .before .before .pre .0) (c .before .before .before .before .before .before .before .before .before .before .past-closings .ensures .moved) (c .before .before .before .before .before .before .before .before .before .before .past-closings .kept .1 .0) (c .before .before .before .before .before .before .before .if1 .left)) _ _ _ _ (c .before .before .before .before .before .before .before .before .before .before .past-closings .ensures .moved .same ∙ c .before .before .before .before .before .before .before .before .before .before .before .before .before .before .pre .1) refl (c .before .before .before .before .before .sign-tag .ensures .0 (c .before .before .before .before .if2 .taken)) (c .before .before .complete .ensures .1) (c .before .before .complete .ensures .0)) (c .before .before .before .before .before .before .before .before .before .before .past-closings .ensures .moved .rises)
+returns-2 c =
+    let done = c .before .before in
+    let run = done .before .before .before .before .before .before .before .before in
+    let entry = run .before .before .before .before in
+    after-from _ _ _ _ _ (sign-ok _ _ _ (ready-past _ _ _ _ _ (entry .pre .0) (run .past-closings .ensures .moved) (run .past-closings .kept .1 .0) (done .before .before .before .before .before .if1 .left)) _ _ _ _ (run .past-closings .ensures .moved .same ∙ entry .pre .1) refl (done .before .before .before .sign-tag .ensures .0 (done .before .before .if2 .taken)) (done .complete .ensures .1) (done .complete .ensures .0)) (run .past-closings .ensures .moved .rises)
 
 refused-requires : tie.Need-refused-requires
 refused-requires c κs = search needs
@@ -40,7 +44,10 @@ same-length-3 : tie.Need-same-length-3
 same-length-3 c = search needs
 
 returns-3 : tie.Need-returns-3
-returns-3 c = after-from _ _ _ _ _ (had-refused _ _ _ (ready-past _ _ _ _ _ (c .before .before .before .before .before .before .before .before .before .before .before .pre .0) (c .before .before .before .before .before .before .before .past-closings .ensures .moved) (c .before .before .before .before .before .before .before .past-closings .kept .1 .0) (c .before .before .before .before .if1 .left)) _ _ _ (c .before .before .before .before .before .before .before .past-closings .ensures .moved .same ∙ c .before .before .before .before .before .before .before .before .before .before .before .pre .1) refl (c .before .before .before .before .before .before .before .past-closings .ensures .no-blank (c .before .before .before .before .if1 .left)) (c .before .before .sign-tag .ensures .1 (c .before .if2 .left)) (c .before .before .before .before .before .before .before .past-closings .ensures .no-bracket (c .before .before .before .before .if1 .left)) (c .refused .ensures)) (c .before .before .before .before .before .before .before .past-closings .ensures .moved .rises)
+returns-3 c =
+    let run = c .before .before .before .before .before .before .before in
+    let entry = run .before .before .before .before in
+    after-from _ _ _ _ _ (had-refused _ _ _ (ready-past _ _ _ _ _ (entry .pre .0) (run .past-closings .ensures .moved) (run .past-closings .kept .1 .0) (c .before .before .before .before .if1 .left)) _ _ _ (run .past-closings .ensures .moved .same ∙ entry .pre .1) refl (run .past-closings .ensures .no-blank (c .before .before .before .before .if1 .left)) (c .before .before .sign-tag .ensures .1 (c .before .if2 .left)) (run .past-closings .ensures .no-bracket (c .before .before .before .before .if1 .left)) (c .refused .ensures)) (run .past-closings .ensures .moved .rises)
 
 pub on-had-spec : {M : Type 1} → statement M
 on-had-spec =

@@ -13,7 +13,9 @@ wrong-second-requires : tie.Need-wrong-second-requires
 wrong-second-requires c κs = search needs
 
 returns : tie.Need-returns
-returns c = pair-short _ _ _ (c .before .before .before .before .before .pre .0) _ _ _ (c .before .before .before .before .before .pre .1) refl (c .before .before .before .before .before .pre .2) _ _ (c .before .if1 .taken) (c .wrong-second .ensures)
+returns c =
+    let entry = c .before .before .before .before .before in
+    pair-short _ _ _ (entry .pre .0) _ _ _ (entry .pre .1) refl (entry .pre .2) _ _ (c .before .if1 .taken) (c .wrong-second .ensures)
 
 shared-slice-read-if2 : tie.Need-shared-slice-read-if2
 shared-slice-read-if2 c = search needs
@@ -22,7 +24,9 @@ wrong-second-requires-2 : tie.Need-wrong-second-requires-2
 wrong-second-requires-2 c κs = search needs
 
 returns-2 : tie.Need-returns-2
-returns-2 c = pair-refused _ _ _ (c .before .before .before .before .before .before .before .pre .0) _ _ _ (c .before .before .before .before .before .before .before .pre .1) refl (c .before .before .before .before .before .before .before .pre .2) _ _ (c .before .before .before .if1 .left) (c .before .if2 .taken) (c .wrong-second2 .ensures)
+returns-2 c =
+    let entry = c .before .before .before .before .before .before .before in
+    pair-refused _ _ _ (entry .pre .0) _ _ _ (entry .pre .1) refl (entry .pre .2) _ _ (c .before .before .before .if1 .left) (c .before .if2 .taken) (c .wrong-second2 .ensures)
 
 add-complete : tie.Need-add-complete
 add-complete c = search needs
@@ -34,7 +38,10 @@ same-length : tie.Need-same-length
 same-length c = search needs
 
 returns-3 : tie.Need-returns-3
-returns-3 c = pair-ok _ _ _ (c .before .before .before .before .before .before .before .before .before .before .pre .0) _ _ _ (c .before .before .before .before .before .before .before .before .before .before .pre .1) refl (c .before .before .before .before .before .before .before .before .before .before .pre .2) _ _ (c .before .before .before .before .before .before .if1 .left) (c .before .before .before .before .if2 .left) (c .before .before .complete .ensures .1) (c .before .before .complete .ensures .0)
+returns-3 c =
+    let done = c .before .before in
+    let entry = done .before .before .before .before .before .before .before .before in
+    pair-ok _ _ _ (entry .pre .0) _ _ _ (entry .pre .1) refl (entry .pre .2) _ _ (done .before .before .before .before .if1 .left) (done .before .before .if2 .left) (done .complete .ensures .1) (done .complete .ensures .0)
 
 pub pair-spec : {M : Type 1} → statement M
 pair-spec =

@@ -29,28 +29,46 @@ same-length : tie.Need-same-length Inv-loop μ-loop
 same-length c = (c .before .before .before .before .before .loop .inv .2)
 
 returns : tie.Need-returns Inv-loop μ-loop
-returns c = closed-other _ _ (c .before .before .before .before .before .before .before .before .args .here) _ _ _ _ (c .moved .ensures) (c .before .before .before .before .before .loop .inv .0) (c .before .before .before .before .before .loop .inv .1) (not-both _ 41 32 (c .before .before .if1 .taken) (λ e. omega arith)) (λ e. omega (arith, c .before .if2 .taken))
+returns c =
+    let turn = c .before .before .before .before .before in
+    let entry = turn .before .before .before in
+    closed-other _ _ (entry .args .here) _ _ _ _ (c .moved .ensures) (turn .loop .inv .0) (turn .loop .inv .1) (not-both _ 41 32 (c .before .before .if1 .taken) (λ e. omega arith)) (λ e. omega (arith, c .before .if2 .taken))
 
 mul-entry : tie.Need-mul-entry Inv-loop μ-loop
-mul-entry c = omega (arith, c .before .before .before .before .loop .inv .0 .listed .counted, (c .before .before .before .before .loop .inv .2), c .before .before .before .before .before .before .before .pre .0 .room, (c .before .before .before .loop-test .taken), c .before .before .before .before .loop .inv .0 .deep, c .before .before .before .before .before .before .before .pre .0 .short)
+mul-entry c =
+    let turn = c .before .before .before .before in
+    let entry = turn .before .before .before in
+    omega (arith, turn .loop .inv .0 .listed .counted, (turn .loop .inv .2), entry .pre .0 .room, (c .before .before .before .loop-test .taken), turn .loop .inv .0 .deep, entry .pre .0 .short)
 
 slice-write-work : tie.Need-slice-write-work Inv-loop μ-loop
-slice-write-work c = omega (arith, c .before .before .before .before .loop .inv .0 .listed .counted, (c .before .before .before .before .loop .inv .2), c .before .before .before .before .before .before .before .pre .0 .room, (c .before .before .before .loop-test .taken), c .before .before .before .before .loop .inv .0 .deep, c .before .before .before .before .before .before .before .pre .0 .short)
+slice-write-work c =
+    let turn = c .before .before .before .before in
+    let entry = turn .before .before .before in
+    omega (arith, turn .loop .inv .0 .listed .counted, (turn .loop .inv .2), entry .pre .0 .room, (c .before .before .before .loop-test .taken), turn .loop .inv .0 .deep, entry .pre .0 .short)
 
 sub-depth : tie.Need-sub-depth Inv-loop μ-loop
 sub-depth c = search needs
 
 add-count : tie.Need-add-count Inv-loop μ-loop
-add-count c = omega (arith, c .before .before .before .before .loop .inv .0 .listed .counted, (c .before .before .before .before .loop .inv .2), c .before .before .before .before .before .before .before .pre .0 .room, (c .before .before .before .loop-test .taken), c .before .before .before .before .loop .inv .0 .deep, c .before .before .before .before .before .before .before .pre .0 .short)
+add-count c =
+    let turn = c .before .before .before .before in
+    let entry = turn .before .before .before in
+    omega (arith, turn .loop .inv .0 .listed .counted, (turn .loop .inv .2), entry .pre .0 .room, (c .before .before .before .loop-test .taken), turn .loop .inv .0 .deep, entry .pre .0 .short)
 
 add-at : tie.Need-add-at Inv-loop μ-loop
-add-at c = omega (arith, c .before .before .before .before .loop .inv .0 .listed .counted, (c .before .before .before .before .loop .inv .2), c .before .before .before .before .before .before .before .pre .0 .room, (c .before .before .before .loop-test .taken), c .before .before .before .before .loop .inv .0 .deep, c .before .before .before .before .before .before .before .pre .0 .short)
+add-at c =
+    let turn = c .before .before .before .before in
+    let entry = turn .before .before .before in
+    omega (arith, turn .loop .inv .0 .listed .counted, (turn .loop .inv .2), entry .pre .0 .room, (c .before .before .before .loop-test .taken), turn .loop .inv .0 .deep, entry .pre .0 .short)
 
 loop-less : tie.Need-loop-less Inv-loop μ-loop
 loop-less c = omega (arith, (c .before .before .before .loop-test .taken))
 
 loop-again : tie.Need-loop-again Inv-loop μ-loop
-loop-again c = (closing-stands-here _ _ (c .before .before .before .before .before .before .before .args .here) _ _ _ (c .before .before .before .before .loop .inv .0) (c .before .before .before .loop-test .taken) (c .before .before .before .before .before .before .before .pre .1) (c .before .if1 .taken) (λ e. omega (arith, c .if2 .left)) (omega (arith, c .before .before .before .before .loop .inv .0 .listed .counted, (c .before .before .before .before .loop .inv .2), c .before .before .before .before .before .before .before .pre .0 .room, (c .before .before .before .loop-test .taken), c .before .before .before .before .loop .inv .0 .deep, c .before .before .before .before .before .before .before .pre .0 .short)), omega (arith, (c .before .before .before .before .loop .inv .1)), simp length-set (c .before .before .before .before .loop .inv .2))
+loop-again c =
+    let turn = c .before .before .before .before in
+    let entry = turn .before .before .before in
+    (closing-stands-here _ _ (entry .args .here) _ _ _ (turn .loop .inv .0) (c .before .before .before .loop-test .taken) (entry .pre .1) (c .before .if1 .taken) (λ e. omega (arith, c .if2 .left)) (omega (arith, turn .loop .inv .0 .listed .counted, (turn .loop .inv .2), entry .pre .0 .room, (c .before .before .before .loop-test .taken), turn .loop .inv .0 .deep, entry .pre .0 .short)), omega (arith, (turn .loop .inv .1)), simp length-set (turn .loop .inv .2))
 
 moved-requires-2 : tie.Need-moved-requires-2 Inv-loop μ-loop
 moved-requires-2 c κs = search needs
@@ -59,10 +77,16 @@ same-length-2 : tie.Need-same-length-2 Inv-loop μ-loop
 same-length-2 c = (c .before .before .before .before .before .loop .inv .2)
 
 returns-2 : tie.Need-returns-2 Inv-loop μ-loop
-returns-2 c = closed-other _ _ (c .before .before .before .before .before .before .before .before .args .here) _ _ _ _ (c .moved2 .ensures) (c .before .before .before .before .before .loop .inv .0) (c .before .before .before .before .before .loop .inv .1) (c .before .if3 .taken) (λ e. absurd (c .before .before .if1 .left e))
+returns-2 c =
+    let turn = c .before .before .before .before .before in
+    let entry = turn .before .before .before in
+    closed-other _ _ (entry .args .here) _ _ _ _ (c .moved2 .ensures) (turn .loop .inv .0) (turn .loop .inv .1) (c .before .if3 .taken) (λ e. absurd (c .before .before .if1 .left e))
 
 add-past-blanks : tie.Need-add-past-blanks Inv-loop μ-loop
-add-past-blanks c = omega (arith, c .before .before .before .before .loop .inv .0 .listed .counted, (c .before .before .before .before .loop .inv .2), c .before .before .before .before .before .before .before .pre .0 .room, (c .before .before .before .loop-test .taken), c .before .before .before .before .loop .inv .0 .deep, c .before .before .before .before .before .before .before .pre .0 .short)
+add-past-blanks c =
+    let turn = c .before .before .before .before in
+    let entry = turn .before .before .before in
+    omega (arith, turn .loop .inv .0 .listed .counted, (turn .loop .inv .2), entry .pre .0 .room, (c .before .before .before .loop-test .taken), turn .loop .inv .0 .deep, entry .pre .0 .short)
 
 past-blanks-requires : tie.Need-past-blanks-requires Inv-loop μ-loop
 past-blanks-requires c κs = omega (arith, (c .before .before .before .loop-test .taken))
@@ -71,7 +95,10 @@ loop-less-2 : tie.Need-loop-less-2 Inv-loop μ-loop
 loop-less-2 c = omega (arith, (c .before .before .before .before .loop-test .taken), c .past-blanks .ensures .rises)
 
 loop-again-2 : tie.Need-loop-again-2 Inv-loop μ-loop
-loop-again-2 c = (blank-stands _ _ (c .before .before .before .before .before .before .before .before .args .here) _ _ _ (c .before .before .before .before .before .loop .inv .0) (c .before .before .before .before .loop-test .taken) _ (c .before .if3 .left) (c .past-blanks .ensures), omega (arith, (c .before .before .before .before .before .loop .inv .1), c .past-blanks .ensures .rises), (c .before .before .before .before .before .loop .inv .2))
+loop-again-2 c =
+    let turn = c .before .before .before .before .before in
+    let entry = turn .before .before .before in
+    (blank-stands _ _ (entry .args .here) _ _ _ (turn .loop .inv .0) (c .before .before .before .before .loop-test .taken) _ (c .before .if3 .left) (c .past-blanks .ensures), omega (arith, (turn .loop .inv .1), c .past-blanks .ensures .rises), (turn .loop .inv .2))
 
 moved-requires-3 : tie.Need-moved-requires-3 Inv-loop μ-loop
 moved-requires-3 c κs = search needs

@@ -19,7 +19,10 @@ loop-holds : tie.Need-loop-holds Inv-loop μ-loop
 loop-holds c = (starts _ _, refl)
 
 pass-requires : tie.Need-pass-requires Inv-loop μ-loop
-pass-requires c κs = record { standing = c .before .before .before .loop .inv .0; more = c .before .if1 .taken; short = c .before .before .before .before .before .before .pre .0; room = omega (arith, c .before .before .before .before .before .before .pre .1, c .before .before .before .loop .inv .1) }
+pass-requires c κs =
+    let turn = c .before .before .before in
+    let entry = turn .before .before .before in
+    record { standing = turn .loop .inv .0; more = c .before .if1 .taken; short = entry .pre .0; room = omega (arith, entry .pre .1, turn .loop .inv .1) }
 
 same-length : tie.Need-same-length Inv-loop μ-loop
 same-length c = c .before .before .before .before .pass .kept .1 .0 ∙ c .before .before .before .before .before .before .before .before .loop .inv .1
@@ -28,10 +31,15 @@ returns : tie.Need-returns Inv-loop μ-loop
 returns c = (refused-shape _ _ _ _ (c .before .before .before .before .pass .ensures .refuses (c .if2 .taken)), λ count size e. absurd (not-read _ _ _ _ e))
 
 loop-less : tie.Need-loop-less Inv-loop μ-loop
-loop-less c = omega (arith, c .before .before .before .before .pass .ensures .further (c .if2 .left), c .before .before .before .before .pass .ensures .goes (c .if2 .left) .placed, c .before .before .before .before .before .before .if1 .taken)
+loop-less c =
+    let step = c .before .before .before .before in
+    omega (arith, step .pass .ensures .further (c .if2 .left), step .pass .ensures .goes (c .if2 .left) .placed, step .before .before .if1 .taken)
 
 loop-again : tie.Need-loop-again Inv-loop μ-loop
-loop-again c = (c .before .before .before .before .pass .ensures .goes (c .if2 .left), c .before .before .before .before .pass .kept .1 .0 ∙ c .before .before .before .before .before .before .before .before .loop .inv .1)
+loop-again c =
+    let step = c .before .before .before .before in
+    let turn = step .before .before .before .before in
+    (step .pass .ensures .goes (c .if2 .left), step .pass .kept .1 .0 ∙ turn .loop .inv .1)
 
 same-length-2 : tie.Need-same-length-2 Inv-loop μ-loop
 same-length-2 c = c .before .before .before .loop .inv .1
@@ -43,13 +51,17 @@ same-length-3 : tie.Need-same-length-3 Inv-loop μ-loop
 same-length-3 c = c .before .before .before .before .before .loop .inv .1
 
 returns-3 : tie.Need-returns-3 Inv-loop μ-loop
-returns-3 c = (end-open _ _ _ (c .before .before .before .before .before .loop .inv .0) (c .before .before .before .if1 .left) _ (c .before .before .if3 .left) (λ e. omega (arith, c .if4 .taken)), λ count size e. absurd (not-read _ _ _ _ e))
+returns-3 c =
+    let turn = c .before .before .before .before .before in
+    (end-open _ _ _ (turn .loop .inv .0) (c .before .before .before .if1 .left) _ (c .before .before .if3 .left) (λ e. omega (arith, c .if4 .taken)), λ count size e. absurd (not-read _ _ _ _ e))
 
 same-length-4 : tie.Need-same-length-4 Inv-loop μ-loop
 same-length-4 c = c .before .before .before .before .before .loop .inv .1
 
 returns-4 : tie.Need-returns-4 Inv-loop μ-loop
-returns-4 c = (end-read _ _ _ (c .before .before .before .before .before .loop .inv .0) (c .before .before .before .if1 .left) (c .before .before .if3 .left) (omega (arith, c .if4 .left)), λ count size e. end-list _ _ _ (c .before .before .before .before .before .loop .inv .0) (c .before .before .before .if1 .left) _ count size e)
+returns-4 c =
+    let turn = c .before .before .before .before .before in
+    (end-read _ _ _ (turn .loop .inv .0) (c .before .before .before .if1 .left) (c .before .before .if3 .left) (omega (arith, c .if4 .left)), λ count size e. end-list _ _ _ (turn .loop .inv .0) (c .before .before .before .if1 .left) _ count size e)
 
 pub scan-text-spec : {M : Type 1} → statement M
 scan-text-spec =
