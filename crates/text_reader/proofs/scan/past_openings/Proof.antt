@@ -23,43 +23,28 @@ shared-slice-read-b : tie.Need-shared-slice-read-b Inv-loop μ-loop
 shared-slice-read-b c = search needs
 
 mul-entry : tie.Need-mul-entry Inv-loop μ-loop
-mul-entry c =
-    let turn = c .before .before .before in
-    let entry = turn .before .before .before in
-    omega (arith, turn .loop .inv .0 .listed .counted, (turn .loop .inv .2), entry .pre .0 .room, (c .before .before .loop-test .taken), turn .loop .inv .0 .deep, entry .pre .0 .short)
+mul-entry c = omega arith
 
 slice-write-work : tie.Need-slice-write-work Inv-loop μ-loop
-slice-write-work c =
-    let turn = c .before .before .before in
-    let entry = turn .before .before .before in
-    omega (arith, turn .loop .inv .0 .listed .counted, (turn .loop .inv .2), entry .pre .0 .room, (c .before .before .loop-test .taken), turn .loop .inv .0 .deep, entry .pre .0 .short)
+slice-write-work c = omega arith
 
 add-depth : tie.Need-add-depth Inv-loop μ-loop
-add-depth c =
-    let turn = c .before .before .before in
-    let entry = turn .before .before .before in
-    omega (arith, turn .loop .inv .0 .listed .counted, (turn .loop .inv .2), entry .pre .0 .room, (c .before .before .loop-test .taken), turn .loop .inv .0 .deep, entry .pre .0 .short)
+add-depth c = omega arith
 
 add-count : tie.Need-add-count Inv-loop μ-loop
-add-count c =
-    let turn = c .before .before .before in
-    let entry = turn .before .before .before in
-    omega (arith, turn .loop .inv .0 .listed .counted, (turn .loop .inv .2), entry .pre .0 .room, (c .before .before .loop-test .taken), turn .loop .inv .0 .deep, entry .pre .0 .short)
+add-count c = omega arith
 
 add-at : tie.Need-add-at Inv-loop μ-loop
-add-at c =
-    let turn = c .before .before .before in
-    let entry = turn .before .before .before in
-    omega (arith, turn .loop .inv .0 .listed .counted, (turn .loop .inv .2), entry .pre .0 .room, (c .before .before .loop-test .taken), turn .loop .inv .0 .deep, entry .pre .0 .short)
+add-at c = omega arith
 
 loop-less : tie.Need-loop-less Inv-loop μ-loop
-loop-less c = omega (arith, (c .before .before .loop-test .taken))
+loop-less c = omega arith
 
 loop-again : tie.Need-loop-again Inv-loop μ-loop
 loop-again c =
     let turn = c .before .before .before in
     let entry = turn .before .before .before in
-    (opening-stands-here _ _ (entry .args .here) _ _ _ (turn .loop .inv .0) (c .before .before .loop-test .taken) (entry .pre .1) (c .if1 .taken) (omega (arith, turn .loop .inv .0 .listed .counted, (turn .loop .inv .2), entry .pre .0 .room, (c .before .before .loop-test .taken), turn .loop .inv .0 .deep, entry .pre .0 .short)), omega (arith, (turn .loop .inv .1)), simp length-set (turn .loop .inv .2))
+    (opening-stands-here _ _ (entry .args .here) _ _ _ (turn .loop .inv .0) (c .before .before .loop-test .taken) (entry .pre .1) (c .if1 .taken) (omega arith), omega (arith, turn .loop .inv .1), simp length-set (turn .loop .inv .2))
 
 moved-requires : tie.Need-moved-requires Inv-loop μ-loop
 moved-requires c κs = search needs
@@ -74,16 +59,13 @@ returns c =
     opened-other _ _ (entry .args .here) _ _ _ _ (c .moved .ensures) (turn .loop .inv .0) (turn .loop .inv .1) (c .before .if2 .taken) (c .before .before .if1 .left)
 
 add-past-blanks : tie.Need-add-past-blanks Inv-loop μ-loop
-add-past-blanks c =
-    let turn = c .before .before .before .before in
-    let entry = turn .before .before .before in
-    omega (arith, turn .loop .inv .0 .listed .counted, (turn .loop .inv .2), entry .pre .0 .room, (c .before .before .before .loop-test .taken), turn .loop .inv .0 .deep, entry .pre .0 .short)
+add-past-blanks c = omega arith
 
 past-blanks-requires : tie.Need-past-blanks-requires Inv-loop μ-loop
-past-blanks-requires c κs = omega (arith, (c .before .before .before .loop-test .taken))
+past-blanks-requires c κs = omega arith
 
 loop-less-2 : tie.Need-loop-less-2 Inv-loop μ-loop
-loop-less-2 c = omega (arith, (c .before .before .before .before .loop-test .taken), c .past-blanks .ensures .rises)
+loop-less-2 c = omega arith
 
 loop-again-2 : tie.Need-loop-again-2 Inv-loop μ-loop
 loop-again-2 c =
