@@ -2,19 +2,18 @@
 -- Assumes nothing.
 use mathlib.Core.Path.{_≡_, refl, sym, ap, _∙_, subst}
 use mathlib.Core.List.{List, [], _∷_}
-use Prim.Native.Nat.{ℕ, zero, suc, _+_, _*_, _-_, _≤_, _<_}
+use Prim.Native.Nat.{ℕ, suc, _+_, _*_, _-_, _≤_, _<_}
 use native.Mathlib.Decide.{decLt}
-use native.Mathlib.Numerals.{add-one}
 use native.Mathlib.Omega.{arith}
 use lib.ListN.{length, getD, set, drop, length-drop}
-use lib.Seq.{drop-cons, drop-drop, getD-drop, getD-set-same, getD-set-other}
+use lib.Seq.{drop-drop, getD-drop, getD-set-same, getD-set-other}
 use Rattle.words.specs.Word.{word, putWord}
 use Rattle.words.specs.Kept.{Kept}
-use Rattle.words.proofs.KeptLaws.{kept-put, kept-both, word-below, word-above}
+use Rattle.words.proofs.KeptLaws.{kept-put, kept-both, word-below}
 use Rattle.words.proofs.WordLaws.{length-putWord, word-same}
 use Rattle.notation.specs.Marks.{semicolon, bar, star, ruleLeaf, idLeaf, emptyLeaf, goalLeaf, tacticLeaf, Mark, leaf, labelMark, sign, opening, closing}
 use Rattle.notation.specs.MarksIn.{marksIn}
-use Rattle.text_reader.specs.MarkList.{MarkStands, MarksStand}
+use Rattle.text_reader.specs.MarkList.{MarkStands}
 use Rattle.text_reader.specs.Places.{Listed}
 
 -- a mark that stands before the places of a write

@@ -1,12 +1,12 @@
 -- What the scan and the list of marks come to at the first byte of a mark, for each kind of mark.
 -- Assumes nothing.
-use mathlib.Core.Path.{_≡_, refl, sym, ap, _∙_}
+use mathlib.Core.Path.{_≡_, refl}
 use mathlib.Core.Bool.{Bool, true, false, cond}
 use mathlib.Core.List.{List, [], _∷_}
-use Prim.Native.Nat.{ℕ, _+_, _*_, _-_, _≤_, _<_}
+use Prim.Native.Nat.{ℕ, _+_, _-_}
 use lib.Dec.{leb, ltb, eqb}
 use lib.ListN.{getD}
-use borrow.Author.Tests.{eq-eqb, ne-eqb}
+use borrow.Author.Tests.{eq-eqb, ne-eqb, eqb-true}
 use Rattle.format.specs.Limits.{mostTermFields}
 use Rattle.format.specs.Refusals.{limitPassed, textWrong}
 use Rattle.format.specs.Results.{gives, refused, andThen}
@@ -161,10 +161,6 @@ pub closing-scan : (k d f z at : ℕ) (r : List ℕ) → (d ≡ 0 → ⊥) → s
 unfolding scan step stepIn onHad isSign andThen
 closing-scan k d f z at r n = rw (ne-eqb d 0 n)
 
-pub closing-wrong : (k d f z at : ℕ) (r : List ℕ) → d ≡ 0 → scan (scanned M.had k d f z) at (41 ∷ r) ≡ refused textWrong at
-unfolding scan step stepIn onHad isSign andThen
-closing-wrong k d f z at r e = rw (eq-eqb d 0 e)
-
 pub closing-marks : (r : List ℕ) → marksIn (41 ∷ r) ≡ closing ∷ marksIn r
 unfolding marksIn markAt withMark
 closing-marks r = refl
@@ -178,6 +174,10 @@ pub due-wrong : (k d f z at b : ℕ) (r : List ℕ) → (b ≡ 32 → ⊥) → (
 unfolding scan step stepIn onDue andThen
 due-wrong k d f z at b r n₁ n₂ n₃ e n₄ n₅ = rw (ne-eqb b 32 n₁, e, ne-eqb b 105 n₄, ne-eqb b 60 n₅, ne-eqb b 91 n₃, ne-eqb b 40 n₂)
 
-pub had-wrong : (k d f z at b : ℕ) (r : List ℕ) → (b ≡ 32 → ⊥) → isSign b ≡ false → (b ≡ 41 → ⊥) → scan (scanned M.had k d f z) at (b ∷ r) ≡ refused textWrong at
+pub had-wrong : (k d f z at b : ℕ) (r : List ℕ) → (b ≡ 32 → ⊥) → isSign b ≡ false → (b ≡ 41 → d ≡ 0) → scan (scanned M.had k d f z) at (b ∷ r) ≡ refused textWrong at
 unfolding scan step stepIn onHad andThen
-had-wrong k d f z at b r n₁ e n₂ = rw (ne-eqb b 32 n₁, e, ne-eqb b 41 n₂)
+had-wrong k d f z at b r n e open-none = rw (ne-eqb b 32 n, e) (go (eqb b 41) refl)
+  where
+    go : (x : Bool) → eqb b 41 ≡ x → andThen (cond x (cond (eqb d 0) (refused textWrong at) (gives (scanned M.had k (d - 1) f z))) (refused textWrong at)) (λ τ. scan τ (at + 1) r) ≡ refused textWrong at
+    go true t = rw (eq-eqb d 0 (open-none (eqb-true b 41 t)))
+    go false t = refl

@@ -8,18 +8,18 @@ use Prim.Native.Nat.{ℕ, _+_, _*_, _-_, _≤_, _<_}
 use native.Mathlib.Decide.{decLt}
 use native.Mathlib.Numerals.{add-one}
 use native.Mathlib.Omega.{arith}
-use lib.Dec.{leb, ltb, eqb}
+use lib.Dec.{ltb}
 use lib.ListN.{length, getD, drop, drop-of-length-le}
 use lib.Seq.{drop-cons}
-use borrow.Author.Tests.{ltb-true, ltb-false, lt-ltb, le-ltb}
-use Rattle.format.specs.Results.{gives, refused, andThen}
+use borrow.Author.Tests.{ltb-true, ltb-false}
+use Rattle.format.specs.Results.{refused, andThen}
 use Rattle.format.specs.Refusals.{textWrong}
-use Rattle.notation.specs.Letters.{IsDigit, isDigit}
+use Rattle.notation.specs.Letters.{isDigit}
 use Rattle.notation.specs.Marks.{Mark}
 use Rattle.notation.specs.Meets.{NoDigit}
 use Rattle.notation.specs.MarksIn.{numberIn, markAt, withMark, marksIn}
 use Rattle.notation.specs.Scans as M
-use Rattle.notation.specs.Scans.{mostValue, scanned, turned, completes, onDue, onHad, digitMore, leafEnds, onDigits, labelEnds, onLabelDigits, onBegun, onLabelBegun, stepIn, step, endIn, atEnd, scan}
+use Rattle.notation.specs.Scans.{mostValue, scanned, onDue, onHad, digitMore, onDigits, onLabelDigits, onBegun, onLabelBegun, stepIn, step, endIn, atEnd, scan}
 use Rattle.notation.proofs.TextLaws.{digit-none}
 use Rattle.notation.proofs.MeetLaws.{digit-is}
 use Rattle.text_reader.specs.Places.{modeOf, Skipped, Passed, NumberRead}

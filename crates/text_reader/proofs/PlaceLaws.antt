@@ -5,30 +5,28 @@ use mathlib.Core.Bool.{Bool, true, false, cond}
 use mathlib.Core.List.{List, [], _∷_}
 use Prim.Native.Nat.{ℕ, _+_, _*_, _-_, _≤_, _<_}
 use native.Mathlib.Omega.{arith}
-use lib.Dec.{leb, ltb, eqb}
-use lib.ListN.{length, getD, set, drop, length-set}
+use lib.Dec.{leb}
+use lib.ListN.{length, getD, set, drop}
 use borrow.Author.Tests.{leb-false, lt-ltb, le-ltb, eq-eqb, ne-eqb}
 use Rattle.words.specs.Word.{word, putWord}
 use Rattle.words.specs.Kept.{Kept}
 use Rattle.format.specs.Limits.{mostTermFields}
 use Rattle.format.specs.Refusals.{Cause, limitPassed, textWrong, valueTooLarge, number}
-use Rattle.format.specs.Results.{Result, gives, refused, told}
-use Rattle.notation.specs.Letters.{isDigit}
+use Rattle.format.specs.Results.{refused, told}
 use Rattle.notation.specs.Marks.{Mark, leaf, labelMark, sign, opening, closing}
-use Rattle.notation.specs.MarksIn.{numberIn, marksIn}
+use Rattle.notation.specs.MarksIn.{marksIn}
 use Rattle.notation.specs.Meets.{NoDigit}
-use Rattle.notation.specs.Scans.{Mode, mostValue, scanned, start, beginsNumbered, isSign, finished, endIn, atEnd, scan}
+use Rattle.notation.specs.Scans.{mostValue, scanned, start, beginsNumbered, isSign, finished, endIn, atEnd, scan}
 use Rattle.notation.specs.Scans as M
 use Rattle.notation.proofs.ScanLaws.{digits-over, digits-full, digits-done, label-over, label-full, label-done}
 use Rattle.text_reader.specs.MarkList.{MarkStands, MarksStand}
 use Rattle.text_reader.specs.Shapes.{scanShape}
-use Rattle.text_reader.specs.Places.{modeOf, Listed, Standing, Ready, Refuses, After, refusing, completed, bracketed, Skipped, Passed, NumberRead, LeafByte, PairBytes, SignByte}
+use Rattle.text_reader.specs.Places.{modeOf, Standing, Ready, Refuses, After, refusing, completed, movedTo, Moved, Opened, Closed, Skipped, NumberRead, LeafByte, PairBytes, SignByte}
 use Rattle.text_reader.specs.declared.scan.Place.{Place}
-use Rattle.text_reader.specs.declared.scan.ScanRead.{ScanRead}
 use Rattle.text_reader.specs.declared.scan.ScanRead.the-variants as R
 use Rattle.text_reader.proofs.ListLaws.{listed-more, listed-skip, listed-start, listed-all, kept-number, kept-valued, number-stands, valued-number, valued-word}
-use Rattle.text_reader.proofs.PassLaws.{here, at-end, value-is, no-number, no-label-number}
-use Rattle.text_reader.proofs.MarkLaws.{leafMark, leaf-begins, leaf-marks, leaf-stands, label-begins, label-marks, label-stands, label-ends-marks, label-torn, label-unclosed, pairLeaf, half, pair-begins, pair-torn, pair-other, pair-full, pair-done, pair-marks, pair-stands, signOf, sign-full, sign-done, sign-marks, sign-stands, opening-scan, opening-marks, opening-stands, closing-scan, closing-wrong, closing-marks, closing-stands, due-wrong, had-wrong}
+use Rattle.text_reader.proofs.PassLaws.{here, at-end, skipped-first, value-is, no-number, no-label-number}
+use Rattle.text_reader.proofs.MarkLaws.{leafMark, leaf-begins, leaf-marks, leaf-stands, label-begins, label-marks, label-stands, label-ends-marks, label-torn, label-unclosed, pairLeaf, half, pair-begins, pair-torn, pair-other, pair-full, pair-done, pair-marks, pair-stands, signOf, sign-full, sign-done, sign-marks, sign-stands, opening-scan, opening-marks, opening-stands, closing-scan, closing-marks, closing-stands, due-wrong, had-wrong}
 
 pub after-refused : (s w : List ℕ) (from : ℕ) (p r : Place) (c : Cause) (n x : ℕ) → r ≡ refusing p n x → n ≡ number c → (n ≡ 0 → ⊥) → scan start 0 s ≡ refused c x → After s w from r
 after-refused s w from p r c n x e is some scans =
@@ -36,6 +34,95 @@ after-refused s w from p r c n x e is some scans =
 
 after-stands : (s w : List ℕ) (from : ℕ) (r : Place) → Standing s w r → from < r .at → r .number ≡ 0 → After s w from r
 after-stands s w from r st far z = record { goes = λ _. st; further = λ _. far; refuses = λ n. absurd (n z) }
+
+-- what is met from an earlier place on
+pub after-from : (s w : List ℕ) (a b : ℕ) (r : Place) → After s w a r → b ≤ a → After s w b r
+after-from s w a b r x h = record { goes = x .goes; further = λ z. let far = x .further z in omega arith; refuses = x .refuses }
+
+-- the text ends behind blanks and brackets
+pub after-end : (s w : List ℕ) (p r : Place) → Moved s w p r → p .at < length s → length s ≤ r .at → After s w (p .at) r
+after-end s w p r x h k = after-stands s w (p .at) r (x .standing) (omega arith) (x .unrefused)
+
+-- a byte is left behind blanks and brackets
+pub ready-past : (s w w′ : List ℕ) (p r : Place) → Ready s w p → Moved s w′ p r → length w′ ≡ length w → r .at < length s → Ready s w′ r
+ready-past s w w′ p r h x e more = let room = h .room in record { standing = x .standing; more = more; short = h .short; room = omega arith }
+
+-- one byte further among blanks and brackets
+module _ (s w : List ℕ) (p : Place) (at depth count : ℕ) (x : Standing s w (movedTo p at depth count)) (more : at < length s) where
+  here-is : (b : ℕ) → getD s at 0 ≡ b → drop at s ≡ b ∷ drop (at + 1) s
+  here-is b is = here s at more ∙ ap {B = List ℕ} (λ c. c ∷ drop (at + 1) s) is
+
+  here-scans : (due : Bool) (b : ℕ) → p .due ≡ due → getD s at 0 ≡ b → scan start 0 s ≡ scan (scanned (modeOf due) (x .mark) depth (p .fields) (p .size)) at (b ∷ drop (at + 1) s)
+  here-scans due b e is =
+      x .scans
+      ∙ ap (λ (t : Bool). scan (scanned (modeOf t) (x .mark) depth (p .fields) (p .size)) at (drop at s)) e
+      ∙ ap (scan (scanned (modeOf due) (x .mark) depth (p .fields) (p .size)) at) (here-is b is)
+
+  pub blank-stands : (next : ℕ) → getD s at 0 ≡ 32 → Skipped s (at + 1) next → Standing s w (movedTo p next depth count)
+  blank-stands next is y =
+      let deep = x .deep in
+      let up = y .rises in
+      let z = skipped-first s at next more is y in
+      record {
+        mark = x .mark;
+        placed = y .placed;
+        deep = omega arith;
+        few = x .few;
+        sized = x .sized;
+        scans = x .scans ∙ z .scans (p .due) (x .mark) depth (p .fields) (p .size);
+        listed = listed-skip s w at next count (x .listed) (omega arith) (z .marks);
+      }
+
+  -- a bracket is put in the list, and as many are open as the definition has
+  bracket-stands : (m : Mark) (n depth′ : ℕ) → depth′ ≤ depth + 1 → 3 * count < length w → marksIn (drop at s) ≡ m ∷ marksIn (drop (at + 1) s) → MarkStands (set w (3 * count) n) (3 * count) m
+      → scan start 0 s ≡ scan (scanned (modeOf (p .due)) (x .mark) depth′ (p .fields) (p .size)) (at + 1) (drop (at + 1) s) → Standing s (set w (3 * count) n) (movedTo p (at + 1) depth′ (count + 1))
+  bracket-stands m n depth′ most room marks stands scans =
+      let deep = x .deep in
+      record {
+        mark = x .mark;
+        placed = omega arith;
+        deep = omega arith;
+        few = x .few;
+        sized = x .sized;
+        scans = scans;
+        listed = listed-more s w (set w (3 * count) n) at (at + 1) count m (x .listed) (omega arith) marks (kept-number w (3 * count) n) stands;
+      }
+
+  pub opening-stands-here : p .due ≡ true → getD s at 0 ≡ 40 → 3 * count < length w → Standing s (set w (3 * count) 1) (movedTo p (at + 1) (depth + 1) (count + 1))
+  opening-stands-here due is room =
+      bracket-stands opening 1 (depth + 1) (omega arith) room (ap marksIn (here-is 40 is) ∙ opening-marks (drop (at + 1) s)) (opening-stands (set w (3 * count) 1) (3 * count) (number-stands w (3 * count) 1 room))
+      (here-scans true 40 due is ∙ opening-scan (x .mark) depth (p .fields) (p .size) at (drop (at + 1) s)
+      ∙ ap (λ (t : Bool). scan (scanned (modeOf t) (x .mark) (depth + 1) (p .fields) (p .size)) (at + 1) (drop (at + 1) s)) (sym due))
+
+  pub closing-stands-here : p .due ≡ false → getD s at 0 ≡ 41 → (depth ≡ 0 → ⊥) → 3 * count < length w → Standing s (set w (3 * count) 0) (movedTo p (at + 1) (depth - 1) (count + 1))
+  closing-stands-here due is some room =
+      bracket-stands closing 0 (depth - 1) (omega arith) room (ap marksIn (here-is 41 is) ∙ closing-marks (drop (at + 1) s)) (closing-stands (set w (3 * count) 0) (3 * count) (number-stands w (3 * count) 0 room))
+      (here-scans false 41 due is ∙ closing-scan (x .mark) depth (p .fields) (p .size) at (drop (at + 1) s) some
+      ∙ ap (λ (t : Bool). scan (scanned (modeOf t) (x .mark) (depth - 1) (p .fields) (p .size)) (at + 1) (drop (at + 1) s)) (sym due))
+
+-- a byte has one value
+pub not-both : (b x y : ℕ) → b ≡ x → (x ≡ y → ⊥) → b ≡ y → ⊥
+not-both b x y e n f = n (sym e ∙ f)
+
+-- before the first of them, and behind the last
+pub run-starts : (s w : List ℕ) (p : Place) → Standing s w p → Standing s w (movedTo p (p .at) (p .depth) (p .count))
+run-starts s w p x = record { mark = x .mark; placed = x .placed; deep = x .deep; few = x .few; sized = x .sized; scans = x .scans; listed = x .listed }
+
+run-moved : (s w : List ℕ) (p r : Place) (at depth count : ℕ) → r ≡ movedTo p at depth count → Standing s w (movedTo p at depth count) → p .at ≤ at → Moved s w p r
+run-moved s w p r at depth count e x h = subst (Moved s w p) (sym e) (record { standing = x; rises = h; same = refl; unrefused = refl })
+
+module _ (s w : List ℕ) (p r : Place) (at depth count : ℕ) (e : r ≡ movedTo p at depth count) (x : Standing s w (movedTo p at depth count)) (up : p .at ≤ at) where
+  pub opened-other : (getD s at 0 ≡ 32 → ⊥) → (getD s at 0 ≡ 40 → ⊥) → Opened s w p r
+  opened-other a b = subst (Opened s w p) (sym e) (record { moved = run-moved s w p (movedTo p at depth count) at depth count refl x up; no-blank = λ l. a; no-bracket = λ l. b })
+
+  pub opened-end : length s ≤ at → Opened s w p r
+  opened-end end = subst (Opened s w p) (sym e) (record { moved = run-moved s w p (movedTo p at depth count) at depth count refl x up; no-blank = λ l. absurd (omega arith); no-bracket = λ l. absurd (omega arith) })
+
+  pub closed-other : (getD s at 0 ≡ 32 → ⊥) → (getD s at 0 ≡ 41 → depth ≡ 0) → Closed s w p r
+  closed-other a b = subst (Closed s w p) (sym e) (record { moved = run-moved s w p (movedTo p at depth count) at depth count refl x up; no-blank = λ l. a; no-bracket = λ l. b })
+
+  pub closed-end : length s ≤ at → Closed s w p r
+  closed-end end = subst (Closed s w p) (sym e) (record { moved = run-moved s w p (movedTo p at depth count) at depth count refl x up; no-blank = λ l. absurd (omega arith); no-bracket = λ l. absurd (omega arith) })
 
 module _ (s w : List ℕ) (p : Place) (h : Ready s w p) where
   -- the scan and the marks from here on, by the byte that stands here
@@ -81,47 +168,10 @@ module _ (s w : List ℕ) (p : Place) (h : Ready s w p) where
       let c = h .room in
       omega arith
 
-  -- a bracket
-  bracket-ok : (w′ : List ℕ) (r : Place) (m : Mark) (n depth : ℕ) → r ≡ bracketed p depth → w′ ≡ set w (3 * p .count) n → depth ≤ p .depth + 1
-      → marksIn (drop (p .at) s) ≡ m ∷ marksIn (drop (p .at + 1) s) → MarkStands w′ (3 * p .count) m
-      → scan start 0 s ≡ scan (scanned (modeOf (p .due)) (h .standing .mark) depth (p .fields) (p .size)) (p .at + 1) (drop (p .at + 1) s)
-      → After s w′ (p .at) r
-  bracket-ok w′ r m n depth e put most marks stands scans =
-      let deep = h .standing .deep in
-      let more = h .more in
-      subst (After s w′ (p .at)) (sym e)
-      (after-stands s w′ (p .at) (bracketed p depth)
-      (record {
-        mark = h .standing .mark;
-        placed = omega arith;
-        deep = omega arith;
-        few = h .standing .few;
-        sized = h .standing .sized;
-        scans = scans;
-        listed = listed-more s w w′ (p .at) (p .at + 1) (p .count) m (h .standing .listed) (omega arith) marks (subst (λ (l : List ℕ). Kept w l (3 * p .count) (3 * p .count + 3)) (sym put) (kept-number w (3 * p .count) n)) stands;
-      })
-      (omega arith) refl)
-
   number-put : (w′ : List ℕ) (n : ℕ) → w′ ≡ set w (3 * p .count) n → getD w′ (3 * p .count) 0 ≡ n
   number-put w′ n e = ap (λ (l : List ℕ). getD l (3 * p .count) 0) e ∙ number-stands w (3 * p .count) n (omega (arith, room-here))
 
-  pub opening-ok : (w′ : List ℕ) (r : Place) → p .due ≡ true → getD s (p .at) 0 ≡ 40 → r ≡ bracketed p (p .depth + 1) → w′ ≡ set w (3 * p .count) 1 → After s w′ (p .at) r
-  opening-ok w′ r due is e put =
-      bracket-ok w′ r opening 1 (p .depth + 1) e put (omega arith) (marks-here 40 is ∙ opening-marks (drop (p .at + 1) s)) (opening-stands w′ (3 * p .count) (number-put w′ 1 put))
-      (scans-here true 40 due is ∙ opening-scan (h .standing .mark) (p .depth) (p .fields) (p .size) (p .at) (drop (p .at + 1) s)
-      ∙ ap (λ (t : Bool). scan (scanned (modeOf t) (h .standing .mark) (p .depth + 1) (p .fields) (p .size)) (p .at + 1) (drop (p .at + 1) s)) (sym due))
-
-  pub closing-ok : (w′ : List ℕ) (r : Place) → p .due ≡ false → getD s (p .at) 0 ≡ 41 → (p .depth ≡ 0 → ⊥) → r ≡ bracketed p (p .depth - 1) → w′ ≡ set w (3 * p .count) 0 → After s w′ (p .at) r
-  closing-ok w′ r due is some e put =
-      bracket-ok w′ r closing 0 (p .depth - 1) e put (omega arith) (marks-here 41 is ∙ closing-marks (drop (p .at + 1) s)) (closing-stands w′ (3 * p .count) (number-put w′ 0 put))
-      (scans-here false 41 due is ∙ closing-scan (h .standing .mark) (p .depth) (p .fields) (p .size) (p .at) (drop (p .at + 1) s) some
-      ∙ ap (λ (t : Bool). scan (scanned (modeOf t) (h .standing .mark) (p .depth - 1) (p .fields) (p .size)) (p .at + 1) (drop (p .at + 1) s)) (sym due))
-
-  pub closing-refused : (w′ : List ℕ) (r : Place) → p .due ≡ false → getD s (p .at) 0 ≡ 41 → p .depth ≡ 0 → r ≡ refusing p 36 (p .at) → After s w′ (p .at) r
-  unfolding number
-  closing-refused w′ r due is none e = after-refused s w′ (p .at) p r textWrong 36 (p .at) e refl (λ z. omega arith) (scans-here false 41 due is ∙ closing-wrong (h .standing .mark) (p .depth) (p .fields) (p .size) (p .at) (drop (p .at + 1) s) none)
-
-  pub had-refused : (w′ : List ℕ) (r : Place) (b : ℕ) → p .due ≡ false → getD s (p .at) 0 ≡ b → (b ≡ 32 → ⊥) → isSign b ≡ false → (b ≡ 41 → ⊥) → r ≡ refusing p 36 (p .at) → After s w′ (p .at) r
+  pub had-refused : (w′ : List ℕ) (r : Place) (b : ℕ) → p .due ≡ false → getD s (p .at) 0 ≡ b → (b ≡ 32 → ⊥) → isSign b ≡ false → (b ≡ 41 → p .depth ≡ 0) → r ≡ refusing p 36 (p .at) → After s w′ (p .at) r
   unfolding number
   had-refused w′ r b due is n₁ n₂ n₃ e = after-refused s w′ (p .at) p r textWrong 36 (p .at) e refl (λ z. omega arith) (scans-here false b due is ∙ had-wrong (h .standing .mark) (p .depth) (p .fields) (p .size) (p .at) b (drop (p .at + 1) s) n₁ n₂ n₃)
 
@@ -137,24 +187,6 @@ module _ (s w : List ℕ) (p : Place) (h : Ready s w p) where
       (subst (λ (l : List ℕ). Kept w l (3 * p .count) (3 * p .count + 3)) (sym put) (kept-number w (3 * p .count) tag)) (sign-stands x w′ (3 * p .count) (number-put w′ tag put))
       (λ g. scans-here false b due is ∙ sign-full x (h .standing .mark) (p .depth) (p .fields) (p .size) (p .at) (drop (p .at + 1) s) g)
       (λ g. (h .standing .mark, scans-here false b due is ∙ sign-done x (h .standing .mark) (p .depth) (p .fields) (p .size) (p .at) (drop (p .at + 1) s) g))
-
-  -- blanks
-  pub blanks-ok : (r : Place) (next : ℕ) → Skipped s (p .at) next → p .at < next
-      → r ≡ record { at = next; due = p .due; depth = p .depth; fields = p .fields; size = p .size; count = p .count; number = 0; place = 0 } → After s w (p .at) r
-  blanks-ok r next x far e =
-      let deep = h .standing .deep in
-      subst (After s w (p .at)) (sym e)
-      (after-stands s w (p .at) _
-      (record {
-        mark = h .standing .mark;
-        placed = x .placed;
-        deep = omega arith;
-        few = h .standing .few;
-        sized = h .standing .sized;
-        scans = h .standing .scans ∙ x .scans (p .due) (h .standing .mark) (p .depth) (p .fields) (p .size);
-        listed = listed-skip s w (p .at) next (p .count) (h .standing .listed) (omega arith) (x .marks);
-      })
-      far refl)
 
   -- a leaf of two bytes
   module _ (b second tag : ℕ) (due : p .due ≡ true) (is : getD s (p .at) 0 ≡ b) (x : PairBytes b second tag) where

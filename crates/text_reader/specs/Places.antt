@@ -1,10 +1,10 @@
--- The scan of a text in the code, mark by mark: what holds where it stands between two marks, and what a run of blanks, a number and a mark come to.
+-- The scan of a text in the code, mark by mark: what holds where it stands between two marks, and what brackets, a number and a mark come to.
 use Prim.Native.Nat.{ℕ, _+_, _*_, _≤_, _<_}
 use mathlib.Core.Path.{_≡_}
 use mathlib.Core.Bool.{Bool, true, false, cond}
-use mathlib.Core.List.{List, []}
+use mathlib.Core.List.{List}
 use lib.Dec.{leb}
-use lib.ListN.{length, drop}
+use lib.ListN.{length, getD, drop}
 use Rattle.format.specs.Limits.{mostTermFields}
 use Rattle.format.specs.Refusals.{Cause, number}
 use Rattle.format.specs.Results.{refused}
@@ -50,7 +50,7 @@ pub record Refuses (s : List ℕ) (told place : ℕ) : Type 0 where
   pub is : told ≡ number cause
   pub scans : scan start 0 s ≡ refused cause place
 
--- Behind a mark or blanks that begin at a place: the scan stands further on, or the text is refused.
+-- Behind what begins at a place: the scan stands further on, or the text is refused.
 pub record After (s w : List ℕ) (from : ℕ) (r : Place) : Type 0 where
   pub goes : r .number ≡ 0 → Standing s w r
   pub further : r .number ≡ 0 → from < r .at
@@ -66,9 +66,28 @@ completed p next due bytes =
     (refusing p 5 (p .at))
     (record { at = next; due = due; depth = p .depth; fields = p .fields + 1; size = p .size + bytes; count = p .count + 1; number = 0; place = 0 })
 
--- a bracket was read, and so many are not closed behind it
-abbrev pub bracketed : Place → (depth : ℕ) → Place
-bracketed p depth = record { at = p .at + 1; due = p .due; depth = depth; fields = p .fields; size = p .size; count = p .count + 1; number = 0; place = 0 }
+-- further on, with so many brackets not closed and so many marks in the list
+abbrev pub movedTo : Place → (at depth count : ℕ) → Place
+movedTo p at depth count = record { at = at; due = p .due; depth = depth; fields = p .fields; size = p .size; count = count; number = 0; place = 0 }
+
+-- Behind blanks and brackets: the scan stands at or behind the place where it stood, and the same is due.
+pub record Moved (s w : List ℕ) (p r : Place) : Type 0 where
+  pub standing : Standing s w r
+  pub rises : p .at ≤ r .at
+  pub same : r .due ≡ p .due
+  pub unrefused : r .number ≡ 0
+
+-- no blank and no bracket that opens comes next
+pub record Opened (s w : List ℕ) (p r : Place) : Type 0 where
+  pub moved : Moved s w p r
+  pub no-blank : r .at < length s → getD s (r .at) 0 ≡ 32 → ⊥
+  pub no-bracket : r .at < length s → getD s (r .at) 0 ≡ 40 → ⊥
+
+-- no blank comes next, nor a bracket that closes while one is open
+pub record Closed (s w : List ℕ) (p r : Place) : Type 0 where
+  pub moved : Moved s w p r
+  pub no-blank : r .at < length s → getD s (r .at) 0 ≡ 32 → ⊥
+  pub no-bracket : r .at < length s → getD s (r .at) 0 ≡ 41 → r .depth ≡ 0
 
 -- between two places stand blanks alone
 pub record Skipped (s : List ℕ) (from to : ℕ) : Type 0 where

@@ -8,10 +8,10 @@ ghost use Rattle.notation.specs.MarksIn.{marksIn};
 ghost use Rattle.notation.specs.Scans.{beginsNumbered, isSign, digitMore, start, scan};
 ghost use Rattle.text_reader.specs.MarkList.{MarksStand};
 ghost use Rattle.text_reader.specs.Shapes.{scanShape};
-ghost use Rattle.text_reader.specs.Places.{Standing, Ready, After, refusing, completed, bracketed, Skipped, NumberRead, LeafByte, PairBytes, SignByte};
+ghost use Rattle.text_reader.specs.Places.{Standing, Ready, After, Opened, Closed, refusing, completed, movedTo, Skipped, NumberRead, LeafByte, PairBytes, SignByte};
 ghost use Rattle.text_reader.specs.declared.scan.ScanRead.the-variants as R;
 
-const MOST_FIELDS: usize = 4096;
+const MOST_FIELDS: u32 = 4096;
 
 const MOST_VALUE: usize = 65535;
 
@@ -26,9 +26,9 @@ pub struct Place {
     pub at: usize,
     // An operand is due; otherwise one was read.
     pub due: bool,
-    // The brackets that are not closed yet; the term fields made, the bytes of their headers and values; the marks in the list.
+    // The brackets that are not closed yet; the term fields made, the bytes of their headers and values; the marks in the list. The fields have a width of their own, or the compiler joins the two sums in one register and takes them out again at every mark.
     pub depth: usize,
-    pub fields: usize,
+    pub fields: u32,
     pub size: usize,
     pub count: usize,
     // Of a refusal its number and place; the number is 0 as long as nothing is refused.
@@ -116,24 +116,91 @@ fn refused(here: Place, number: u8, place: usize) -> Place
     }
 }
 
-// A bracket is read and put in the list; so many are not closed behind it.
-fn bracket(work: &mut [u8], here: Place, kind: u8, depth: usize) -> Place
-    requires { ⌜ (3 * here .count < length (now work)) × (here .count < 65536) × (here .at < 65536) ⌝ }
-    ensures { λ r. ⌜ r ≡ bracketed here depth ⌝ }
-    ensures { λ _. ⌜ now (work .exit) ≡ set (now (work .entry)) (3 * here .count) kind ⌝ }
+// The byte behind the first of a mark is wrong, or the text ends there: 36 at that place.
+fn wrong_second(here: Place) -> Place
+    requires { ⌜ here .at < 65536 ⌝ }
+    ensures { λ r. ⌜ r ≡ refusing here 36 (here .at + 1) ⌝ }
 {
-    let entry = 3 * here.count;
-    work[entry] = kind;
+    refused(here, 36, here.at + 1)
+}
+
+// The value of a mark is over 65,535: 37 at its first digit.
+fn too_large(here: Place) -> Place
+    requires { ⌜ here .at < 65536 ⌝ }
+    ensures { λ r. ⌜ r ≡ refusing here 37 (here .at + 1) ⌝ }
+{
+    refused(here, 37, here.at + 1)
+}
+
+// Further on, with so many brackets not closed and so many marks in the list.
+fn moved(here: Place, at: usize, depth: usize, count: usize) -> Place
+    ensures { λ r. ⌜ r ≡ movedTo here at depth count ⌝ }
+{
     Place {
-        at: here.at + 1,
+        at,
         due: here.due,
         depth,
         fields: here.fields,
         size: here.size,
-        count: here.count + 1,
+        count,
         number: 0,
         place: 0,
     }
+}
+
+// Behind the blanks and the brackets that open here. A text can have many more of these than of term fields, so that they have a loop of their own.
+fn past_openings(text: &[u8], work: &mut [u8], here: Place) -> Place
+    requires { ⌜ Ready (now text) (now work) here × (here .due ≡ true) ⌝ }
+    ensures { λ r. ⌜ Opened (now (text .entry)) (now (work .exit)) here r ⌝ }
+{
+    let mut at = here.at;
+    let mut depth = here.depth;
+    let mut count = here.count;
+    while at < text.len() {
+        let b = text[at];
+        if b == 40 {
+            let entry = 3 * count;
+            work[entry] = 1;
+            depth += 1;
+            count += 1;
+            at += 1;
+            continue;
+        }
+        if b != 32 {
+            return moved(here, at, depth, count);
+        }
+        at = past_blanks(text, at + 1);
+    }
+    moved(here, at, depth, count)
+}
+
+// Behind the blanks and the brackets that close here, as long as one is open.
+fn past_closings(text: &[u8], work: &mut [u8], here: Place) -> Place
+    requires { ⌜ Ready (now text) (now work) here × (here .due ≡ false) ⌝ }
+    ensures { λ r. ⌜ Closed (now (text .entry)) (now (work .exit)) here r ⌝ }
+{
+    let mut at = here.at;
+    let mut depth = here.depth;
+    let mut count = here.count;
+    while at < text.len() {
+        let b = text[at];
+        if b == 41 {
+            if depth == 0 {
+                return moved(here, at, depth, count);
+            }
+            let entry = 3 * count;
+            work[entry] = 0;
+            depth -= 1;
+            count += 1;
+            at += 1;
+            continue;
+        }
+        if b != 32 {
+            return moved(here, at, depth, count);
+        }
+        at = past_blanks(text, at + 1);
+    }
+    moved(here, at, depth, count)
 }
 
 // A mark that makes a field is complete: it is put in the list, and the field is counted unless it is one too many.
@@ -169,10 +236,10 @@ fn leaf(text: &[u8], work: &mut [u8], here: Place, tag: u8) -> Place
     let value = read.value;
     let next = read.next;
     if next == from {
-        return refused(here, 36, from);
+        return wrong_second(here);
     }
     if MOST_VALUE < value {
-        return refused(here, 37, from);
+        return too_large(here);
     }
     words::store16(work, 3 * here.count + 1, value as u16);
     complete(work, here, tag, next, false, 5)
@@ -188,10 +255,10 @@ fn label(text: &[u8], work: &mut [u8], here: Place) -> Place
     let value = read.value;
     let next = read.next;
     if next == from {
-        return refused(here, 36, from);
+        return wrong_second(here);
     }
     if MOST_VALUE < value {
-        return refused(here, 37, from);
+        return too_large(here);
     }
     if text.len() <= next {
         return refused(here, 36, next);
@@ -210,10 +277,10 @@ fn pair(text: &[u8], work: &mut [u8], here: Place, second: u8, tag: u8) -> Place
 {
     let from = here.at + 1;
     if text.len() <= from {
-        return refused(here, 36, from);
+        return wrong_second(here);
     }
     if text[from] != second {
-        return refused(here, 36, from);
+        return wrong_second(here);
     }
     complete(work, here, tag, from + 1, false, 3)
 }
@@ -250,71 +317,55 @@ fn sign_tag(b: u8) -> u8
     0
 }
 
-// An operand is due, and no blank comes.
+// An operand is due.
 fn on_due(text: &[u8], work: &mut [u8], here: Place) -> Place
-    requires { ⌜ Ready (now text) (now work) here × (here .due ≡ true) × (getD (now text) (here .at) 0 ≡ 32 → ⊥) ⌝ }
+    requires { ⌜ Ready (now text) (now work) here × (here .due ≡ true) ⌝ }
     ensures { λ r. ⌜ After (now (text .entry)) (now (work .exit)) (here .at) r ⌝ }
 {
-    let at = here.at;
-    let b = text[at];
-    if b == 40 {
-        return bracket(work, here, 1, here.depth + 1);
+    let past = past_openings(text, work, here);
+    let at = past.at;
+    if text.len() <= at {
+        return past;
     }
+    let b = text[at];
     if b == 91 {
-        return label(text, work, here);
+        return label(text, work, past);
     }
     let tag = leaf_tag(b);
     if tag != 0 {
-        return leaf(text, work, here, tag);
+        return leaf(text, work, past, tag);
     }
     if b == 105 {
-        return pair(text, work, here, 100, 17);
+        return pair(text, work, past, 100, 17);
     }
     if b == 60 {
-        return pair(text, work, here, 62, 21);
+        return pair(text, work, past, 62, 21);
     }
-    refused(here, 36, at)
+    refused(past, 36, at)
 }
 
-// An operand was read, and no blank comes.
+// An operand was read.
 fn on_had(text: &[u8], work: &mut [u8], here: Place) -> Place
-    requires { ⌜ Ready (now text) (now work) here × (here .due ≡ false) × (getD (now text) (here .at) 0 ≡ 32 → ⊥) ⌝ }
+    requires { ⌜ Ready (now text) (now work) here × (here .due ≡ false) ⌝ }
     ensures { λ r. ⌜ After (now (text .entry)) (now (work .exit)) (here .at) r ⌝ }
 {
-    let at = here.at;
-    let b = text[at];
-    let tag = sign_tag(b);
+    let past = past_closings(text, work, here);
+    let at = past.at;
+    if text.len() <= at {
+        return past;
+    }
+    let tag = sign_tag(text[at]);
     if tag != 0 {
-        return complete(work, here, tag, at + 1, true, 3);
+        return complete(work, past, tag, at + 1, true, 3);
     }
-    if b != 41 {
-        return refused(here, 36, at);
-    }
-    if here.depth == 0 {
-        return refused(here, 36, at);
-    }
-    bracket(work, here, 0, here.depth - 1)
+    refused(past, 36, at)
 }
 
-// Behind the blanks or the mark that begin here.
+// Behind the next mark that is no bracket, or at the end of the text.
 fn pass(text: &[u8], work: &mut [u8], here: Place) -> Place
     requires { ⌜ Ready (now text) (now work) here ⌝ }
     ensures { λ r. ⌜ After (now (text .entry)) (now (work .exit)) (here .at) r ⌝ }
 {
-    let at = here.at;
-    if text[at] == 32 {
-        let next = past_blanks(text, at + 1);
-        return Place {
-            at: next,
-            due: here.due,
-            depth: here.depth,
-            fields: here.fields,
-            size: here.size,
-            count: here.count,
-            number: 0,
-            place: 0,
-        };
-    }
     if here.due {
         return on_due(text, work, here);
     }

@@ -1,19 +1,16 @@
-use mathlib.Core.Path.{_≡_, sym, _∙_}
+-- `scan::number_at` meets its contract: the invariant: digits stand from the first place to this one, and this is their value.
+-- Assumes nothing.
+use mathlib.Core.Path.{sym, _∙_}
 use Prim.Native.Nat.{_-_}
+use native.Mathlib.Omega.{arith}
 use lib.ListN.{length}
 use borrow.Author.Needs.{needs}
 use borrow.Author.Tests.{not-true, not-false}
-use native.Mathlib.Omega.{arith}
 use Rattle.notation.proofs.MeetLaws.{digit-is}
 use Rattle.text_reader.specs.Places.{Passed}
 use Rattle.text_reader.proofs.PassLaws.{passed-none, passed-next, no-digit, no-more}
 use Rattle.text_reader.proofs.scan.number_at.Statement.{statement}
 use Rattle.text_reader.proofs.scan.number_at.Tie as tie
-use Rattle.text_reader.proofs.scan.number_at.Reads as reads
-use Rattle.text_reader.proofs.scan.number_at.Lts as lts
-use Rattle.text_reader.proofs.scan.digit_more.Reads as digit-more-reads
-use Rattle.text_reader.proofs.scan.is_digit.Reads as is-digit-reads
-use Rattle.text_reader.proofs.scan.wide.Reads as wide-reads
 
 abbrev Inv-loop : tie.InvT-loop
 Inv-loop text from at₀ value₀ at value = Passed text from value at
@@ -21,43 +18,37 @@ Inv-loop text from at₀ value₀ at value = Passed text from value at
 abbrev μ-loop : tie.MeasureT-loop
 μ-loop text from at₀ value₀ at value = length text - at
 
--- src/scan.rt:93:5
 loop-holds : tie.Need-loop-holds Inv-loop μ-loop
 loop-holds c = passed-none _ _ (c .before .pre)
 
--- src/scan.rt:94:22
 shared-slice-read-wide : tie.Need-shared-slice-read-wide Inv-loop μ-loop
 shared-slice-read-wide c = search needs
 
--- src/scan.rt:94:13
 wide-requires : tie.Need-wide-requires Inv-loop μ-loop
 wide-requires c κs = search needs
 
--- src/scan.rt:95:13
 is-digit-requires : tie.Need-is-digit-requires Inv-loop μ-loop
 is-digit-requires c κs = search needs
 
--- src/scan.rt:96:13
 returns : tie.Need-returns Inv-loop μ-loop
-returns c = record { passed = c .before .before .before .before .before .loop .inv; last = no-digit _ _ _ (c .before .before .before .before .loop-test .taken) (c .before .before .wide .ensures .0) (sym (c .before .is-digit .ensures) ∙ not-true _ (c .if1 .taken)) }
+returns c =
+    let turn = c .before .before .before .before .before in
+    record { passed = turn .loop .inv; last = no-digit _ _ _ (c .before .before .before .before .loop-test .taken) (c .before .before .wide .ensures .0) (sym (c .before .is-digit .ensures) ∙ not-true _ (c .if1 .taken)) }
 
--- src/scan.rt:98:9
 digit-more-requires : tie.Need-digit-more-requires Inv-loop μ-loop
 digit-more-requires c κs = (digit-is _ (sym (c .before .is-digit .ensures) ∙ not-false _ (c .if1 .left)) .0, c .before .before .wide .ensures .1)
 
--- src/scan.rt:99:9
 add-at : tie.Need-add-at Inv-loop μ-loop
 add-at c = omega (arith, c .before .before .before .before .before .loop-test .taken)
 
--- src/scan.rt:93:5
 loop-less : tie.Need-loop-less Inv-loop μ-loop
 loop-less c = omega (arith, c .before .before .before .before .before .loop-test .taken)
 
--- src/scan.rt:93:5
 loop-again : tie.Need-loop-again Inv-loop μ-loop
-loop-again c = passed-next _ _ _ _ _ _ (c .before .before .before .before .before .before .loop .inv) (c .before .before .before .before .before .loop-test .taken) (c .before .before .before .wide .ensures .0) (sym (c .before .before .is-digit .ensures) ∙ not-false _ (c .before .if1 .left)) (c .digit-more .ensures)
+loop-again c =
+    let turn = c .before .before .before .before .before .before in
+    passed-next _ _ _ _ _ _ (turn .loop .inv) (c .before .before .before .before .before .loop-test .taken) (c .before .before .before .wide .ensures .0) (sym (c .before .before .is-digit .ensures) ∙ not-false _ (c .before .if1 .left)) (c .digit-more .ensures)
 
--- src/scan.rt:87:1
 returns-2 : tie.Need-returns-2 Inv-loop μ-loop
 returns-2 c = record { passed = c .before .loop .inv; last = no-more _ _ (c .loop-test .left) }
 

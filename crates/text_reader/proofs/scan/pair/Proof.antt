@@ -1,65 +1,57 @@
-use Rattle.text_reader.proofs.PlaceLaws.{pair-short, pair-refused, pair-ok}
-use lib.ListN.{set}
-use Prim.Native.Nat.{ℕ}
-use mathlib.Core.List.{List}
-use mathlib.Core.Path.{_≡_, refl, sym, ap, _∙_}
+-- `scan::pair` meets its contract: one law for each answer.
+-- Assumes nothing.
+use mathlib.Core.Path.{refl}
 use borrow.Author.Needs.{needs}
+use Rattle.text_reader.proofs.PlaceLaws.{pair-short, pair-refused, pair-ok}
 use Rattle.text_reader.proofs.scan.pair.Statement.{statement}
 use Rattle.text_reader.proofs.scan.pair.Tie as tie
-use Rattle.text_reader.proofs.scan.pair.Reads as reads
-use Rattle.text_reader.proofs.scan.pair.Lts as lts
-use Rattle.text_reader.proofs.scan.complete.Reads as complete-reads
-use Rattle.text_reader.proofs.scan.refused.Reads as refused-reads
 
--- src/scan.rt:211:16
 add-from : tie.Need-add-from
 add-from c = search needs
 
--- src/scan.rt:213:9
-refused-requires : tie.Need-refused-requires
-refused-requires c κs = search needs
+wrong-second-requires : tie.Need-wrong-second-requires
+wrong-second-requires c κs = search needs
 
--- src/scan.rt:213:9
 returns : tie.Need-returns
-returns c = pair-short _ _ _ (c .before .before .before .before .before .pre .0) _ _ _ (c .before .before .before .before .before .pre .1) refl (c .before .before .before .before .before .pre .2) _ _ (c .before .if1 .taken) (c .refused .ensures)
+returns c =
+    let entry = c .before .before .before .before .before in
+    pair-short _ _ _ (entry .pre .0) _ _ _ (entry .pre .1) refl (entry .pre .2) _ _ (c .before .if1 .taken) (c .wrong-second .ensures)
 
--- src/scan.rt:215:8
 shared-slice-read-if2 : tie.Need-shared-slice-read-if2
 shared-slice-read-if2 c = search needs
 
--- src/scan.rt:216:9
-refused-requires-2 : tie.Need-refused-requires-2
-refused-requires-2 c κs = search needs
+wrong-second-requires-2 : tie.Need-wrong-second-requires-2
+wrong-second-requires-2 c κs = search needs
 
--- src/scan.rt:216:9
 returns-2 : tie.Need-returns-2
-returns-2 c = pair-refused _ _ _ (c .before .before .before .before .before .before .before .pre .0) _ _ _ (c .before .before .before .before .before .before .before .pre .1) refl (c .before .before .before .before .before .before .before .pre .2) _ _ (c .before .before .before .if1 .left) (c .before .if2 .taken) (c .refused2 .ensures)
+returns-2 c =
+    let entry = c .before .before .before .before .before .before .before in
+    pair-refused _ _ _ (entry .pre .0) _ _ _ (entry .pre .1) refl (entry .pre .2) _ _ (c .before .before .before .if1 .left) (c .before .if2 .taken) (c .wrong-second2 .ensures)
 
--- src/scan.rt:218:31
 add-complete : tie.Need-add-complete
 add-complete c = search needs
 
--- src/scan.rt:218:5
 complete-requires : tie.Need-complete-requires
 complete-requires c κs = search needs
 
--- src/scan.rt:207:1
 same-length : tie.Need-same-length
 same-length c = search needs
 
--- src/scan.rt:207:1
 returns-3 : tie.Need-returns-3
-returns-3 c = pair-ok _ _ _ (c .before .before .before .before .before .before .before .before .before .before .pre .0) _ _ _ (c .before .before .before .before .before .before .before .before .before .before .pre .1) refl (c .before .before .before .before .before .before .before .before .before .before .pre .2) _ _ (c .before .before .before .before .before .before .if1 .left) (c .before .before .before .before .if2 .left) (c .before .before .complete .ensures .1) (c .before .before .complete .ensures .0)
+returns-3 c =
+    let done = c .before .before in
+    let entry = done .before .before .before .before .before .before .before .before in
+    pair-ok _ _ _ (entry .pre .0) _ _ _ (entry .pre .1) refl (entry .pre .2) _ _ (done .before .before .before .before .if1 .left) (done .before .before .if2 .left) (done .complete .ensures .1) (done .complete .ensures .0)
 
 pub pair-spec : {M : Type 1} → statement M
 pair-spec =
     tie.close
     (tie.spec
     add-from
-    refused-requires
+    wrong-second-requires
     returns
     shared-slice-read-if2
-    refused-requires-2
+    wrong-second-requires-2
     returns-2
     add-complete
     complete-requires
