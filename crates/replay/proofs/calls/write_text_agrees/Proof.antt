@@ -31,7 +31,7 @@ same-length-2 c = search needs
 
 returns : tie.Need-returns
 returns c e =
-    let a = c .before .before .before .before .before .before .before .before .before .before .before .before .before .before .before .before .before .before .before .before .before .before .args in
+    let a = c .before .before .before .before .before .before .before .before .before .before .before .before .before .before .before .before .before .before .before .before .before .args in
     let w = c .before .before .before .before .before .before .before .before .before .before .before .before .before .before .before .before .fill .ensures in
     let o = c .before .before .before .before .before .before .before .before .before .before .before .before .fill2 .ensures in
     sym (c .before .before .before .before .before .before .before .write-text .ensures .0 ∙ (λ i. text-entry.writeText (a .term .now) (w i) (o i) .answer))
