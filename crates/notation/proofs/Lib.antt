@@ -10,3 +10,4 @@ pub mod MeetLaws
 pub mod ReaderLaws
 pub mod ParseLaws
 pub mod RoundTrip
+pub mod Worked

@@ -9,3 +9,4 @@ pub mod Scans
 pub mod Passing
 pub mod Meets
 pub mod Parse
+pub mod Worked
