@@ -9,4 +9,5 @@ pub mod Scans
 pub mod Passing
 pub mod Meets
 pub mod Parse
+pub mod Signs
 pub mod Worked

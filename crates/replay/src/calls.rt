@@ -151,13 +151,7 @@ fn run_agrees(
     wrote_as_told(answer, work, out, told, digest)
 }
 
-fn read_text_agrees(
-    text: &[u8],
-    work: &mut [u8],
-    out: &mut [u8],
-    told: Answer,
-    digest: u32,
-) -> bool
+fn read_text_agrees(text: &[u8], work: &mut [u8], out: &mut [u8], told: Answer, digest: u32) -> bool
     ensures { λ r. ⌜ (r ≡ true → text_entry.readText (now (text .entry)) (replicate (length (now (work .entry))) 165) (replicate (length (now (out .entry))) 90) .answer ≡ told) ⌝ }
 {
     fill(work, FILLED);

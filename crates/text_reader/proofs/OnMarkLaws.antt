@@ -18,7 +18,8 @@ use Rattle.notation.specs.Written.{rank}
 use Rattle.notation.specs.Passing.{markSize, sizes}
 use Rattle.notation.specs.FromRight.{Frame, waiting, bracket, State, due, had, stuck, reducedTerm, reducedFrames, unbracket, onMark, stateOf}
 use Rattle.text_reader.specs.MarkList.{MarkStands}
-use Rattle.text_reader.specs.Held.{framesEnd, signTag, restBytes, waits, Stacked, ShownDue, ShownHad, Shown, NotStuck, framesOf, isPlain, isPair, MarkReady}
+use Rattle.notation.specs.Signs.{isPair}
+use Rattle.text_reader.specs.Held.{framesEnd, signTag, restBytes, waits, Stacked, ShownDue, ShownHad, Shown, NotStuck, framesOf, isPlain, MarkReady}
 use Rattle.text_reader.proofs.HeldLaws.{needs, mark-size, state-size, few-frames}
 use Rattle.text_reader.proofs.StoreLaws.{stacked-end, had-lengths}
 

@@ -19,7 +19,8 @@ use Rattle.format.proofs.Encoded.{length-termBytes}
 use Rattle.notation.specs.Marks.{Sign, semicolon, bar, star, Leaf, Mark, leafTerm, labelTerm, join}
 use Rattle.notation.specs.Written.{rank}
 use Rattle.notation.specs.FromRight.{Frame, waiting, bracket, State, due, had, stuck, reducedTerm, reducedFrames, unbracket}
-use Rattle.text_reader.specs.Held.{framesEnd, signTag, restBytes, waits, Stacked, ShownDue, ShownHad, Shown, NotStuck, rankTag, reducesMore, SameBelow, Reduced}
+use Rattle.notation.specs.Signs.{rankTag}
+use Rattle.text_reader.specs.Held.{framesEnd, signTag, restBytes, waits, Stacked, ShownDue, ShownHad, Shown, NotStuck, reducesMore, SameBelow, Reduced}
 use Rattle.text_reader.proofs.HeldLaws.{reduced-size}
 
 -- bytes stored from a place on

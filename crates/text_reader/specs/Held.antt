@@ -71,10 +71,6 @@ framesOf (due fs) = fs
 framesOf (had t fs) = fs
 framesOf stuck = []
 
--- how tight the sign of a tag binds
-unfoldable pub rankTag : ℕ → ℕ
-rankTag k = cond (eqb k 20) 2 (cond (eqb k 22) 1 0)
-
 -- whether the first frame is taken
 unfoldable pub reducesMore : (least : ℕ) → List Frame → Bool
 reducesMore n [] = false
@@ -91,12 +87,9 @@ pub record Reduced (n : ℕ) (t : Term) (fs : List Frame) (work out : List ℕ) 
   pub is-more : more ≡ reducesMore n frames
   pub ahead : 3 * waits frames ≤ front
 
--- the tags of `id` and `<>`, and those of signs
+-- the tags of `id` and `<>`
 unfoldable pub isPlain : ℕ → Bool
 isPlain k = cond (eqb k 17) true (eqb k 21)
-
-unfoldable pub isPair : ℕ → Bool
-isPair k = cond (eqb k 19) true (cond (eqb k 20) true (eqb k 22))
 
 -- bytes below a place are as they were
 abbrev pub SameBelow : (low : ℕ) → (w w′ : List ℕ) → Type 0

@@ -10,7 +10,9 @@ ghost use Rattle.format.specs.Encoding.{wordBytes, termBytes};
 ghost use Rattle.notation.specs.Marks.{Sign, Mark, join, labelTerm};
 ghost use Rattle.notation.specs.Written.{rank};
 ghost use Rattle.notation.specs.FromRight.{Frame, waiting, bracket, reducedTerm, reducedFrames, unbracket, stateOf};
-ghost use Rattle.text_reader.specs.Held.{framesEnd, signTag, Stacked, ShownDue, ShownHad, Shown, NotStuck, rankTag, reducesMore, waits, isPlain, isPair, SameBelow, MarkReady, Prepared};
+ghost use Rattle.text_reader.specs.Held.{framesEnd, signTag, Stacked, ShownDue, ShownHad, Shown, NotStuck, reducesMore, waits, isPlain, SameBelow, MarkReady, Prepared};
+use notation::signs::is_pair;
+use notation::signs::rank_of;
 use words::load16;
 use words::store16;
 
@@ -39,19 +41,6 @@ fn put_value(out: &mut [u8], at: usize, v: u16)
     ensures { λ _. ⌜ drop at (now (out .exit)) ≡ wordBytes v ++ drop (at + 2) (now (out .entry)) ⌝ }
 {
     store16(out, at, v);
-}
-
-// How tight the sign of a tag binds.
-fn rank_of(tag: u8) -> usize
-    ensures { λ r. ⌜ r ≡ rankTag tag ⌝ }
-{
-    if tag == 20 {
-        return 2;
-    }
-    if tag == 22 {
-        return 1;
-    }
-    0
 }
 
 // Whether the lowest frame is a sign that binds at least as tight.
@@ -212,19 +201,6 @@ fn is_plain(tag: u8) -> bool
         return true;
     }
     tag == 21
-}
-
-// The tag of a sign.
-fn is_pair(tag: u8) -> bool
-    ensures { λ r. ⌜ r ≡ isPair tag ⌝ }
-{
-    if tag == 19 {
-        return true;
-    }
-    if tag == 20 {
-        return true;
-    }
-    tag == 22
 }
 
 // One mark more, from the right.

@@ -11,7 +11,8 @@ use borrow.Author.Tests.{eq-eqb, ne-eqb}
 use Rattle.notation.specs.Written.{decimal}
 use Rattle.notation.proofs.RoundTrip.{decimal-few}
 use Rattle.text_writer.specs.declared.writing.Writing.{Writing}
-use Rattle.text_writer.specs.Spelling.{rankTag, byteOf, letterOf, signText, labelText, leafText, leafSize}
+use Rattle.notation.specs.Signs.{rankTag}
+use Rattle.text_writer.specs.Spelling.{byteOf, letterOf, signText, labelText, leafText, leafSize}
 use Rattle.text_writer.specs.Stack.{tagIn}
 use Rattle.text_writer.specs.Writing.{passed, takenUp}
 use Rattle.text_writer.proofs.StoreLaws.{sets-more}

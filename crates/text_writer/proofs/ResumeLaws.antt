@@ -10,7 +10,8 @@ use lib.Dec.{leb}
 use lib.Seq.{sets}
 use Rattle.format.specs.Terms.{Term}
 use Rattle.text_writer.specs.declared.writing.Writing.{Writing}
-use Rattle.text_writer.specs.Spelling.{textIn, rankTag, signText}
+use Rattle.notation.specs.Signs.{rankTag}
+use Rattle.text_writer.specs.Spelling.{textIn, signText}
 use Rattle.text_writer.specs.Stack.{Frame, bracket, pair, stackPlace, tagIn, frameByte, bracketOnTop, restText, restFields, RightsStand}
 use Rattle.text_writer.specs.Writing.{mostFrames, writingRoom, closed, takenUp, Due, Rests, Settled, Going, due, over}
 use Rattle.text_writer.proofs.StackLaws.{total, spell, pop, on-top, tag-back, followed-back, has-bracket, no-bracket}

@@ -9,7 +9,7 @@ use lib.Dec.{eqb, leb}
 use lib.ListN.{length, getD, set, take, length-append, length-set}
 use lib.Seq.{sets, length-sets, length-take-le, take-set-le, getD-set-same, getD-set-other}
 use borrow.Author.Tests.{eqb-true, eqb-false, eq-eqb, ne-eqb, le-leb, lt-leb}
-use Rattle.text_writer.specs.Spelling.{isPair}
+use Rattle.notation.specs.Signs.{isPair}
 use Rattle.text_writer.specs.Stack.{Frame, bracket, pair, stackPlace, pairByte, tagIn, frameByte, Stacked, bracketOnTop, RightsStand}
 use Rattle.text_writer.specs.Writing.{mostFrames, Holds}
 use Rattle.text_writer.proofs.StoreLaws.{sets-front, sets-behind}

@@ -13,7 +13,8 @@ use Rattle.format.specs.Standing.{Stands}
 use Rattle.format.proofs.StandsLaws.{tagOf}
 use Rattle.notation.specs.Marks.{Sign, semicolon, bar, star, Mark, sign, opening, closing, labelMark, signByte}
 use Rattle.notation.specs.Written.{rank, chain, bracketedIf, marksOf, decimal, markBytes, textOf}
-use Rattle.text_writer.specs.Spelling.{textIn, isPair, rankTag, byteOf, wrapsTag, letterOf, signText, labelText, leafText, leafSize}
+use Rattle.notation.specs.Signs.{isPair, rankTag}
+use Rattle.text_writer.specs.Spelling.{textIn, byteOf, wrapsTag, letterOf, signText, labelText, leafText, leafSize}
 
 pub no-way : {P : Type 0} → false ≡ true → P
 no-way e = let z : _≡_ {A = ℕ} 0 1 = cc in absurd (omega arith)

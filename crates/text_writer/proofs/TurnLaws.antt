@@ -11,7 +11,8 @@ use Rattle.words.specs.Word.{word}
 use Rattle.format.specs.Terms.{Term, size}
 use Rattle.format.proofs.StandsLaws.{tagOf, known}
 use Rattle.text_writer.specs.declared.writing.Writing.{Writing}
-use Rattle.text_writer.specs.Spelling.{textIn, isPair, rankTag, wrapsTag, signText, labelText, leafText, leafSize}
+use Rattle.notation.specs.Signs.{isPair, rankTag}
+use Rattle.text_writer.specs.Spelling.{textIn, wrapsTag, signText, labelText, leafText, leafSize}
 use Rattle.text_writer.specs.Stack.{Frame, bracket, pair, stackPlace, pairByte, frameByte, restText, restFields, RightsStand}
 use Rattle.text_writer.specs.Writing.{mostFrames, writingRoom, opened, intoPair, passed, Holds, Due, Plain, Rests, Going, due}
 use Rattle.text_writer.proofs.TextByTag.{wrap-text, unwrapped, pair-text, label-text, leaf-text, pair-tag, some-fields}

@@ -5,20 +5,13 @@ use mathlib.Core.List.{List, [], _∷_, _++_}
 use lib.Dec.{eqb, ltb}
 use Rattle.format.specs.Terms.{Term}
 use Rattle.notation.specs.Written.{decimal, marksOf, textOf}
+use Rattle.notation.specs.Signs.{isPair, rankTag}
 
 -- the text of a term, where a sign looser than `binds` needs brackets, and where a sign follows or not
 unfoldable pub textIn : Term → (binds : ℕ) → (followed : Bool) → List ℕ
 textIn t b f = textOf (marksOf t b f)
 
--- the tag of a sequence, a tensor or an alternation
-unfoldable pub isPair : ℕ → Bool
-isPair k = cond (eqb k 19) true (cond (eqb k 20) true (eqb k 22))
-
--- how tight its sign binds
-unfoldable pub rankTag : ℕ → ℕ
-rankTag k = cond (eqb k 20) 2 (cond (eqb k 22) 1 0)
-
--- the byte of its sign
+-- the byte of a pair's sign
 unfoldable pub byteOf : ℕ → ℕ
 byteOf k = cond (eqb k 20) 42 (cond (eqb k 22) 124 59)
 

@@ -7,7 +7,8 @@ use lib.Dec.{eqb, leb}
 use lib.ListN.{length, getD}
 use Rattle.format.specs.Terms.{Term, size, fields}
 use Rattle.format.specs.Standing.{Stands}
-use Rattle.text_writer.specs.Spelling.{textIn, isPair, rankTag, signText}
+use Rattle.notation.specs.Signs.{isPair, rankTag}
+use Rattle.text_writer.specs.Spelling.{textIn, signText}
 
 pub data Frame : Type 0 where
   bracket : Frame

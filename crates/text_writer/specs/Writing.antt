@@ -9,7 +9,8 @@ use Rattle.format.specs.Limits.{mostBytes}
 use Rattle.format.specs.Terms.{Term, size, fields}
 use Rattle.format.specs.Standing.{Stands}
 use Rattle.text_writer.specs.declared.writing.Writing.{Writing}
-use Rattle.text_writer.specs.Spelling.{textIn, rankTag, wrapsTag}
+use Rattle.notation.specs.Signs.{rankTag}
+use Rattle.text_writer.specs.Spelling.{textIn, wrapsTag}
 use Rattle.text_writer.specs.Stack.{Frame, stackPlace, tagIn, Stacked, bracketOnTop, restText, restFields, RightsStand}
 
 -- at most two frames for each of 4,096 term fields

@@ -1,32 +1,8 @@
 // How a term is written, by the tag of its field.
 ghost use mathlib.Core.Path.{_≡_};
-ghost use Rattle.text_writer.specs.Spelling.{isPair, rankTag, byteOf, wrapsTag, letterOf};
-
-// A sequence, a tensor or an alternation.
-pub fn is_pair(tag: u8) -> bool
-    ensures { λ r. ⌜ r ≡ isPair tag ⌝ }
-{
-    if tag == 19 {
-        return true;
-    }
-    if tag == 20 {
-        return true;
-    }
-    tag == 22
-}
-
-// How tight its sign binds.
-pub fn rank_of(tag: u8) -> usize
-    ensures { λ r. ⌜ r ≡ rankTag tag ⌝ }
-{
-    if tag == 20 {
-        return 2;
-    }
-    if tag == 22 {
-        return 1;
-    }
-    0
-}
+ghost use Rattle.text_writer.specs.Spelling.{byteOf, wrapsTag, letterOf};
+use notation::signs::is_pair;
+use notation::signs::rank_of;
 
 // The byte of its sign.
 pub fn byte_of(tag: u8) -> u8

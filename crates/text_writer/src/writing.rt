@@ -16,15 +16,15 @@ use crate::marks::put_numbered;
 use crate::marks::put_sign;
 use crate::marks::put_two;
 use crate::spelling::byte_of;
-use crate::spelling::is_pair;
 use crate::spelling::letter_of;
-use crate::spelling::rank_of;
 use crate::spelling::wraps;
 use crate::stack::FOLLOWED;
 use crate::stack::STACK;
 use crate::stack::bracket_on_top;
 use crate::stack::pair_byte;
 use crate::stack::tag_in;
+use notation::signs::is_pair;
+use notation::signs::rank_of;
 use words::load16;
 
 // How far the term is written: the place of the next field, the bytes written and those on the stack; and of the term at that place, how tight a sign must bind to need no brackets there, and whether a sign follows before the next closing bracket.

@@ -5,7 +5,7 @@ use mathlib.Core.Path.{_≡_, refl, sym, ap, _∙_}
 use lib.ListN.{length}
 use Prim.Native.Nat.{_-_}
 use native.Mathlib.Omega.{arith}
-use Rattle.text_reader.specs.Held.{rankTag}
+use Rattle.notation.specs.Signs.{rankTag}
 use Rattle.text_reader.proofs.StoreLaws.{rank-tag, reduced-as, had-lengths, shown-sign, sign-below}
 use Rattle.text_reader.proofs.term.on_sign.Statement.{statement}
 use Rattle.text_reader.proofs.term.on_sign.Tie as tie

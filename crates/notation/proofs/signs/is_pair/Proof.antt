@@ -1,9 +1,9 @@
--- `spelling::is_pair` meets its contract: each test says which case of `isPair` holds.
+-- `signs::is_pair` meets its contract: by its tests.
 -- Assumes nothing.
 use borrow.Author.Tests.{eq-eqb, ne-eqb}
-use Rattle.text_writer.specs.Spelling.{isPair}
-use Rattle.text_writer.proofs.spelling.is_pair.Statement.{statement}
-use Rattle.text_writer.proofs.spelling.is_pair.Tie as tie
+use Rattle.notation.specs.Signs.{isPair}
+use Rattle.notation.proofs.signs.is_pair.Statement.{statement}
+use Rattle.notation.proofs.signs.is_pair.Tie as tie
 
 returns : tie.Need-returns
 unfolding isPair
