@@ -1,4 +1,4 @@
--- P8: "the header gains HITAC_VERSION_MAJOR, HITAC_VERSION_MINOR and hitac_version(); the minor number goes up with each new call".
+-- The version of header and library (docs/DECISIONS.md, C45): the minor number goes up with each new call, the major number when programs must be compiled anew.
 -- 1.0 had five calls; read_text and write_text came after it.
 use Prim.Native.Nat.{ℕ}
 

@@ -15,7 +15,7 @@ use text_reader::entry::read_text;
 use text_writer::entry::write_text;
 use writer::entry::write_proof;
 
-// The major number goes up when a call or the answer changes, the minor one with each new call.
+// The minor number goes up with each new call, the major number when programs must be compiled anew.
 const MAJOR: u32 = 1;
 
 const MINOR: u32 = 2;

@@ -2,13 +2,13 @@
 -- Assumes nothing.
 use mathlib.Core.Path.{_≡_, refl, sym, ap, _∙_}
 use mathlib.Core.Bool.{Bool, true, false, cond}
-use mathlib.Core.List.{List, [], _∷_, _++_}
+use mathlib.Core.List.{List, [], _∷_, _++_, append-nil}
 use Prim.Native.Nat.{ℕ, zero, suc, _+_, _≤_, _<_, _/_, _%_}
 use native.Mathlib.Omega.{arith}
 use lib.Dec.{ltb}
 use borrow.Author.Tests.{lt-ltb, ltb-false}
-use Rattle.notation.specs.Letters.{letterA, question, letterT, leftSquare, rightSquare}
-use Rattle.notation.specs.Marks.{Sign, Leaf, ruleLeaf, idLeaf, emptyLeaf, goalLeaf, tacticLeaf, Mark, leaf, labelMark, sign, opening, closing, rule, identity, nothing, assertion, tactic, labelling, opens, closes}
+use Rattle.notation.specs.Letters.{blank, letterA, question, letterT, leftSquare, rightSquare, leftRound, starByte}
+use Rattle.notation.specs.Marks.{Sign, star, Spells, Leaf, ruleLeaf, idLeaf, emptyLeaf, goalLeaf, tacticLeaf, Mark, leaf, labelMark, sign, opening, closing, rule, identity, nothing, assertion, tactic, labelling, opens, closes}
 use Rattle.notation.specs.Passing.{MarkValue, MarkValues}
 use Rattle.notation.specs.Written.{digits, decimal, markBytes, textOf}
 use Rattle.notation.specs.Spacing.{NoSign, a-leaf, a-label, an-opening, a-closing, NoLeadingZero, Spaced, no-marks, spaced-sign, spaced-mark}
@@ -88,3 +88,28 @@ pub text-spaced : (ms : List Mark) → MarkValues ms → Spaced ms (textOf ms)
 unfolding textOf
 text-spaced [] v = no-marks
 text-spaced (m ∷ ms) v = mark-spaced m (v .0) (text-spaced ms (v .1))
+
+-- texts that are not spaced: a number with a leading zero, a sign without its blanks, a blank in front of a mark
+padded : (w r : List ℕ) → NoLeadingZero w → Spaced [] r → w ++ r ≡ letterA ∷ 48 ∷ 55 ∷ [] → ⊥
+padded w [] z no-marks e = let k : 55 ≡ rightSquare = z letterA 55 [] (sym (append-nil w) ∙ e) in omega arith
+
+pub no-padding : Spaced (leaf (ruleLeaf 7) ∷ []) (letterA ∷ 48 ∷ 55 ∷ []) → ⊥
+no-padding x = go x refl
+  where
+    go : {t : List ℕ} → Spaced (leaf (ruleLeaf 7) ∷ []) t → t ≡ letterA ∷ 48 ∷ 55 ∷ [] → ⊥
+    go (spaced-mark {w = w} {r = r} n s z p) e = padded w r z p e
+
+pub no-bare-sign : Spaced (sign star ∷ []) (starByte ∷ []) → ⊥
+no-bare-sign x = go x refl
+  where
+    go : {t : List ℕ} → Spaced (sign star ∷ []) t → t ≡ starByte ∷ [] → ⊥
+    go (spaced-sign s p) e = let k : _≡_ {A = ℕ} 0 1 = cc in omega arith
+
+bare : (w r : List ℕ) → Spells opening w → Spaced [] r → w ++ r ≡ blank ∷ leftRound ∷ [] → ⊥
+bare w r opens no-marks e = let k : leftRound ≡ blank = cc in omega arith
+
+pub no-other-blank : Spaced (opening ∷ []) (blank ∷ leftRound ∷ []) → ⊥
+no-other-blank x = go x refl
+  where
+    go : {t : List ℕ} → Spaced (opening ∷ []) t → t ≡ blank ∷ leftRound ∷ [] → ⊥
+    go (spaced-mark {w = w} {r = r} n s z p) e = bare w r s p e

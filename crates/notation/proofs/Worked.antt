@@ -12,4 +12,4 @@ use Rattle.notation.specs.Worked.{Holds, AllHold, no-more, _&_, workedLi
 
 pub worked : AllHold workedLines
 unfolding andThen isDigit chain bracketedIf marksOf digits decimal markBytes textOf written numberIn markAt withMark marksIn reducedTerm reducedFrames unbracket onMark stateOf wholeOf termOf completes beginsNumbered isSign onDue onHad digitMore leafEnds onDigits labelEnds onLabelDigits onBegun onLabelBegun onHalf stepIn step finished endIn atEnd scan termFound parse Holds workedLines
-worked = refl & refl & refl & refl & refl & refl & refl & refl & refl & refl & refl & refl & refl & refl & refl & refl & refl & refl & refl & refl & refl & refl & refl & refl & refl & refl & refl & refl & refl & refl & refl & refl & refl & refl & no-more
+worked = refl & refl & refl & refl & refl & refl & refl & refl & refl & refl & refl & refl & refl & refl & refl & refl & refl & refl & refl & refl & refl & refl & refl & refl & refl & refl & refl & refl & refl & refl & refl & refl & refl & refl & refl & refl & refl & refl & refl & no-more

@@ -31,7 +31,7 @@ reducedFrames n [] = []
 reducedFrames n (bracket ∷ fs) = bracket ∷ fs
 reducedFrames n (waiting s u ∷ fs) = cond (leb n (rank s)) (reducedFrames n fs) (waiting s u ∷ fs)
 
--- an opening bracket reducedTerm its closing one away
+-- an opening bracket takes its closing one away
 unfoldable pub unbracket : Term → List Frame → State
 unbracket t [] = stuck
 unbracket t (bracket ∷ fs) = had t fs

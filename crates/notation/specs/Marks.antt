@@ -53,7 +53,7 @@ pub data Digits : (front : ℕ) → List ℕ → (value : ℕ) → Type 0 where
   no-more : {v : ℕ} → Digits v [] v
   more : {v b n : ℕ} {ds : List ℕ} → IsDigit b → Digits (v * 10 + (b - 48)) ds n → Digits v (b ∷ ds) n
 
--- a number is one digit or more; "The reader reducedTerm leading zeros."
+-- a number is one digit or more; "The reader takes leading zeros."
 pub data Number : List ℕ → (value : ℕ) → Type 0 where
   number : {b n : ℕ} {ds : List ℕ} → IsDigit b → Digits (b - 48) ds n → Number (b ∷ ds) n
 

@@ -2,22 +2,25 @@
 use Prim.Native.Nat.{ℕ}
 use mathlib.Core.Path.{_≡_}
 use mathlib.Core.List.{List, [], _∷_}
-use Rattle.format.specs.Refusals.{Cause, textWrong, valueTooLarge}
+use Rattle.format.specs.Refusals.{Cause, limitPassed, textWrong, valueTooLarge}
 use Rattle.format.specs.Results.{gives, refused}
 use Rattle.format.specs.Values.{ruleName, goal, labelOf, tacticNo}
 use Rattle.format.specs.Terms.{Term, atomic, id, label, sequence, tensor, empty, alternation, assert, defined}
 use Rattle.notation.specs.Written.{written}
+use Rattle.notation.specs.Scans as S
 use Rattle.notation.specs.Parse.{parse}
 
--- a text and the term that it reads as, or its refusal; a term and its text
+-- a text and the term that it reads as, or its refusal; what is met in the bytes behind 4,096 marks that make fields; a term and its text
 pub data Line : Type 0 where
   reads : (text : List ℕ) → Term → Line
   refuses : (text : List ℕ) → Cause → (place : ℕ) → Line
+  meets : (rest : List ℕ) → Cause → (place : ℕ) → Line
   writes : Term → (text : List ℕ) → Line
 
 unfoldable pub Holds : Line → Type 0
 Holds (reads s t) = parse s ≡ gives t
 Holds (refuses s c p) = parse s ≡ refused c p
+Holds (meets s c p) = S.scan (S.scanned S.due 0 0 4096 0) 0 s ≡ refused c p
 Holds (writes t s) = written t ≡ s
 
 -- every line of a list holds
@@ -80,6 +83,16 @@ workedLines =
     ∷ refuses (91 ∷ 54 ∷ 53 ∷ 53 ∷ 51 ∷ 54 ∷ []) valueTooLarge 1
     -- `id;a00065536`
     ∷ refuses (105 ∷ 100 ∷ 59 ∷ 97 ∷ 48 ∷ 48 ∷ 48 ∷ 54 ∷ 53 ∷ 53 ∷ 51 ∷ 54 ∷ []) valueTooLarge 4
+    -- `a1x`: the mark is complete with its last digit
+    ∷ meets (97 ∷ 49 ∷ 120 ∷ []) limitPassed 0
+    -- `a70000`: "after any 37"
+    ∷ meets (97 ∷ 55 ∷ 48 ∷ 48 ∷ 48 ∷ 48 ∷ []) valueTooLarge 1
+    -- `ix`: "once complete"
+    ∷ meets (105 ∷ 120 ∷ []) textWrong 1
+    -- `[1x`
+    ∷ meets (91 ∷ 49 ∷ 120 ∷ []) textWrong 2
+    -- `((id`: brackets make no field
+    ∷ meets (40 ∷ 40 ∷ 105 ∷ 100 ∷ []) limitPassed 2
     -- `a1 * ([3]a2) ; a3`: "round the label itself if it would reach too far"
     ∷ writes (sequence (tensor (atomic (ruleName 1)) (label (labelOf 3) (atomic (ruleName 2)))) (atomic (ruleName 3))) (97 ∷ 49 ∷ 32 ∷ 42 ∷ 32 ∷ 40 ∷ 91 ∷ 51 ∷ 93 ∷ 97 ∷ 50 ∷ 41 ∷ 32 ∷ 59 ∷ 32 ∷ 97 ∷ 51 ∷ [])
     -- `a1 * [3]a2 ; a3`

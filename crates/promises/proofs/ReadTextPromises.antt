@@ -29,12 +29,17 @@ use Rattle.entries.specs.LentSpace.{Written, writeOut, writeIn}
 use Rattle.entries.specs.Texts.{readTextWork, readTextOutcome, readText}
 use Rattle.promises.specs.Ended.{InOther}
 use Rattle.promises.specs.WriteProofPromises.{wrote}
-use Rattle.promises.specs.ReadTextPromises.{TextReads, One-reading, ReadsText, ReadText-reads, RefusesText, ReadText-refuses, ReadTextRefuses, EndsText, ReadText-ends}
+use Rattle.promises.specs.ReadTextPromises.{TextReads, One-reading, ReadsText, ReadText-reads, RefusesText, ReadText-refuses, ReadText-too-long, ReadTextRefuses, EndsText, ReadText-ends}
 use Rattle.promises.proofs.LentLaws.{ends-written, other-file}
 use Rattle.promises.proofs.OutcomeLaws.{Comes, comes-done, comes-other, comes-own, written-ends}
 
 pub one-reading-only : One-reading
 one-reading-only text t u p q = one-reading p q
+
+-- 29
+unbegun : (text work out : List ℕ) → length work < readTextWork → readText text work out .answer ≡ answer.refusal 29 0 0 0
+unfolding readText writeIn number
+unbegun text work out h = rw (lt-ltb (length work) readTextWork h)
 
 -- the call, by what the text reads as
 module _ (text work out : List ℕ) (enough : readTextWork ≤ length work) where
@@ -89,7 +94,18 @@ module _ (text work out : List ℕ) (enough : readTextWork ≤ length work) wher
   to-refusal c p e = answer-of (refused c p) e ∙ refuses c p
 
 pub readText-reads : ReadText-reads
-readText-reads text work out h = record { written = written text work out h; only = only text work out h }
+readText-reads text work out h = record {
+  written = written text work out h;
+  only = only text work out h;
+  no-room = λ t x k. answer-of text work out h (gives t) (reads-text text t (x .short) (x .reads) (x .values) (x .few)) ∙ too-short text work out h t k;
+}
+
+first-number : number inputTooLong ≡ 1
+unfolding number
+first-number = refl
+
+pub readText-too-long : ReadText-too-long
+readText-too-long text work out h l = to-refusal text work out h inputTooLong 0 (too-long text l) ∙ ap (λ (n : ℕ). answer.refusal n 2 0 0) first-number
 
 -- what each of the three is met as
 module _ (text work out : List ℕ) (p : ℕ) (h : readTextWork ≤ length work) (l : length text ≤ 65535) where
@@ -166,9 +182,36 @@ comes-text text = by-size (decLt mostBytes (length text))
     by-size (yes h) = rw (too-long text h) (long text)
     by-size (no h) = by-parse (omega arith) (parse text) refl
 
+-- no number of a field: 29, 26, 0, 1, or what is met
+unfielded : (text : List ℕ) (c : Cause) (p : ℕ) → Verdict text c p → 2 ≤ number c → number c ≤ 4 → ⊥
+unfolding number
+unfielded text c p (wrong w) l m = omega arith
+unfielded text c p (over w) l m = omega arith
+unfielded text c p (fulls w) l m = omega arith
+
+no-field : (text work out : List ℕ) → 2 ≤ readText text work out .answer .number → readText text work out .answer .number ≤ 4 → ⊥
+no-field text work out = by-work (decLt (length work) readTextWork)
+  where
+    by-room : (h : readTextWork ≤ length work) (t : Term) → parse text ≡ gives t → Dec (length out < length (termBytes t)) → 2 ≤ readText text work out .answer .number → readText text work out .answer .number ≤ 4 → ⊥
+    by-room h t e (yes k) l m = omega (arith, l, m, ap (λ (a : Answer). a .number) (answer-of text work out h (gives t) e ∙ too-short text work out h t k))
+    by-room h t e (no k) l m = omega (arith, l, m, ap (λ (a : Answer). a .number) (answer-of text work out h (gives t) e ∙ ap (λ (x : Written). x .answer) (fits text work out h t (omega arith))))
+
+    refused-with : (h : readTextWork ≤ length work) (c : Cause) (p : ℕ) → parse text ≡ refused c p → Dec (mostBytes < length text) → 2 ≤ number c → number c ≤ 4 → ⊥
+    refused-with h c p e (yes k) l m = let q : _≡_ {A = Result Term} (refused inputTooLong 0) (refused c p) = sym (too-long text k) ∙ e in omega (arith, l, first-number, ap number (same-cause q))
+    refused-with h c p e (no k) l m = unfielded text c p (text-refused text c p (omega arith) e) l m
+
+    by-parse : (h : readTextWork ≤ length work) (r : Result Term) → parse text ≡ r → 2 ≤ readText text work out .answer .number → readText text work out .answer .number ≤ 4 → ⊥
+    by-parse h (gives t) e l m = by-room h t e (decLt (length out) (length (termBytes t))) l m
+    by-parse h (refused c p) e l m = let n = ap (λ (a : Answer). a .number) (to-refusal text work out h c p e) in refused-with h c p e (decLt mostBytes (length text)) (omega (arith, l, n)) (omega (arith, m, n))
+
+    by-work : Dec (length work < readTextWork) → 2 ≤ readText text work out .answer .number → readText text work out .answer .number ≤ 4 → ⊥
+    by-work (yes h) l m = omega (arith, l, m, ap (λ (a : Answer). a .number) (unbegun text work out h))
+    by-work (no h) l m = by-parse (omega arith) (parse text) refl l m
+
 pub readText-ends : ReadText-ends
 unfolding readText readTextOutcome
 readText-ends text work out = record {
   ends = ends-written [] text work out (InOther (ReadTextRefuses text)) readTextWork (readTextOutcome text) (written-ends (comes-text text));
   no-table = other-file readTextWork work out (parse text) termBytes;
+  no-field = no-field text work out;
 }

@@ -53,6 +53,10 @@ module _ (t : Term) (within : TermFileWithin t) where
   unfolding writeOut
   fits w o h = rw (le-ltb (length o) (length (written t)) h)
 
+  too-short : (w o : List ℕ) → length o < length (written t) → writeOut w o (done (written t)) .answer ≡ answer.refusal 26 0 0 0
+  unfolding writeOut number
+  too-short w o h = rw (lt-ltb (length o) (length (written t)) h)
+
   spaced-text : Spaced (marksOf t 0 false) (written t)
   unfolding written
   spaced-text = text-spaced (marksOf t 0 false) (marks-values t 0 false (within .term-values))
@@ -61,6 +65,7 @@ module _ (t : Term) (within : TermFileWithin t) where
   writes-text = record {
     text = written t;
     writes = λ w o h k. call (termBytes t) w o (gives t) h (term-file-back t within) ∙ fits w o k;
+    no-room = λ w o h k. ap (λ (c : Written). c .answer) (call (termBytes t) w o (gives t) h (term-file-back t within)) ∙ too-short w o k;
     longest = longest;
     reads = reads .reads;
     reads-back = λ w o h k. readText-reads (written t) w o h .written t reads k;

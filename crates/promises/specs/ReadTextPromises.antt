@@ -1,5 +1,5 @@
 -- Document 02, P8, for the entry read_text, as statements about its definition: "text that reads as a term has that reading only", and where a text is refused.
-use Prim.Native.Nat.{ℕ, _≤_}
+use Prim.Native.Nat.{ℕ, _≤_, _<_}
 use mathlib.Core.Path.{_≡_}
 use mathlib.Core.Logic.{_↔_, _⊎_}
 use mathlib.Core.List.{List, []}
@@ -28,6 +28,8 @@ One-reading = (text : List ℕ) (t u : Term) → ReadsAs text t → ReadsAs text
 pub record ReadsText (text work out : List ℕ) : Type 0 where
   pub written : (t : Term) → TextReads text t → length (termBytes t) ≤ length out → readText text work out ≡ wrote (termBytes t) work out
   pub only : readText text work out .answer .number ≡ 0 → (t : Term) × TextReads text t × (length (termBytes t) ≤ length out)
+  -- "26: output space shorter than the result"
+  pub no-room : (t : Term) → TextReads text t → length out < length (termBytes t) → readText text work out .answer ≡ answer.refusal 26 0 0 0
 
 abbrev pub ReadText-reads : Type 0
 ReadText-reads = (text work out : List ℕ) → readTextWork ≤ length work → ReadsText text work out
@@ -42,13 +44,18 @@ pub record RefusesText (text work out : List ℕ) (p : ℕ) : Type 0 where
 abbrev pub ReadText-refuses : Type 0
 ReadText-refuses = (text work out : List ℕ) (p : ℕ) → readTextWork ≤ length work → length text ≤ 65535 → RefusesText text work out p
 
--- Demand 1: 1 to 5 of the text, then 36 and 37 at a place within it or at its end; then 26; there is no table
+-- "1: input over 65,535 bytes", before the text is looked at
+abbrev pub ReadText-too-long : Type 0
+ReadText-too-long = (text work out : List ℕ) → readTextWork ≤ length work → 65535 < length text → readText text work out .answer ≡ answer.refusal 1 2 0 0
+
+-- Demand 1: 1 and 5 of the text, 36 and 37, at a place within it or at its end; then 26; there is no table, and there are no fields to be torn, of a wrong tag or of a wrong length
 abbrev pub ReadTextRefuses : (text : List ℕ) → (number place : ℕ) → Type 0
 ReadTextRefuses text n q = ((n ≡ 36) ⊎ (n ≡ 37)) × (q ≤ length text)
 
 pub record EndsText (text work out : List ℕ) : Type 0 where
   pub ends : EndsWritten [] text work out readTextWork (InOther (ReadTextRefuses text)) (readText text work out)
   pub no-table : readText text work out .answer .file ≡ 1 → ⊥
+  pub no-field : 2 ≤ readText text work out .answer .number → readText text work out .answer .number ≤ 4 → ⊥
 
 abbrev pub ReadText-ends : Type 0
 ReadText-ends = (text work out : List ℕ) → EndsText text work out

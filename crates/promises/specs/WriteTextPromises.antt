@@ -1,5 +1,5 @@
 -- Document 02, P8, for the entry write_text, as statements about its definition: "Text written from a term reads as that term", and how it is written.
-use Prim.Native.Nat.{ℕ, _≤_}
+use Prim.Native.Nat.{ℕ, _≤_, _<_}
 use mathlib.Core.Path.{_≡_}
 use mathlib.Core.Logic.{_↔_}
 use mathlib.Core.List.{List, [], _∷_, _++_}
@@ -11,6 +11,7 @@ use Rattle.notation.specs.Letters.{leftRound, rightRound}
 use Rattle.notation.specs.Marks.{Mark}
 use Rattle.notation.specs.Grammar.{End, Reads, sequences, ReadsAs}
 use Rattle.notation.specs.Spacing.{Spaced}
+use Rattle.answers.specs.Answers as answer
 use Rattle.entries.specs.Texts.{readTextWork, writeTextWork, readText, writeText}
 use Rattle.promises.specs.Ended.{InOther, EndsWritten}
 use Rattle.promises.specs.WriteProofPromises.{wrote}
@@ -19,6 +20,7 @@ use Rattle.promises.specs.WriteProofPromises.{wrote}
 pub record WritesText (file : List ℕ) (t : Term) : Type 0 where
   pub text : List ℕ
   pub writes : (w o : List ℕ) → writeTextWork ≤ length w → length text ≤ length o → writeText file w o ≡ wrote text w o
+  pub no-room : (w o : List ℕ) → writeTextWork ≤ length w → length o < length text → writeText file w o .answer ≡ answer.refusal 26 0 0 0
   pub longest : length text ≤ 28671
   -- "Text written from a term reads as that term"
   pub reads : ReadsAs text t
