@@ -18,7 +18,7 @@ use Rattle.notation.specs.MarksIn.{numberIn, markAt, withMark, marksIn}
 use Rattle.notation.specs.Scans.{Mode, mostValue, scanned, completes, beginsNumbered, isSign, onDue, onHad, onLabelDigits, labelEnds, onHalf, stepIn, step, endIn, atEnd, scan}
 use Rattle.notation.specs.Scans as M
 use Rattle.text_reader.specs.MarkList.{MarkStands}
-use Rattle.text_reader.specs.Places.{LeafByte, rule, goal, tactic, PairBytes, identity, nothing, SignByte, semicolon, star, bar}
+use Rattle.text_reader.specs.Places.{LeafByte, rule, goal, tactic, TwoBytes, identity, nothing, SignByte, semicolon, star, bar}
 
 -- a leaf with a number
 abbrev pub leafMark : {b tag : ℕ} → LeafByte b tag → ℕ → Mark
@@ -71,48 +71,48 @@ unfolding scan step stepIn onLabelDigits labelEnds andThen
 label-unclosed v k d f z at b r o n e = rw (n, o, e)
 
 -- a leaf of two bytes
-abbrev pub pairLeaf : {b second tag : ℕ} → PairBytes b second tag → Leaf
-pairLeaf identity = idLeaf
-pairLeaf nothing = emptyLeaf
+abbrev pub twoBytesLeaf : {b second tag : ℕ} → TwoBytes b second tag → Leaf
+twoBytesLeaf identity = idLeaf
+twoBytesLeaf nothing = emptyLeaf
 
-abbrev pub half : {b second tag : ℕ} → PairBytes b second tag → Mode
+abbrev pub half : {b second tag : ℕ} → TwoBytes b second tag → Mode
 half identity = M.halfId
 half nothing = M.halfEmpty
 
-pub pair-begins : {b second tag : ℕ} (x : PairBytes b second tag) (k d f z at : ℕ) (r : List ℕ) → scan (scanned M.due k d f z) at (b ∷ r) ≡ scan (scanned (half x) at d f z) (at + 1) r
+pub two-bytes-begins : {b second tag : ℕ} (x : TwoBytes b second tag) (k d f z at : ℕ) (r : List ℕ) → scan (scanned M.due k d f z) at (b ∷ r) ≡ scan (scanned (half x) at d f z) (at + 1) r
 unfolding scan step stepIn onDue beginsNumbered andThen
-pair-begins identity k d f z at r = refl
-pair-begins nothing k d f z at r = refl
+two-bytes-begins identity k d f z at r = refl
+two-bytes-begins nothing k d f z at r = refl
 
-pub pair-torn : {b second tag : ℕ} (x : PairBytes b second tag) (k d f z at : ℕ) → scan (scanned (half x) k d f z) at [] ≡ refused textWrong at
+pub two-bytes-torn : {b second tag : ℕ} (x : TwoBytes b second tag) (k d f z at : ℕ) → scan (scanned (half x) k d f z) at [] ≡ refused textWrong at
 unfolding scan atEnd endIn
-pair-torn identity k d f z at = refl
-pair-torn nothing k d f z at = refl
+two-bytes-torn identity k d f z at = refl
+two-bytes-torn nothing k d f z at = refl
 
-pub pair-other : {b second tag : ℕ} (x : PairBytes b second tag) (k d f z at c : ℕ) (r : List ℕ) → (c ≡ second → ⊥) → scan (scanned (half x) k d f z) at (c ∷ r) ≡ refused textWrong at
+pub two-bytes-other : {b second tag : ℕ} (x : TwoBytes b second tag) (k d f z at c : ℕ) (r : List ℕ) → (c ≡ second → ⊥) → scan (scanned (half x) k d f z) at (c ∷ r) ≡ refused textWrong at
 unfolding scan step stepIn onHalf andThen
-pair-other identity k d f z at c r n = rw (ne-eqb c 100 n)
-pair-other nothing k d f z at c r n = rw (ne-eqb c 62 n)
+two-bytes-other identity k d f z at c r n = rw (ne-eqb c 100 n)
+two-bytes-other nothing k d f z at c r n = rw (ne-eqb c 62 n)
 
-pub pair-full : {b second tag : ℕ} (x : PairBytes b second tag) (k d f z at : ℕ) (r : List ℕ) → leb mostTermFields f ≡ true → scan (scanned (half x) k d f z) at (second ∷ r) ≡ refused limitPassed k
+pub two-bytes-full : {b second tag : ℕ} (x : TwoBytes b second tag) (k d f z at : ℕ) (r : List ℕ) → leb mostTermFields f ≡ true → scan (scanned (half x) k d f z) at (second ∷ r) ≡ refused limitPassed k
 unfolding scan step stepIn onHalf andThen completes
-pair-full identity k d f z at r g = rw g
-pair-full nothing k d f z at r g = rw g
+two-bytes-full identity k d f z at r g = rw g
+two-bytes-full nothing k d f z at r g = rw g
 
-pub pair-done : {b second tag : ℕ} (x : PairBytes b second tag) (k d f z at : ℕ) (r : List ℕ) → leb mostTermFields f ≡ false → scan (scanned (half x) k d f z) at (second ∷ r) ≡ scan (scanned M.had k d (f + 1) (z + 3)) (at + 1) r
+pub two-bytes-done : {b second tag : ℕ} (x : TwoBytes b second tag) (k d f z at : ℕ) (r : List ℕ) → leb mostTermFields f ≡ false → scan (scanned (half x) k d f z) at (second ∷ r) ≡ scan (scanned M.had k d (f + 1) (z + 3)) (at + 1) r
 unfolding scan step stepIn onHalf andThen completes
-pair-done identity k d f z at r g = rw g
-pair-done nothing k d f z at r g = rw g
+two-bytes-done identity k d f z at r g = rw g
+two-bytes-done nothing k d f z at r g = rw g
 
-pub pair-marks : {b second tag : ℕ} (x : PairBytes b second tag) (r : List ℕ) → marksIn (b ∷ second ∷ r) ≡ leaf (pairLeaf x) ∷ marksIn r
+pub two-bytes-marks : {b second tag : ℕ} (x : TwoBytes b second tag) (r : List ℕ) → marksIn (b ∷ second ∷ r) ≡ leaf (twoBytesLeaf x) ∷ marksIn r
 unfolding marksIn markAt withMark
-pair-marks identity r = refl
-pair-marks nothing r = refl
+two-bytes-marks identity r = refl
+two-bytes-marks nothing r = refl
 
-pub pair-stands : {b second tag : ℕ} (x : PairBytes b second tag) (w : List ℕ) (at : ℕ) → getD w at 0 ≡ tag → MarkStands w at (leaf (pairLeaf x))
+pub two-bytes-stands : {b second tag : ℕ} (x : TwoBytes b second tag) (w : List ℕ) (at : ℕ) → getD w at 0 ≡ tag → MarkStands w at (leaf (twoBytesLeaf x))
 unfolding MarkStands
-pair-stands identity w at t = t
-pair-stands nothing w at t = t
+two-bytes-stands identity w at t = t
+two-bytes-stands nothing w at t = t
 
 -- a sign
 abbrev pub signOf : {b tag : ℕ} → SignByte b tag → Sign

@@ -22,7 +22,8 @@ use Rattle.notation.specs.Scans as M
 use Rattle.notation.specs.Scans.{mostValue, scanned, onDue, onHad, digitMore, onDigits, onLabelDigits, onBegun, onLabelBegun, stepIn, step, endIn, atEnd, scan}
 use Rattle.notation.proofs.TextLaws.{digit-none}
 use Rattle.notation.proofs.MeetLaws.{digit-is}
-use Rattle.text_reader.specs.Places.{modeOf, Skipped, Passed, NumberRead}
+use Rattle.notation.proofs.ScanLaws.{modeOf}
+use Rattle.text_reader.specs.Places.{Skipped, Passed, NumeralRead}
 
 -- the byte at a place, and those behind it
 pub here : (s : List ℕ) (at : ℕ) → at < length s → drop at s ≡ getD s at 0 ∷ drop (at + 1) s
@@ -182,7 +183,7 @@ number-stops v [] h = refl
 number-stops v (b ∷ r) h = ap (λ (c : Bool). cond c (numberIn (v * 10 + (b - 48)) r) v) h
 
 -- the value of a number that is not too large
-pub value-is : (s : List ℕ) (from v to : ℕ) → NumberRead s from v to → v ≤ mostValue → numberIn 0 (drop from s) ≡ v
+pub value-is : (s : List ℕ) (from v to : ℕ) → NumeralRead s from v to → v ≤ mostValue → numberIn 0 (drop from s) ≡ v
 value-is s from v to x h = x .passed .value h ∙ number-stops v (drop to s) (x .last)
 
 -- a mark is begun and no digit follows
@@ -196,8 +197,8 @@ unfolding scan step stepIn onLabelBegun andThen atEnd endIn
 label-begun-none k d f z at [] h = refl
 label-begun-none k d f z at (b ∷ r) h = rw h
 
-pub no-number : (s : List ℕ) (from v to : ℕ) → NumberRead s from v to → to ≡ from → (k d f z : ℕ) → scan (scanned M.begun k d f z) from (drop from s) ≡ refused textWrong from
-no-number s from v to x e k d f z = begun-none k d f z from (drop from s) (subst (λ (i : ℕ). NoDigit (drop i s)) e (x .last))
+pub no-numeral : (s : List ℕ) (from v to : ℕ) → NumeralRead s from v to → to ≡ from → (k d f z : ℕ) → scan (scanned M.begun k d f z) from (drop from s) ≡ refused textWrong from
+no-numeral s from v to x e k d f z = begun-none k d f z from (drop from s) (subst (λ (i : ℕ). NoDigit (drop i s)) e (x .last))
 
-pub no-label-number : (s : List ℕ) (from v to : ℕ) → NumberRead s from v to → to ≡ from → (k d f z : ℕ) → scan (scanned M.labelBegun k d f z) from (drop from s) ≡ refused textWrong from
-no-label-number s from v to x e k d f z = label-begun-none k d f z from (drop from s) (subst (λ (i : ℕ). NoDigit (drop i s)) e (x .last))
+pub no-label-numeral : (s : List ℕ) (from v to : ℕ) → NumeralRead s from v to → to ≡ from → (k d f z : ℕ) → scan (scanned M.labelBegun k d f z) from (drop from s) ≡ refused textWrong from
+no-label-numeral s from v to x e k d f z = label-begun-none k d f z from (drop from s) (subst (λ (i : ℕ). NoDigit (drop i s)) e (x .last))

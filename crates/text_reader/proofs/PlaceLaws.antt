@@ -18,37 +18,37 @@ use Rattle.notation.specs.MarksIn.{marksIn}
 use Rattle.notation.specs.Meets.{NoDigit}
 use Rattle.notation.specs.Scans.{mostValue, scanned, start, beginsNumbered, isSign, finished, endIn, atEnd, scan}
 use Rattle.notation.specs.Scans as M
-use Rattle.notation.proofs.ScanLaws.{digits-over, digits-full, digits-done, label-over, label-full, label-done}
+use Rattle.notation.proofs.ScanLaws.{modeOf, digits-over, digits-full, digits-done, label-over, label-full, label-done}
 use Rattle.text_reader.specs.MarkList.{MarkStands, MarksStand}
 use Rattle.text_reader.specs.Shapes.{scanShape}
-use Rattle.text_reader.specs.Places.{modeOf, Standing, Ready, Refuses, After, refusing, completed, movedTo, Moved, Opened, Closed, Skipped, NumberRead, LeafByte, PairBytes, SignByte}
-use Rattle.text_reader.specs.declared.scan.Place.{Place}
+use Rattle.text_reader.specs.Places.{Standing, Ready, Refuses, After, refusing, completed, movedTo, Moved, Opened, Closed, Skipped, NumeralRead, LeafByte, TwoBytes, SignByte}
+use Rattle.text_reader.specs.declared.scan.ScanState.{ScanState}
 use Rattle.text_reader.specs.declared.scan.ScanRead.the-variants as R
 use Rattle.text_reader.proofs.ListLaws.{listed-more, listed-skip, listed-start, listed-all, kept-number, kept-valued, number-stands, valued-number, valued-word}
-use Rattle.text_reader.proofs.PassLaws.{here, at-end, skipped-first, value-is, no-number, no-label-number}
-use Rattle.text_reader.proofs.MarkLaws.{leafMark, leaf-begins, leaf-marks, leaf-stands, label-begins, label-marks, label-stands, label-ends-marks, label-torn, label-unclosed, pairLeaf, half, pair-begins, pair-torn, pair-other, pair-full, pair-done, pair-marks, pair-stands, signOf, sign-full, sign-done, sign-marks, sign-stands, opening-scan, opening-marks, opening-stands, closing-scan, closing-marks, closing-stands, due-wrong, had-wrong}
+use Rattle.text_reader.proofs.PassLaws.{here, at-end, skipped-first, value-is, no-numeral, no-label-numeral}
+use Rattle.text_reader.proofs.MarkLaws.{leafMark, leaf-begins, leaf-marks, leaf-stands, label-begins, label-marks, label-stands, label-ends-marks, label-torn, label-unclosed, twoBytesLeaf, half, two-bytes-begins, two-bytes-torn, two-bytes-other, two-bytes-full, two-bytes-done, two-bytes-marks, two-bytes-stands, signOf, sign-full, sign-done, sign-marks, sign-stands, opening-scan, opening-marks, opening-stands, closing-scan, closing-marks, closing-stands, due-wrong, had-wrong}
 
-pub after-refused : (s w : List ℕ) (from : ℕ) (p r : Place) (c : Cause) (n x : ℕ) → r ≡ refusing p n x → n ≡ number c → (n ≡ 0 → ⊥) → scan start 0 s ≡ refused c x → After s w from r
+pub after-refused : (s w : List ℕ) (from : ℕ) (p r : ScanState) (c : Cause) (n x : ℕ) → r ≡ refusing p n x → n ≡ number c → (n ≡ 0 → ⊥) → scan start 0 s ≡ refused c x → After s w from r
 after-refused s w from p r c n x e is some scans =
     subst (After s w from) (sym e) (record { goes = λ z. absurd (some z); further = λ z. absurd (some z); refuses = λ z. record { cause = c; is = is; scans = scans } })
 
-after-stands : (s w : List ℕ) (from : ℕ) (r : Place) → Standing s w r → from < r .at → r .number ≡ 0 → After s w from r
+after-stands : (s w : List ℕ) (from : ℕ) (r : ScanState) → Standing s w r → from < r .at → r .number ≡ 0 → After s w from r
 after-stands s w from r st far z = record { goes = λ _. st; further = λ _. far; refuses = λ n. absurd (n z) }
 
 -- what is met from an earlier place on
-pub after-from : (s w : List ℕ) (a b : ℕ) (r : Place) → After s w a r → b ≤ a → After s w b r
+pub after-from : (s w : List ℕ) (a b : ℕ) (r : ScanState) → After s w a r → b ≤ a → After s w b r
 after-from s w a b r x h = record { goes = x .goes; further = λ z. let far = x .further z in omega arith; refuses = x .refuses }
 
 -- the text ends behind blanks and brackets
-pub after-end : (s w : List ℕ) (p r : Place) → Moved s w p r → p .at < length s → length s ≤ r .at → After s w (p .at) r
+pub after-end : (s w : List ℕ) (p r : ScanState) → Moved s w p r → p .at < length s → length s ≤ r .at → After s w (p .at) r
 after-end s w p r x h k = after-stands s w (p .at) r (x .standing) (omega arith) (x .unrefused)
 
 -- a byte is left behind blanks and brackets
-pub ready-past : (s w w′ : List ℕ) (p r : Place) → Ready s w p → Moved s w′ p r → length w′ ≡ length w → r .at < length s → Ready s w′ r
+pub ready-past : (s w w′ : List ℕ) (p r : ScanState) → Ready s w p → Moved s w′ p r → length w′ ≡ length w → r .at < length s → Ready s w′ r
 ready-past s w w′ p r h x e more = let room = h .room in record { standing = x .standing; more = more; short = h .short; room = omega arith }
 
 -- one byte further among blanks and brackets
-module _ (s w : List ℕ) (p : Place) (at depth count : ℕ) (x : Standing s w (movedTo p at depth count)) (more : at < length s) where
+module _ (s w : List ℕ) (p : ScanState) (at depth count : ℕ) (x : Standing s w (movedTo p at depth count)) (more : at < length s) where
   here-is : (b : ℕ) → getD s at 0 ≡ b → drop at s ≡ b ∷ drop (at + 1) s
   here-is b is = here s at more ∙ ap {B = List ℕ} (λ c. c ∷ drop (at + 1) s) is
 
@@ -105,13 +105,13 @@ pub not-both : (b x y : ℕ) → b ≡ x → (x ≡ y → ⊥) → b ≡ y → �
 not-both b x y e n f = n (sym e ∙ f)
 
 -- before the first of them, and behind the last
-pub run-starts : (s w : List ℕ) (p : Place) → Standing s w p → Standing s w (movedTo p (p .at) (p .depth) (p .count))
+pub run-starts : (s w : List ℕ) (p : ScanState) → Standing s w p → Standing s w (movedTo p (p .at) (p .depth) (p .count))
 run-starts s w p x = record { mark = x .mark; placed = x .placed; deep = x .deep; few = x .few; sized = x .sized; scans = x .scans; listed = x .listed }
 
-run-moved : (s w : List ℕ) (p r : Place) (at depth count : ℕ) → r ≡ movedTo p at depth count → Standing s w (movedTo p at depth count) → p .at ≤ at → Moved s w p r
+run-moved : (s w : List ℕ) (p r : ScanState) (at depth count : ℕ) → r ≡ movedTo p at depth count → Standing s w (movedTo p at depth count) → p .at ≤ at → Moved s w p r
 run-moved s w p r at depth count e x h = subst (Moved s w p) (sym e) (record { standing = x; rises = h; same = refl; unrefused = refl })
 
-module _ (s w : List ℕ) (p r : Place) (at depth count : ℕ) (e : r ≡ movedTo p at depth count) (x : Standing s w (movedTo p at depth count)) (up : p .at ≤ at) where
+module _ (s w : List ℕ) (p r : ScanState) (at depth count : ℕ) (e : r ≡ movedTo p at depth count) (x : Standing s w (movedTo p at depth count)) (up : p .at ≤ at) where
   pub opened-other : (getD s at 0 ≡ 32 → ⊥) → (getD s at 0 ≡ 40 → ⊥) → Opened s w p r
   opened-other a b = subst (Opened s w p) (sym e) (record { moved = run-moved s w p (movedTo p at depth count) at depth count refl x up; no-blank = λ l. a; no-bracket = λ l. b })
 
@@ -124,7 +124,7 @@ module _ (s w : List ℕ) (p r : Place) (at depth count : ℕ) (e : r ≡ movedT
   pub closed-end : length s ≤ at → Closed s w p r
   closed-end end = subst (Closed s w p) (sym e) (record { moved = run-moved s w p (movedTo p at depth count) at depth count refl x up; no-blank = λ l. absurd (omega arith); no-bracket = λ l. absurd (omega arith) })
 
-module _ (s w : List ℕ) (p : Place) (h : Ready s w p) where
+module _ (s w : List ℕ) (p : ScanState) (h : Ready s w p) where
   -- the scan and the marks from here on, by the byte that stands here
   scans-here : (due : Bool) (b : ℕ) → p .due ≡ due → getD s (p .at) 0 ≡ b → scan start 0 s ≡ scan (scanned (modeOf due) (h .standing .mark) (p .depth) (p .fields) (p .size)) (p .at) (b ∷ drop (p .at + 1) s)
   scans-here due b e is =
@@ -137,7 +137,7 @@ module _ (s w : List ℕ) (p : Place) (h : Ready s w p) where
   marks-here b is = ap marksIn (here s (p .at) (h .more)) ∙ ap (λ (i : ℕ). marksIn (i ∷ drop (p .at + 1) s)) is
 
   -- a mark that makes a field is complete
-  complete-ok : (w′ : List ℕ) (r : Place) (m : Mark) (next : ℕ) (due : Bool) (bytes : ℕ) → r ≡ completed p next due bytes → p .at < next → next ≤ length s → bytes ≤ 5
+  complete-ok : (w′ : List ℕ) (r : ScanState) (m : Mark) (next : ℕ) (due : Bool) (bytes : ℕ) → r ≡ completed p next due bytes → p .at < next → next ≤ length s → bytes ≤ 5
       → marksIn (drop (p .at) s) ≡ m ∷ marksIn (drop next s) → Kept w w′ (3 * p .count) (3 * p .count + 3) → MarkStands w′ (3 * p .count) m
       → (leb mostTermFields (p .fields) ≡ true → scan start 0 s ≡ refused limitPassed (p .at))
       → (leb mostTermFields (p .fields) ≡ false → (k : ℕ) × (scan start 0 s ≡ scan (scanned (modeOf due) k (p .depth) (p .fields + 1) (p .size + bytes)) next (drop next s)))
@@ -145,7 +145,7 @@ module _ (s w : List ℕ) (p : Place) (h : Ready s w p) where
   unfolding completed number
   complete-ok w′ r m next due bytes e far most few marks k stands full done = go (leb mostTermFields (p .fields)) refl
     where
-      behind : Place
+      behind : ScanState
       behind = record { at = next; due = due; depth = p .depth; fields = p .fields + 1; size = p .size + bytes; count = p .count + 1; number = 0; place = 0 }
 
       go : (x : Bool) → leb mostTermFields (p .fields) ≡ x → After s w′ (p .at) r
@@ -171,16 +171,16 @@ module _ (s w : List ℕ) (p : Place) (h : Ready s w p) where
   number-put : (w′ : List ℕ) (n : ℕ) → w′ ≡ set w (3 * p .count) n → getD w′ (3 * p .count) 0 ≡ n
   number-put w′ n e = ap (λ (l : List ℕ). getD l (3 * p .count) 0) e ∙ number-stands w (3 * p .count) n (omega (arith, room-here))
 
-  pub had-refused : (w′ : List ℕ) (r : Place) (b : ℕ) → p .due ≡ false → getD s (p .at) 0 ≡ b → (b ≡ 32 → ⊥) → isSign b ≡ false → (b ≡ 41 → p .depth ≡ 0) → r ≡ refusing p 36 (p .at) → After s w′ (p .at) r
+  pub had-refused : (w′ : List ℕ) (r : ScanState) (b : ℕ) → p .due ≡ false → getD s (p .at) 0 ≡ b → (b ≡ 32 → ⊥) → isSign b ≡ false → (b ≡ 41 → p .depth ≡ 0) → r ≡ refusing p 36 (p .at) → After s w′ (p .at) r
   unfolding number
   had-refused w′ r b due is n₁ n₂ n₃ e = after-refused s w′ (p .at) p r textWrong 36 (p .at) e refl (λ z. omega arith) (scans-here false b due is ∙ had-wrong (h .standing .mark) (p .depth) (p .fields) (p .size) (p .at) b (drop (p .at + 1) s) n₁ n₂ n₃)
 
-  pub due-refused : (w′ : List ℕ) (r : Place) (b : ℕ) → p .due ≡ true → getD s (p .at) 0 ≡ b → (b ≡ 32 → ⊥) → (b ≡ 40 → ⊥) → (b ≡ 91 → ⊥) → beginsNumbered b ≡ false → (b ≡ 105 → ⊥) → (b ≡ 60 → ⊥) → r ≡ refusing p 36 (p .at) → After s w′ (p .at) r
+  pub due-refused : (w′ : List ℕ) (r : ScanState) (b : ℕ) → p .due ≡ true → getD s (p .at) 0 ≡ b → (b ≡ 32 → ⊥) → (b ≡ 40 → ⊥) → (b ≡ 91 → ⊥) → beginsNumbered b ≡ false → (b ≡ 105 → ⊥) → (b ≡ 60 → ⊥) → r ≡ refusing p 36 (p .at) → After s w′ (p .at) r
   unfolding number
   due-refused w′ r b due is n₁ n₂ n₃ n₄ n₅ n₆ e = after-refused s w′ (p .at) p r textWrong 36 (p .at) e refl (λ z. omega arith) (scans-here true b due is ∙ due-wrong (h .standing .mark) (p .depth) (p .fields) (p .size) (p .at) b (drop (p .at + 1) s) n₁ n₂ n₃ n₄ n₅ n₆)
 
   -- a sign
-  pub sign-ok : (w′ : List ℕ) (r : Place) (b tag : ℕ) → p .due ≡ false → getD s (p .at) 0 ≡ b → SignByte b tag → w′ ≡ set w (3 * p .count) tag → r ≡ completed p (p .at + 1) true 3 → After s w′ (p .at) r
+  pub sign-ok : (w′ : List ℕ) (r : ScanState) (b tag : ℕ) → p .due ≡ false → getD s (p .at) 0 ≡ b → SignByte b tag → w′ ≡ set w (3 * p .count) tag → r ≡ completed p (p .at + 1) true 3 → After s w′ (p .at) r
   sign-ok w′ r b tag due is x put e =
       let more = h .more in
       complete-ok w′ r (sign (signOf x)) (p .at + 1) true 3 e (omega arith) (omega arith) (omega arith) (marks-here b is ∙ sign-marks x (drop (p .at + 1) s))
@@ -189,37 +189,37 @@ module _ (s w : List ℕ) (p : Place) (h : Ready s w p) where
       (λ g. (h .standing .mark, scans-here false b due is ∙ sign-done x (h .standing .mark) (p .depth) (p .fields) (p .size) (p .at) (drop (p .at + 1) s) g))
 
   -- a leaf of two bytes
-  module _ (b second tag : ℕ) (due : p .due ≡ true) (is : getD s (p .at) 0 ≡ b) (x : PairBytes b second tag) where
+  module _ (b second tag : ℕ) (due : p .due ≡ true) (is : getD s (p .at) 0 ≡ b) (x : TwoBytes b second tag) where
     half-scans : scan start 0 s ≡ scan (scanned (half x) (p .at) (p .depth) (p .fields) (p .size)) (p .at + 1) (drop (p .at + 1) s)
-    half-scans = scans-here true b due is ∙ pair-begins x (h .standing .mark) (p .depth) (p .fields) (p .size) (p .at) (drop (p .at + 1) s)
+    half-scans = scans-here true b due is ∙ two-bytes-begins x (h .standing .mark) (p .depth) (p .fields) (p .size) (p .at) (drop (p .at + 1) s)
 
-    pub pair-short : (w′ : List ℕ) (r : Place) → length s ≤ p .at + 1 → r ≡ refusing p 36 (p .at + 1) → After s w′ (p .at) r
+    pub two-bytes-short : (w′ : List ℕ) (r : ScanState) → length s ≤ p .at + 1 → r ≡ refusing p 36 (p .at + 1) → After s w′ (p .at) r
     unfolding number
-    pair-short w′ r l e =
+    two-bytes-short w′ r l e =
         after-refused s w′ (p .at) p r textWrong 36 (p .at + 1) e refl (λ z. omega arith)
-        (half-scans ∙ ap (scan (scanned (half x) (p .at) (p .depth) (p .fields) (p .size)) (p .at + 1)) (at-end s (p .at + 1) l) ∙ pair-torn x (p .at) (p .depth) (p .fields) (p .size) (p .at + 1))
+        (half-scans ∙ ap (scan (scanned (half x) (p .at) (p .depth) (p .fields) (p .size)) (p .at + 1)) (at-end s (p .at + 1) l) ∙ two-bytes-torn x (p .at) (p .depth) (p .fields) (p .size) (p .at + 1))
 
-    pub pair-refused : (w′ : List ℕ) (r : Place) → p .at + 1 < length s → (getD s (p .at + 1) 0 ≡ second → ⊥) → r ≡ refusing p 36 (p .at + 1) → After s w′ (p .at) r
+    pub two-bytes-refused : (w′ : List ℕ) (r : ScanState) → p .at + 1 < length s → (getD s (p .at + 1) 0 ≡ second → ⊥) → r ≡ refusing p 36 (p .at + 1) → After s w′ (p .at) r
     unfolding number
-    pair-refused w′ r l n e =
+    two-bytes-refused w′ r l n e =
         after-refused s w′ (p .at) p r textWrong 36 (p .at + 1) e refl (λ z. omega arith)
         (half-scans ∙ ap (scan (scanned (half x) (p .at) (p .depth) (p .fields) (p .size)) (p .at + 1)) (here s (p .at + 1) l)
-        ∙ pair-other x (p .at) (p .depth) (p .fields) (p .size) (p .at + 1) (getD s (p .at + 1) 0) (drop (p .at + 1 + 1) s) n)
+        ∙ two-bytes-other x (p .at) (p .depth) (p .fields) (p .size) (p .at + 1) (getD s (p .at + 1) 0) (drop (p .at + 1 + 1) s) n)
 
     second-is : p .at + 1 < length s → getD s (p .at + 1) 0 ≡ second → drop (p .at + 1) s ≡ second ∷ drop (p .at + 1 + 1) s
     second-is l n = here s (p .at + 1) l ∙ ap {B = List ℕ} (λ c. c ∷ drop (p .at + 1 + 1) s) n
 
-    pub pair-ok : (w′ : List ℕ) (r : Place) → p .at + 1 < length s → getD s (p .at + 1) 0 ≡ second → w′ ≡ set w (3 * p .count) tag → r ≡ completed p (p .at + 1 + 1) false 3 → After s w′ (p .at) r
-    pair-ok w′ r l n put e =
+    pub two-bytes-ok : (w′ : List ℕ) (r : ScanState) → p .at + 1 < length s → getD s (p .at + 1) 0 ≡ second → w′ ≡ set w (3 * p .count) tag → r ≡ completed p (p .at + 1 + 1) false 3 → After s w′ (p .at) r
+    two-bytes-ok w′ r l n put e =
         let scans : scan start 0 s ≡ scan (scanned (half x) (p .at) (p .depth) (p .fields) (p .size)) (p .at + 1) (second ∷ drop (p .at + 1 + 1) s) = half-scans ∙ ap (scan (scanned (half x) (p .at) (p .depth) (p .fields) (p .size)) (p .at + 1)) (second-is l n) in
-        complete-ok w′ r (leaf (pairLeaf x)) (p .at + 1 + 1) false 3 e (omega arith) (omega arith) (omega arith)
-        (marks-here b is ∙ ap (λ (t : List ℕ). marksIn (b ∷ t)) (second-is l n) ∙ pair-marks x (drop (p .at + 1 + 1) s))
-        (subst (λ (t : List ℕ). Kept w t (3 * p .count) (3 * p .count + 3)) (sym put) (kept-number w (3 * p .count) tag)) (pair-stands x w′ (3 * p .count) (number-put w′ tag put))
-        (λ g. scans ∙ pair-full x (p .at) (p .depth) (p .fields) (p .size) (p .at + 1) (drop (p .at + 1 + 1) s) g)
-        (λ g. (p .at, scans ∙ pair-done x (p .at) (p .depth) (p .fields) (p .size) (p .at + 1) (drop (p .at + 1 + 1) s) g))
+        complete-ok w′ r (leaf (twoBytesLeaf x)) (p .at + 1 + 1) false 3 e (omega arith) (omega arith) (omega arith)
+        (marks-here b is ∙ ap (λ (t : List ℕ). marksIn (b ∷ t)) (second-is l n) ∙ two-bytes-marks x (drop (p .at + 1 + 1) s))
+        (subst (λ (t : List ℕ). Kept w t (3 * p .count) (3 * p .count + 3)) (sym put) (kept-number w (3 * p .count) tag)) (two-bytes-stands x w′ (3 * p .count) (number-put w′ tag put))
+        (λ g. scans ∙ two-bytes-full x (p .at) (p .depth) (p .fields) (p .size) (p .at + 1) (drop (p .at + 1 + 1) s) g)
+        (λ g. (p .at, scans ∙ two-bytes-done x (p .at) (p .depth) (p .fields) (p .size) (p .at + 1) (drop (p .at + 1 + 1) s) g))
 
-  -- a number was read behind the first byte of a mark
-  module _ (v next : ℕ) (n : NumberRead s (p .at + 1) v next) where
+  -- a numeral was read behind the first byte of a mark
+  module _ (v next : ℕ) (n : NumeralRead s (p .at + 1) v next) where
     -- the value and the number of a mark are put in the list
     valued-kept : (w′ : List ℕ) (tag : ℕ) → w′ ≡ set (putWord w (3 * p .count + 1) v) (3 * p .count) tag → Kept w w′ (3 * p .count) (3 * p .count + 3)
     valued-kept w′ tag put = subst (λ (t : List ℕ). Kept w t (3 * p .count) (3 * p .count + 3)) (sym put) (kept-valued w (3 * p .count) v tag)
@@ -229,9 +229,9 @@ module _ (s w : List ℕ) (p : Place) (h : Ready s w p) where
       leaf-scans : scan start 0 s ≡ scan (scanned M.begun (p .at) (p .depth) (p .fields) (p .size)) (p .at + 1) (drop (p .at + 1) s)
       leaf-scans = scans-here true b due is ∙ leaf-begins x (h .standing .mark) (p .depth) (p .fields) (p .size) (p .at) (drop (p .at + 1) s)
 
-      pub leaf-none : (w′ : List ℕ) (r : Place) → next ≡ p .at + 1 → r ≡ refusing p 36 (p .at + 1) → After s w′ (p .at) r
+      pub leaf-none : (w′ : List ℕ) (r : ScanState) → next ≡ p .at + 1 → r ≡ refusing p 36 (p .at + 1) → After s w′ (p .at) r
       unfolding number
-      leaf-none w′ r l e = after-refused s w′ (p .at) p r textWrong 36 (p .at + 1) e refl (λ z. omega arith) (leaf-scans ∙ no-number s (p .at + 1) v next n l (p .at) (p .depth) (p .fields) (p .size))
+      leaf-none w′ r l e = after-refused s w′ (p .at) p r textWrong 36 (p .at + 1) e refl (λ z. omega arith) (leaf-scans ∙ no-numeral s (p .at + 1) v next n l (p .at) (p .depth) (p .fields) (p .size))
 
       digits-scans : p .at + 1 < next → scan start 0 s ≡ scan (scanned (M.inDigits v) (p .at) (p .depth) (p .fields) (p .size)) next (drop next s)
       digits-scans l = leaf-scans ∙ n .passed .leaves l (p .at) (p .depth) (p .fields) (p .size)
@@ -239,13 +239,13 @@ module _ (s w : List ℕ) (p : Place) (h : Ready s w p) where
       some-digit : (next ≡ p .at + 1 → ⊥) → p .at + 1 < next
       some-digit l = let up = n .passed .rises in omega arith
 
-      pub leaf-large : (w′ : List ℕ) (r : Place) → (next ≡ p .at + 1 → ⊥) → mostValue < v → r ≡ refusing p 37 (p .at + 1) → After s w′ (p .at) r
+      pub leaf-large : (w′ : List ℕ) (r : ScanState) → (next ≡ p .at + 1 → ⊥) → mostValue < v → r ≡ refusing p 37 (p .at + 1) → After s w′ (p .at) r
       unfolding number
       leaf-large w′ r l o e =
           after-refused s w′ (p .at) p r valueTooLarge 37 (p .at + 1) e refl (λ z. omega arith)
           (digits-scans (some-digit l) ∙ digits-over v (p .at) (p .depth) (p .fields) (p .size) next (drop next s) (n .last) (lt-ltb mostValue v o))
 
-      pub leaf-ok : (w₁ w′ : List ℕ) (r : Place) → (next ≡ p .at + 1 → ⊥) → v ≤ mostValue → w₁ ≡ putWord w (3 * p .count + 1) v → w′ ≡ set w₁ (3 * p .count) tag → r ≡ completed p next false 5 → After s w′ (p .at) r
+      pub leaf-ok : (w₁ w′ : List ℕ) (r : ScanState) → (next ≡ p .at + 1 → ⊥) → v ≤ mostValue → w₁ ≡ putWord w (3 * p .count + 1) v → w′ ≡ set w₁ (3 * p .count) tag → r ≡ completed p next false 5 → After s w′ (p .at) r
       leaf-ok w₁ w′ r l o put₁ put₂ e =
           let put : w′ ≡ set (putWord w (3 * p .count + 1) v) (3 * p .count) tag = put₂ ∙ ap (λ (t : List ℕ). set t (3 * p .count) tag) put₁ in
           let up = some-digit l in
@@ -264,26 +264,26 @@ module _ (s w : List ℕ) (p : Place) (h : Ready s w p) where
       label-scans : scan start 0 s ≡ scan (scanned M.labelBegun (p .at) (p .depth) (p .fields) (p .size)) (p .at + 1) (drop (p .at + 1) s)
       label-scans = scans-here true 91 due is ∙ label-begins (h .standing .mark) (p .depth) (p .fields) (p .size) (p .at) (drop (p .at + 1) s)
 
-      pub label-none : (w′ : List ℕ) (r : Place) → next ≡ p .at + 1 → r ≡ refusing p 36 (p .at + 1) → After s w′ (p .at) r
+      pub label-none : (w′ : List ℕ) (r : ScanState) → next ≡ p .at + 1 → r ≡ refusing p 36 (p .at + 1) → After s w′ (p .at) r
       unfolding number
-      label-none w′ r l e = after-refused s w′ (p .at) p r textWrong 36 (p .at + 1) e refl (λ z. omega arith) (label-scans ∙ no-label-number s (p .at + 1) v next n l (p .at) (p .depth) (p .fields) (p .size))
+      label-none w′ r l e = after-refused s w′ (p .at) p r textWrong 36 (p .at + 1) e refl (λ z. omega arith) (label-scans ∙ no-label-numeral s (p .at + 1) v next n l (p .at) (p .depth) (p .fields) (p .size))
 
       label-digits : (next ≡ p .at + 1 → ⊥) → scan start 0 s ≡ scan (scanned (M.inLabelDigits v) (p .at) (p .depth) (p .fields) (p .size)) next (drop next s)
       label-digits l = let up = n .passed .rises in label-scans ∙ n .passed .labels (omega arith) (p .at) (p .depth) (p .fields) (p .size)
 
-      pub label-large : (w′ : List ℕ) (r : Place) → (next ≡ p .at + 1 → ⊥) → mostValue < v → r ≡ refusing p 37 (p .at + 1) → After s w′ (p .at) r
+      pub label-large : (w′ : List ℕ) (r : ScanState) → (next ≡ p .at + 1 → ⊥) → mostValue < v → r ≡ refusing p 37 (p .at + 1) → After s w′ (p .at) r
       unfolding number
       label-large w′ r l o e =
           after-refused s w′ (p .at) p r valueTooLarge 37 (p .at + 1) e refl (λ z. omega arith)
           (label-digits l ∙ label-over v (p .at) (p .depth) (p .fields) (p .size) next (drop next s) (n .last) (lt-ltb mostValue v o))
 
-      pub label-short : (w′ : List ℕ) (r : Place) → (next ≡ p .at + 1 → ⊥) → v ≤ mostValue → length s ≤ next → r ≡ refusing p 36 next → After s w′ (p .at) r
+      pub label-short : (w′ : List ℕ) (r : ScanState) → (next ≡ p .at + 1 → ⊥) → v ≤ mostValue → length s ≤ next → r ≡ refusing p 36 next → After s w′ (p .at) r
       unfolding number
       label-short w′ r l o end e =
           after-refused s w′ (p .at) p r textWrong 36 next e refl (λ z. omega arith)
           (label-digits l ∙ ap (scan (scanned (M.inLabelDigits v) (p .at) (p .depth) (p .fields) (p .size)) next) (at-end s next end) ∙ label-torn v (p .at) (p .depth) (p .fields) (p .size) next (le-ltb mostValue v o))
 
-      pub label-refused : (w′ : List ℕ) (r : Place) → (next ≡ p .at + 1 → ⊥) → v ≤ mostValue → next < length s → (getD s next 0 ≡ 93 → ⊥) → r ≡ refusing p 36 next → After s w′ (p .at) r
+      pub label-refused : (w′ : List ℕ) (r : ScanState) → (next ≡ p .at + 1 → ⊥) → v ≤ mostValue → next < length s → (getD s next 0 ≡ 93 → ⊥) → r ≡ refusing p 36 next → After s w′ (p .at) r
       unfolding number
       label-refused w′ r l o end other e =
           after-refused s w′ (p .at) p r textWrong 36 next e refl (λ z. omega arith)
@@ -293,7 +293,7 @@ module _ (s w : List ℕ) (p : Place) (h : Ready s w p) where
       closed : next < length s → getD s next 0 ≡ 93 → drop next s ≡ 93 ∷ drop (next + 1) s
       closed end c = here s next end ∙ ap {B = List ℕ} (λ i. i ∷ drop (next + 1) s) c
 
-      pub label-ok : (w₁ w′ : List ℕ) (r : Place) → (next ≡ p .at + 1 → ⊥) → v ≤ mostValue → next < length s → getD s next 0 ≡ 93 → w₁ ≡ putWord w (3 * p .count + 1) v → w′ ≡ set w₁ (3 * p .count) 18 → r ≡ completed p (next + 1) true 5 → After s w′ (p .at) r
+      pub label-ok : (w₁ w′ : List ℕ) (r : ScanState) → (next ≡ p .at + 1 → ⊥) → v ≤ mostValue → next < length s → getD s next 0 ≡ 93 → w₁ ≡ putWord w (3 * p .count + 1) v → w′ ≡ set w₁ (3 * p .count) 18 → r ≡ completed p (next + 1) true 5 → After s w′ (p .at) r
       label-ok w₁ w′ r l o end c put₁ put₂ e =
           let put : w′ ≡ set (putWord w (3 * p .count + 1) v) (3 * p .count) 18 = put₂ ∙ ap (λ (t : List ℕ). set t (3 * p .count) 18) put₁ in
           let up = n .passed .rises in
@@ -321,7 +321,7 @@ pub not-read : (told place count size : ℕ) → R.Refused told place ≡ R.Read
 not-read t place count size e = let z : _≡_ {A = ℕ} 0 1 = cc in omega arith
 
 -- at the end of the text
-module _ (s w : List ℕ) (p : Place) (h : Standing s w p) (end : length s ≤ p .at) where
+module _ (s w : List ℕ) (p : ScanState) (h : Standing s w p) (end : length s ≤ p .at) where
   end-scans : (due : Bool) → p .due ≡ due → scan start 0 s ≡ scan (scanned (modeOf due) (h .mark) (p .depth) (p .fields) (p .size)) (p .at) []
   end-scans due e =
       h .scans

@@ -13,11 +13,12 @@ use Rattle.notation.specs.Marks.{Sign, semicolon, bar, star, Mark, closing}
 use Rattle.notation.specs.Passing.{sizes}
 use Rattle.notation.specs.FromRight.{Frame, waiting, bracket, State, due, had, stuck, reducedTerm, reducedFrames, stateOf, termOf}
 use Rattle.notation.specs.Written.{rank}
+use Rattle.entries.specs.Texts.{readTextWork}
 use Rattle.text_reader.specs.MarkList.{MarkStands, MarksStand}
 
 -- where the frames end: the size of the work space
 abbrev pub framesEnd : ℕ
-framesEnd = 196608
+framesEnd = readTextWork
 
 -- the tag of a sign's term
 abbrev pub signTag : Sign → ℕ

@@ -1,7 +1,7 @@
--- The scan of a text in the code, mark by mark: what holds where it stands between two marks, and what brackets, a number and a mark come to.
+-- The scan of a text in the code, mark by mark: what holds where it stands between two marks, and what brackets, a numeral and a mark come to.
 use Prim.Native.Nat.{ℕ, _+_, _*_, _≤_, _<_}
 use mathlib.Core.Path.{_≡_}
-use mathlib.Core.Bool.{Bool, true, false, cond}
+use mathlib.Core.Bool.{Bool, cond}
 use mathlib.Core.List.{List}
 use lib.Dec.{leb}
 use lib.ListN.{length, getD, drop}
@@ -10,15 +10,11 @@ use Rattle.format.specs.Refusals.{Cause, number}
 use Rattle.format.specs.Results.{refused}
 use Rattle.notation.specs.Meets.{NoDigit}
 use Rattle.notation.specs.MarksIn.{numberIn, marksIn}
-use Rattle.notation.specs.Scans.{Mode, mostValue, scanned, start, scan}
+use Rattle.notation.specs.Scans.{mostValue, scanned, start, scan}
 use Rattle.notation.specs.Scans as M
+use Rattle.notation.proofs.ScanLaws.{modeOf}
 use Rattle.text_reader.specs.MarkList.{MarksStand}
-use Rattle.text_reader.specs.declared.scan.Place.{Place}
-
--- the mode of the definition between two marks
-abbrev pub modeOf : Bool → Mode
-modeOf true = M.due
-modeOf false = M.had
+use Rattle.text_reader.specs.declared.scan.ScanState.{ScanState}
 
 -- The marks before a place are in the list; those that are left are the marks of the bytes from there on.
 pub record Listed (s w : List ℕ) (at count : ℕ) : Type 0 where
@@ -28,7 +24,7 @@ pub record Listed (s w : List ℕ) (at count : ℕ) : Type 0 where
   pub stand : MarksStand w (marksIn s) count
 
 -- The scan of the whole text is that of the bytes from here on. Between two marks the place of the mark begun last, which the definition keeps, has no effect.
-pub record Standing (s w : List ℕ) (p : Place) : Type 0 where
+pub record Standing (s w : List ℕ) (p : ScanState) : Type 0 where
   pub mark : ℕ
   pub placed : p .at ≤ length s
   pub deep : p .depth ≤ p .at
@@ -38,7 +34,7 @@ pub record Standing (s w : List ℕ) (p : Place) : Type 0 where
   pub listed : Listed s w (p .at) (p .count)
 
 -- a byte is left, and the list has room for a mark of each byte
-pub record Ready (s w : List ℕ) (p : Place) : Type 0 where
+pub record Ready (s w : List ℕ) (p : ScanState) : Type 0 where
   pub standing : Standing s w p
   pub more : p .at < length s
   pub short : length s < 65536
@@ -51,40 +47,40 @@ pub record Refuses (s : List ℕ) (told place : ℕ) : Type 0 where
   pub scans : scan start 0 s ≡ refused cause place
 
 -- Behind what begins at a place: the scan stands further on, or the text is refused.
-pub record After (s w : List ℕ) (from : ℕ) (r : Place) : Type 0 where
+pub record After (s w : List ℕ) (from : ℕ) (r : ScanState) : Type 0 where
   pub goes : r .number ≡ 0 → Standing s w r
   pub further : r .number ≡ 0 → from < r .at
   pub refuses : (r .number ≡ 0 → ⊥) → Refuses s (r .number) (r .place)
 
-abbrev pub refusing : Place → (told place : ℕ) → Place
+abbrev pub refusing : ScanState → (told place : ℕ) → ScanState
 refusing p told place = record { at = p .at; due = p .due; depth = p .depth; fields = p .fields; size = p .size; count = p .count; number = told; place = place }
 
 -- A mark that makes a field is complete, and the next byte is at a place: a field too many is refused where the mark began.
-unfoldable pub completed : Place → (next : ℕ) → (due : Bool) → (bytes : ℕ) → Place
+unfoldable pub completed : ScanState → (next : ℕ) → (due : Bool) → (bytes : ℕ) → ScanState
 completed p next due bytes =
     cond (leb mostTermFields (p .fields))
     (refusing p 5 (p .at))
     (record { at = next; due = due; depth = p .depth; fields = p .fields + 1; size = p .size + bytes; count = p .count + 1; number = 0; place = 0 })
 
 -- further on, with so many brackets not closed and so many marks in the list
-abbrev pub movedTo : Place → (at depth count : ℕ) → Place
+abbrev pub movedTo : ScanState → (at depth count : ℕ) → ScanState
 movedTo p at depth count = record { at = at; due = p .due; depth = depth; fields = p .fields; size = p .size; count = count; number = 0; place = 0 }
 
 -- Behind blanks and brackets: the scan stands at or behind the place where it stood, and the same is due.
-pub record Moved (s w : List ℕ) (p r : Place) : Type 0 where
+pub record Moved (s w : List ℕ) (p r : ScanState) : Type 0 where
   pub standing : Standing s w r
   pub rises : p .at ≤ r .at
   pub same : r .due ≡ p .due
   pub unrefused : r .number ≡ 0
 
 -- no blank and no bracket that opens comes next
-pub record Opened (s w : List ℕ) (p r : Place) : Type 0 where
+pub record Opened (s w : List ℕ) (p r : ScanState) : Type 0 where
   pub moved : Moved s w p r
   pub no-blank : r .at < length s → getD s (r .at) 0 ≡ 32 → ⊥
   pub no-bracket : r .at < length s → getD s (r .at) 0 ≡ 40 → ⊥
 
 -- no blank comes next, nor a bracket that closes while one is open
-pub record Closed (s w : List ℕ) (p r : Place) : Type 0 where
+pub record Closed (s w : List ℕ) (p r : ScanState) : Type 0 where
   pub moved : Moved s w p r
   pub no-blank : r .at < length s → getD s (r .at) 0 ≡ 32 → ⊥
   pub no-bracket : r .at < length s → getD s (r .at) 0 ≡ 41 → r .depth ≡ 0
@@ -107,7 +103,7 @@ pub record Passed (s : List ℕ) (from v to : ℕ) : Type 0 where
   pub value : v ≤ mostValue → numberIn 0 (drop from s) ≡ numberIn v (drop to s)
 
 -- and no digit follows
-pub record NumberRead (s : List ℕ) (from v to : ℕ) : Type 0 where
+pub record NumeralRead (s : List ℕ) (from v to : ℕ) : Type 0 where
   pub passed : Passed s from v to
   pub last : NoDigit (drop to s)
 
@@ -118,9 +114,9 @@ pub data LeafByte : (first tag : ℕ) → Type 0 where
   tactic : LeafByte 84 24
 
 -- The two bytes of a leaf without a number, and its tag.
-pub data PairBytes : (first second tag : ℕ) → Type 0 where
-  identity : PairBytes 105 100 17
-  nothing : PairBytes 60 62 21
+pub data TwoBytes : (first second tag : ℕ) → Type 0 where
+  identity : TwoBytes 105 100 17
+  nothing : TwoBytes 60 62 21
 
 -- The byte of a sign, and its tag.
 pub data SignByte : (byte tag : ℕ) → Type 0 where

@@ -16,12 +16,11 @@ use crate::term::write_term;
 use answers::Answer;
 use answers::refusal;
 use answers::wrote;
+use format::parts::MOST_BYTES;
 use words::clear;
 
 // The length of the work space: three bytes for each mark, of which a text has no more than bytes, and above them, from the end down, three for each sign or closing bracket that waits; as marks are read from the last to the first, the two never meet.
 const WORK: usize = FRAMES_END;
-
-const MOST_BYTES: usize = 65535;
 
 // The term of marks that were scanned to the end of their text, if there is room for it.
 fn write_found(count: usize, size: usize, work: &mut [u8], out: &mut [u8]) -> Answer

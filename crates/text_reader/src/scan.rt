@@ -8,7 +8,7 @@ ghost use Rattle.notation.specs.MarksIn.{marksIn};
 ghost use Rattle.notation.specs.Scans.{beginsNumbered, isSign, digitMore, start, scan};
 ghost use Rattle.text_reader.specs.MarkList.{MarksStand};
 ghost use Rattle.text_reader.specs.Shapes.{scanShape};
-ghost use Rattle.text_reader.specs.Places.{Standing, Ready, After, Opened, Closed, refusing, completed, movedTo, Skipped, NumberRead, LeafByte, PairBytes, SignByte};
+ghost use Rattle.text_reader.specs.Places.{Standing, Ready, After, Opened, Closed, refusing, completed, movedTo, Skipped, NumeralRead, LeafByte, TwoBytes, SignByte};
 ghost use Rattle.text_reader.specs.declared.scan.ScanRead.the-variants as R;
 
 const MOST_FIELDS: u32 = 4096;
@@ -21,12 +21,12 @@ pub enum ScanRead {
     Read(usize, usize),
 }
 
-// Where the scan stands between two marks. It is made anew from its numbers at each mark, so that they stay apart in the machine.
-pub struct Place {
+// Where the scan stands between two marks. It is made anew from its numbers at each mark; a copy changed in place costs more.
+pub struct ScanState {
     pub at: usize,
     // An operand is due; otherwise one was read.
     pub due: bool,
-    // The brackets that are not closed yet; the term fields made, the bytes of their headers and values; the marks in the list. The fields have a width of their own, or the compiler joins the two sums in one register and takes them out again at every mark.
+    // The brackets that are not closed yet; the term fields made, the bytes of their headers and values; the marks in the list. `fields` has another width than `size`, so that the compiler keeps the two sums apart.
     pub depth: usize,
     pub fields: u32,
     pub size: usize,
@@ -36,8 +36,8 @@ pub struct Place {
     pub place: usize,
 }
 
-// A number that was read, and the place behind its last digit.
-pub struct Number {
+// The value of a numeral, and the place behind its last digit.
+pub struct Numeral {
     pub value: usize,
     pub next: usize,
 }
@@ -84,27 +84,27 @@ fn past_blanks(text: &[u8], from: usize) -> usize
 }
 
 // The digits that stand at a place, if there are any.
-fn number_at(text: &[u8], from: usize) -> Number
+fn numeral_at(text: &[u8], from: usize) -> Numeral
     requires { ⌜ from ≤ length (now text) ⌝ }
-    ensures { λ r. ⌜ NumberRead (now (text .entry)) from (r .value) (r .next) ⌝ }
+    ensures { λ r. ⌜ NumeralRead (now (text .entry)) from (r .value) (r .next) ⌝ }
 {
     let mut at = from;
     let mut value: usize = 0;
     while at < text.len() {
         let b = wide(text[at]);
         if !is_digit(b) {
-            return Number { value, next: at };
+            return Numeral { value, next: at };
         }
         value = digit_more(value, b);
         at += 1;
     }
-    Number { value, next: at }
+    Numeral { value, next: at }
 }
 
-fn refused(here: Place, number: u8, place: usize) -> Place
+fn refused(here: ScanState, number: u8, place: usize) -> ScanState
     ensures { λ r. ⌜ r ≡ refusing here number place ⌝ }
 {
-    Place {
+    ScanState {
         at: here.at,
         due: here.due,
         depth: here.depth,
@@ -117,7 +117,7 @@ fn refused(here: Place, number: u8, place: usize) -> Place
 }
 
 // The byte behind the first of a mark is wrong, or the text ends there: 36 at that place.
-fn wrong_second(here: Place) -> Place
+fn wrong_second(here: ScanState) -> ScanState
     requires { ⌜ here .at < 65536 ⌝ }
     ensures { λ r. ⌜ r ≡ refusing here 36 (here .at + 1) ⌝ }
 {
@@ -125,7 +125,7 @@ fn wrong_second(here: Place) -> Place
 }
 
 // The value of a mark is over 65,535: 37 at its first digit.
-fn too_large(here: Place) -> Place
+fn too_large(here: ScanState) -> ScanState
     requires { ⌜ here .at < 65536 ⌝ }
     ensures { λ r. ⌜ r ≡ refusing here 37 (here .at + 1) ⌝ }
 {
@@ -133,10 +133,10 @@ fn too_large(here: Place) -> Place
 }
 
 // Further on, with so many brackets not closed and so many marks in the list.
-fn moved(here: Place, at: usize, depth: usize, count: usize) -> Place
+fn moved(here: ScanState, at: usize, depth: usize, count: usize) -> ScanState
     ensures { λ r. ⌜ r ≡ movedTo here at depth count ⌝ }
 {
-    Place {
+    ScanState {
         at,
         due: here.due,
         depth,
@@ -149,7 +149,7 @@ fn moved(here: Place, at: usize, depth: usize, count: usize) -> Place
 }
 
 // Behind the blanks and the brackets that open here. A text can have many more of these than of term fields, so that they have a loop of their own.
-fn past_openings(text: &[u8], work: &mut [u8], here: Place) -> Place
+fn past_openings(text: &[u8], work: &mut [u8], here: ScanState) -> ScanState
     requires { ⌜ Ready (now text) (now work) here × (here .due ≡ true) ⌝ }
     ensures { λ r. ⌜ Opened (now (text .entry)) (now (work .exit)) here r ⌝ }
 {
@@ -175,7 +175,7 @@ fn past_openings(text: &[u8], work: &mut [u8], here: Place) -> Place
 }
 
 // Behind the blanks and the brackets that close here, as long as one is open.
-fn past_closings(text: &[u8], work: &mut [u8], here: Place) -> Place
+fn past_closings(text: &[u8], work: &mut [u8], here: ScanState) -> ScanState
     requires { ⌜ Ready (now text) (now work) here × (here .due ≡ false) ⌝ }
     ensures { λ r. ⌜ Closed (now (text .entry)) (now (work .exit)) here r ⌝ }
 {
@@ -204,7 +204,14 @@ fn past_closings(text: &[u8], work: &mut [u8], here: Place) -> Place
 }
 
 // A mark that makes a field is complete: it is put in the list, and the field is counted unless it is one too many.
-fn complete(work: &mut [u8], here: Place, tag: u8, next: usize, due: bool, bytes: usize) -> Place
+fn complete(
+    work: &mut [u8],
+    here: ScanState,
+    tag: u8,
+    next: usize,
+    due: bool,
+    bytes: usize,
+) -> ScanState
     requires { ⌜ (3 * here .count < length (now work)) × (here .count < 65536) × (here .size ≤ 65536) × (bytes ≤ 5) ⌝ }
     ensures { λ r. ⌜ r ≡ completed here next due bytes ⌝ }
     ensures { λ _. ⌜ now (work .exit) ≡ set (now (work .entry)) (3 * here .count) tag ⌝ }
@@ -214,7 +221,7 @@ fn complete(work: &mut [u8], here: Place, tag: u8, next: usize, due: bool, bytes
     if MOST_FIELDS <= here.fields {
         return refused(here, 5, here.at);
     }
-    Place {
+    ScanState {
         at: next,
         due,
         depth: here.depth,
@@ -227,12 +234,12 @@ fn complete(work: &mut [u8], here: Place, tag: u8, next: usize, due: bool, bytes
 }
 
 // `a12`, `?30` or `T4`.
-fn leaf(text: &[u8], work: &mut [u8], here: Place, tag: u8) -> Place
+fn leaf(text: &[u8], work: &mut [u8], here: ScanState, tag: u8) -> ScanState
     requires { ⌜ Ready (now text) (now work) here × (here .due ≡ true) × LeafByte (getD (now text) (here .at) 0) tag ⌝ }
     ensures { λ r. ⌜ After (now (text .entry)) (now (work .exit)) (here .at) r ⌝ }
 {
     let from = here.at + 1;
-    let read = number_at(text, from);
+    let read = numeral_at(text, from);
     let value = read.value;
     let next = read.next;
     if next == from {
@@ -246,12 +253,12 @@ fn leaf(text: &[u8], work: &mut [u8], here: Place, tag: u8) -> Place
 }
 
 // `[3]`. The value is judged before the bracket that closes it.
-fn label(text: &[u8], work: &mut [u8], here: Place) -> Place
+fn label(text: &[u8], work: &mut [u8], here: ScanState) -> ScanState
     requires { ⌜ Ready (now text) (now work) here × (here .due ≡ true) × (getD (now text) (here .at) 0 ≡ 91) ⌝ }
     ensures { λ r. ⌜ After (now (text .entry)) (now (work .exit)) (here .at) r ⌝ }
 {
     let from = here.at + 1;
-    let read = number_at(text, from);
+    let read = numeral_at(text, from);
     let value = read.value;
     let next = read.next;
     if next == from {
@@ -271,8 +278,8 @@ fn label(text: &[u8], work: &mut [u8], here: Place) -> Place
 }
 
 // `id` or `<>`.
-fn pair(text: &[u8], work: &mut [u8], here: Place, second: u8, tag: u8) -> Place
-    requires { ⌜ Ready (now text) (now work) here × (here .due ≡ true) × PairBytes (getD (now text) (here .at) 0) second tag ⌝ }
+fn two_bytes(text: &[u8], work: &mut [u8], here: ScanState, second: u8, tag: u8) -> ScanState
+    requires { ⌜ Ready (now text) (now work) here × (here .due ≡ true) × TwoBytes (getD (now text) (here .at) 0) second tag ⌝ }
     ensures { λ r. ⌜ After (now (text .entry)) (now (work .exit)) (here .at) r ⌝ }
 {
     let from = here.at + 1;
@@ -318,7 +325,7 @@ fn sign_tag(b: u8) -> u8
 }
 
 // An operand is due.
-fn on_due(text: &[u8], work: &mut [u8], here: Place) -> Place
+fn on_due(text: &[u8], work: &mut [u8], here: ScanState) -> ScanState
     requires { ⌜ Ready (now text) (now work) here × (here .due ≡ true) ⌝ }
     ensures { λ r. ⌜ After (now (text .entry)) (now (work .exit)) (here .at) r ⌝ }
 {
@@ -336,16 +343,16 @@ fn on_due(text: &[u8], work: &mut [u8], here: Place) -> Place
         return leaf(text, work, past, tag);
     }
     if b == 105 {
-        return pair(text, work, past, 100, 17);
+        return two_bytes(text, work, past, 100, 17);
     }
     if b == 60 {
-        return pair(text, work, past, 62, 21);
+        return two_bytes(text, work, past, 62, 21);
     }
     refused(past, 36, at)
 }
 
 // An operand was read.
-fn on_had(text: &[u8], work: &mut [u8], here: Place) -> Place
+fn on_had(text: &[u8], work: &mut [u8], here: ScanState) -> ScanState
     requires { ⌜ Ready (now text) (now work) here × (here .due ≡ false) ⌝ }
     ensures { λ r. ⌜ After (now (text .entry)) (now (work .exit)) (here .at) r ⌝ }
 {
@@ -362,7 +369,7 @@ fn on_had(text: &[u8], work: &mut [u8], here: Place) -> Place
 }
 
 // Behind the next mark that is no bracket, or at the end of the text.
-fn pass(text: &[u8], work: &mut [u8], here: Place) -> Place
+fn pass(text: &[u8], work: &mut [u8], here: ScanState) -> ScanState
     requires { ⌜ Ready (now text) (now work) here ⌝ }
     ensures { λ r. ⌜ After (now (text .entry)) (now (work .exit)) (here .at) r ⌝ }
 {
@@ -378,7 +385,7 @@ pub fn scan_text(text: &[u8], work: &mut [u8]) -> ScanRead
     ensures { λ r. ⌜ r ≡ scanShape (length (marksIn (now (text .entry)))) (scan start 0 (now (text .entry))) ⌝ }
     ensures { λ r. ⌜ ((count size : ℕ) → r ≡ R.Read count size → MarksStand (now (work .exit)) (marksIn (now (text .entry))) count) ⌝ }
 {
-    let mut here = Place {
+    let mut here = ScanState {
         at: 0,
         due: true,
         depth: 0,

@@ -20,7 +20,7 @@ use words::store16;
 pub const FRAMES_END: usize = 196608;
 
 // Where the bytes written so far begin, where the term read last ends, and the lowest frame in the work space.
-pub struct Writing {
+pub struct TermState {
     pub front: usize,
     pub stop: usize,
     pub low: usize,
@@ -59,17 +59,17 @@ fn reduces_more(low: usize, least: usize, work: &[u8]) -> bool
 }
 
 // The lowest frame, a sign, with the term read last.
-fn reduce_one(writing: Writing, work: &[u8], out: &mut [u8]) -> Writing
-    requires { ⌜ (3 ≤ writing .front) × (framesEnd ≤ length (now work)) × (length (now out) < 65536) × ((t : Term) × (s : Sign) × (u : Term) × (fs : List Frame) × ShownHad t (waiting s u ∷ fs) (now work) (now out) (writing .front) (writing .stop) (writing .low)) ⌝ }
-    ensures { λ r. ⌜ ((t : Term) (s : Sign) (u : Term) (fs : List Frame) → ShownHad t (waiting s u ∷ fs) (now (work .entry)) (now (out .entry)) (writing .front) (writing .stop) (writing .low) → ShownHad (join s t u) fs (now (work .entry)) (now (out .exit)) (r .front) (r .stop) (r .low)) ⌝ }
-    ensures { λ r. ⌜ (r .front + 3 ≡ writing .front) × (writing .low + 3 ≡ r .low) × (r .low ≤ framesEnd) ⌝ }
+fn reduce_one(held: TermState, work: &[u8], out: &mut [u8]) -> TermState
+    requires { ⌜ (3 ≤ held .front) × (framesEnd ≤ length (now work)) × (length (now out) < 65536) × ((t : Term) × (s : Sign) × (u : Term) × (fs : List Frame) × ShownHad t (waiting s u ∷ fs) (now work) (now out) (held .front) (held .stop) (held .low)) ⌝ }
+    ensures { λ r. ⌜ ((t : Term) (s : Sign) (u : Term) (fs : List Frame) → ShownHad t (waiting s u ∷ fs) (now (work .entry)) (now (out .entry)) (held .front) (held .stop) (held .low) → ShownHad (join s t u) fs (now (work .entry)) (now (out .exit)) (r .front) (r .stop) (r .low)) ⌝ }
+    ensures { λ r. ⌜ (r .front + 3 ≡ held .front) × (held .low + 3 ≡ r .low) × (r .low ≤ framesEnd) ⌝ }
 {
-    let front = writing.front;
-    let low = writing.low;
+    let front = held.front;
+    let low = held.low;
     let kind = work[low];
     let end = load16(work, low + 1) as usize;
     put_header(out, front - 3, kind, end - front);
-    Writing {
+    TermState {
         front: front - 3,
         stop: end,
         low: low + 3,
@@ -77,12 +77,12 @@ fn reduce_one(writing: Writing, work: &[u8], out: &mut [u8]) -> Writing
 }
 
 // Every sign among the lowest frames that binds at least as tight, with the term read last.
-fn reduce(least: usize, writing: Writing, work: &[u8], out: &mut [u8]) -> Writing
-    requires { ⌜ (framesEnd ≤ length (now work)) × (length (now out) < 65536) × ((t : Term) × (fs : List Frame) × ShownHad t fs (now work) (now out) (writing .front) (writing .stop) (writing .low) × (3 * waits fs ≤ writing .front)) ⌝ }
-    ensures { λ r. ⌜ ((t : Term) (fs : List Frame) → ShownHad t fs (now (work .entry)) (now (out .entry)) (writing .front) (writing .stop) (writing .low) → 3 * waits fs ≤ writing .front → ShownHad (reducedTerm least t fs) (reducedFrames least fs) (now (work .entry)) (now (out .exit)) (r .front) (r .stop) (r .low)) ⌝ }
-    ensures { λ r. ⌜ (writing .low ≤ r .low) × (r .low ≤ framesEnd) ⌝ }
+fn reduce(least: usize, held: TermState, work: &[u8], out: &mut [u8]) -> TermState
+    requires { ⌜ (framesEnd ≤ length (now work)) × (length (now out) < 65536) × ((t : Term) × (fs : List Frame) × ShownHad t fs (now work) (now out) (held .front) (held .stop) (held .low) × (3 * waits fs ≤ held .front)) ⌝ }
+    ensures { λ r. ⌜ ((t : Term) (fs : List Frame) → ShownHad t fs (now (work .entry)) (now (out .entry)) (held .front) (held .stop) (held .low) → 3 * waits fs ≤ held .front → ShownHad (reducedTerm least t fs) (reducedFrames least fs) (now (work .entry)) (now (out .exit)) (r .front) (r .stop) (r .low)) ⌝ }
+    ensures { λ r. ⌜ (held .low ≤ r .low) × (r .low ≤ framesEnd) ⌝ }
 {
-    let mut here = writing;
+    let mut here = held;
     let mut more = reduces_more(here.low, least, work);
     while more {
         here = reduce_one(here, work, out);
@@ -101,47 +101,47 @@ fn push(kind: u8, end: usize, low: usize, work: &mut [u8])
 }
 
 // A term with a value: 5 bytes.
-fn put_valued(tag: u8, v: u16, writing: Writing, out: &mut [u8]) -> Writing
-    requires { ⌜ (5 ≤ writing .front) × (writing .front ≤ length (now out)) ⌝ }
-    ensures { λ r. ⌜ drop (r .front) (now (out .exit)) ≡ tag ∷ (wordBytes 2 ++ (wordBytes v ++ drop (writing .front) (now (out .entry)))) ⌝ }
-    ensures { λ r. ⌜ (r .front + 5 ≡ writing .front) × (r .stop ≡ writing .front) × (r .low ≡ writing .low) ⌝ }
+fn put_valued(tag: u8, v: u16, held: TermState, out: &mut [u8]) -> TermState
+    requires { ⌜ (5 ≤ held .front) × (held .front ≤ length (now out)) ⌝ }
+    ensures { λ r. ⌜ drop (r .front) (now (out .exit)) ≡ tag ∷ (wordBytes 2 ++ (wordBytes v ++ drop (held .front) (now (out .entry)))) ⌝ }
+    ensures { λ r. ⌜ (r .front + 5 ≡ held .front) × (r .stop ≡ held .front) × (r .low ≡ held .low) ⌝ }
 {
-    let front = writing.front;
+    let front = held.front;
     put_value(out, front - 2, v);
     put_header(out, front - 5, tag, 2);
-    Writing {
+    TermState {
         front: front - 5,
         stop: front,
-        low: writing.low,
+        low: held.low,
     }
 }
 
 // A term without a value: 3 bytes.
-fn put_plain(tag: u8, writing: Writing, out: &mut [u8]) -> Writing
-    requires { ⌜ (3 ≤ writing .front) × (writing .front ≤ length (now out)) ⌝ }
-    ensures { λ r. ⌜ drop (r .front) (now (out .exit)) ≡ tag ∷ (wordBytes 0 ++ drop (writing .front) (now (out .entry))) ⌝ }
-    ensures { λ r. ⌜ (r .front + 3 ≡ writing .front) × (r .stop ≡ writing .front) × (r .low ≡ writing .low) ⌝ }
+fn put_plain(tag: u8, held: TermState, out: &mut [u8]) -> TermState
+    requires { ⌜ (3 ≤ held .front) × (held .front ≤ length (now out)) ⌝ }
+    ensures { λ r. ⌜ drop (r .front) (now (out .exit)) ≡ tag ∷ (wordBytes 0 ++ drop (held .front) (now (out .entry))) ⌝ }
+    ensures { λ r. ⌜ (r .front + 3 ≡ held .front) × (r .stop ≡ held .front) × (r .low ≡ held .low) ⌝ }
 {
-    let front = writing.front;
+    let front = held.front;
     put_header(out, front - 3, tag, 0);
-    Writing {
+    TermState {
         front: front - 3,
         stop: front,
-        low: writing.low,
+        low: held.low,
     }
 }
 
 // A label: it takes everything up to its bracket or the end.
-fn on_label(v: u16, writing: Writing, work: &[u8], out: &mut [u8]) -> Writing
-    requires { ⌜ (framesEnd ≤ length (now work)) × (length (now out) < 65536) × ((t : Term) × (fs : List Frame) × ShownHad t fs (now work) (now out) (writing .front) (writing .stop) (writing .low) × (3 * waits fs + 5 ≤ writing .front)) ⌝ }
-    ensures { λ r. ⌜ ((t : Term) (fs : List Frame) → ShownHad t fs (now (work .entry)) (now (out .entry)) (writing .front) (writing .stop) (writing .low) → 3 * waits fs + 5 ≤ writing .front → ShownHad (labelTerm v (reducedTerm 0 t fs)) (reducedFrames 0 fs) (now (work .entry)) (now (out .exit)) (r .front) (r .stop) (r .low)) ⌝ }
+fn on_label(v: u16, held: TermState, work: &[u8], out: &mut [u8]) -> TermState
+    requires { ⌜ (framesEnd ≤ length (now work)) × (length (now out) < 65536) × ((t : Term) × (fs : List Frame) × ShownHad t fs (now work) (now out) (held .front) (held .stop) (held .low) × (3 * waits fs + 5 ≤ held .front)) ⌝ }
+    ensures { λ r. ⌜ ((t : Term) (fs : List Frame) → ShownHad t fs (now (work .entry)) (now (out .entry)) (held .front) (held .stop) (held .low) → 3 * waits fs + 5 ≤ held .front → ShownHad (labelTerm v (reducedTerm 0 t fs)) (reducedFrames 0 fs) (now (work .entry)) (now (out .exit)) (r .front) (r .stop) (r .low)) ⌝ }
 {
-    let here = reduce(0, writing, work, out);
+    let here = reduce(0, held, work, out);
     let front = here.front;
     let len = here.stop - front + 2;
     put_value(out, front - 2, v);
     put_header(out, front - 5, 18, len);
-    Writing {
+    TermState {
         front: front - 5,
         stop: here.stop,
         low: here.low,
@@ -149,16 +149,16 @@ fn on_label(v: u16, writing: Writing, work: &[u8], out: &mut [u8]) -> Writing
 }
 
 // A sign: it takes every chain to its right that binds at least as tight, and waits for what stands to its left.
-fn on_sign(tag: u8, writing: Writing, work: &mut [u8], out: &mut [u8]) -> Writing
-    requires { ⌜ (3 ≤ writing .low) × (framesEnd ≤ length (now work)) × (length (now out) < 65536) × ((t : Term) × (fs : List Frame) × ShownHad t fs (now work) (now out) (writing .front) (writing .stop) (writing .low) × (3 * waits fs ≤ writing .front)) ⌝ }
-    ensures { λ r. ⌜ ((s : Sign) (t : Term) (fs : List Frame) → tag ≡ signTag s → ShownHad t fs (now (work .entry)) (now (out .entry)) (writing .front) (writing .stop) (writing .low) → 3 * waits fs ≤ writing .front → ShownDue (waiting s (reducedTerm (rank s) t fs) ∷ reducedFrames (rank s) fs) (now (work .exit)) (now (out .exit)) (r .front) (r .low)) ⌝ }
-    ensures { λ r. ⌜ (writing .low ≤ r .low + 3) × SameBelow (r .low) (now (work .entry)) (now (work .exit)) ⌝ }
+fn on_sign(tag: u8, held: TermState, work: &mut [u8], out: &mut [u8]) -> TermState
+    requires { ⌜ (3 ≤ held .low) × (framesEnd ≤ length (now work)) × (length (now out) < 65536) × ((t : Term) × (fs : List Frame) × ShownHad t fs (now work) (now out) (held .front) (held .stop) (held .low) × (3 * waits fs ≤ held .front)) ⌝ }
+    ensures { λ r. ⌜ ((s : Sign) (t : Term) (fs : List Frame) → tag ≡ signTag s → ShownHad t fs (now (work .entry)) (now (out .entry)) (held .front) (held .stop) (held .low) → 3 * waits fs ≤ held .front → ShownDue (waiting s (reducedTerm (rank s) t fs) ∷ reducedFrames (rank s) fs) (now (work .exit)) (now (out .exit)) (r .front) (r .low)) ⌝ }
+    ensures { λ r. ⌜ (held .low ≤ r .low + 3) × SameBelow (r .low) (now (work .entry)) (now (work .exit)) ⌝ }
 {
     let least = rank_of(tag);
-    let here = reduce(least, writing, work, out);
+    let here = reduce(least, held, work, out);
     let low = here.low - 3;
     push(tag, here.stop, low, work);
-    Writing {
+    TermState {
         front: here.front,
         stop: here.stop,
         low,
@@ -166,12 +166,12 @@ fn on_sign(tag: u8, writing: Writing, work: &mut [u8], out: &mut [u8]) -> Writin
 }
 
 // An opening bracket: it takes everything up to its closing one, and that one away.
-fn on_opening(writing: Writing, work: &[u8], out: &mut [u8]) -> Writing
-    requires { ⌜ (framesEnd ≤ length (now work)) × (length (now out) < 65536) × ((t : Term) × (fs : List Frame) × ShownHad t fs (now work) (now out) (writing .front) (writing .stop) (writing .low) × (3 * waits fs ≤ writing .front) × NotStuck (unbracket (reducedTerm 0 t fs) (reducedFrames 0 fs))) ⌝ }
-    ensures { λ r. ⌜ ((t : Term) (fs : List Frame) → ShownHad t fs (now (work .entry)) (now (out .entry)) (writing .front) (writing .stop) (writing .low) → 3 * waits fs ≤ writing .front → NotStuck (unbracket (reducedTerm 0 t fs) (reducedFrames 0 fs)) → Shown (unbracket (reducedTerm 0 t fs) (reducedFrames 0 fs)) (now (work .entry)) (now (out .exit)) (r .front) (r .stop) (r .low)) ⌝ }
+fn on_opening(held: TermState, work: &[u8], out: &mut [u8]) -> TermState
+    requires { ⌜ (framesEnd ≤ length (now work)) × (length (now out) < 65536) × ((t : Term) × (fs : List Frame) × ShownHad t fs (now work) (now out) (held .front) (held .stop) (held .low) × (3 * waits fs ≤ held .front) × NotStuck (unbracket (reducedTerm 0 t fs) (reducedFrames 0 fs))) ⌝ }
+    ensures { λ r. ⌜ ((t : Term) (fs : List Frame) → ShownHad t fs (now (work .entry)) (now (out .entry)) (held .front) (held .stop) (held .low) → 3 * waits fs ≤ held .front → NotStuck (unbracket (reducedTerm 0 t fs) (reducedFrames 0 fs)) → Shown (unbracket (reducedTerm 0 t fs) (reducedFrames 0 fs)) (now (work .entry)) (now (out .exit)) (r .front) (r .stop) (r .low)) ⌝ }
 {
-    let here = reduce(0, writing, work, out);
-    Writing {
+    let here = reduce(0, held, work, out);
+    TermState {
         front: here.front,
         stop: here.stop,
         low: here.low + 3,
@@ -179,16 +179,16 @@ fn on_opening(writing: Writing, work: &[u8], out: &mut [u8]) -> Writing
 }
 
 // A closing bracket.
-fn on_closing(writing: Writing, work: &mut [u8]) -> Writing
-    requires { ⌜ (3 ≤ writing .low) × (writing .low ≤ framesEnd) × (framesEnd ≤ length (now work)) ⌝ }
-    ensures { λ r. ⌜ ((fs : List Frame) (out : List ℕ) → ShownDue fs (now (work .entry)) out (writing .front) (writing .low) → ShownDue (bracket ∷ fs) (now (work .exit)) out (r .front) (r .low)) ⌝ }
-    ensures { λ r. ⌜ (writing .low ≡ r .low + 3) × SameBelow (r .low) (now (work .entry)) (now (work .exit)) ⌝ }
+fn on_closing(held: TermState, work: &mut [u8]) -> TermState
+    requires { ⌜ (3 ≤ held .low) × (held .low ≤ framesEnd) × (framesEnd ≤ length (now work)) ⌝ }
+    ensures { λ r. ⌜ ((fs : List Frame) (out : List ℕ) → ShownDue fs (now (work .entry)) out (held .front) (held .low) → ShownDue (bracket ∷ fs) (now (work .exit)) out (r .front) (r .low)) ⌝ }
+    ensures { λ r. ⌜ (held .low ≡ r .low + 3) × SameBelow (r .low) (now (work .entry)) (now (work .exit)) ⌝ }
 {
-    let low = writing.low - 3;
+    let low = held.low - 3;
     work[low] = 0;
-    Writing {
-        front: writing.front,
-        stop: writing.stop,
+    TermState {
+        front: held.front,
+        stop: held.stop,
         low,
     }
 }
@@ -204,30 +204,30 @@ fn is_plain(tag: u8) -> bool
 }
 
 // One mark more, from the right.
-fn on_mark(at: usize, writing: Writing, work: &mut [u8], out: &mut [u8]) -> Writing
-    requires { ⌜ ((ms : List Mark) × MarkReady ms at (now work) (now out) (writing .front) (writing .stop) (writing .low)) ⌝ }
-    ensures { λ r. ⌜ ((ms : List Mark) → MarkReady ms at (now (work .entry)) (now (out .entry)) (writing .front) (writing .stop) (writing .low) → Shown (stateOf (drop at ms)) (now (work .exit)) (now (out .exit)) (r .front) (r .stop) (r .low)) ⌝ }
+fn on_mark(at: usize, held: TermState, work: &mut [u8], out: &mut [u8]) -> TermState
+    requires { ⌜ ((ms : List Mark) × MarkReady ms at (now work) (now out) (held .front) (held .stop) (held .low)) ⌝ }
+    ensures { λ r. ⌜ ((ms : List Mark) → MarkReady ms at (now (work .entry)) (now (out .entry)) (held .front) (held .stop) (held .low) → Shown (stateOf (drop at ms)) (now (work .exit)) (now (out .exit)) (r .front) (r .stop) (r .low)) ⌝ }
     ensures { λ _. ⌜ SameBelow (3 * at) (now (work .entry)) (now (work .exit)) ⌝ }
 {
     let here = 3 * at;
     let kind = work[here];
     if kind == 0 {
-        return on_closing(writing, work);
+        return on_closing(held, work);
     }
     if kind == 1 {
-        return on_opening(writing, work, out);
+        return on_opening(held, work, out);
     }
     if is_plain(kind) {
-        return put_plain(kind, writing, out);
+        return put_plain(kind, held, out);
     }
     if is_pair(kind) {
-        return on_sign(kind, writing, work, out);
+        return on_sign(kind, held, work, out);
     }
     let v = load16(work, here + 1);
     if kind == 18 {
-        return on_label(v, writing, work, out);
+        return on_label(v, held, work, out);
     }
-    put_valued(kind, v, writing, out)
+    put_valued(kind, v, held, out)
 }
 
 // The term of so many marks, into just as many bytes as it has.
@@ -235,7 +235,7 @@ pub fn write_term(count: usize, work: &mut [u8], out: &mut [u8])
     requires { ⌜ ((ms : List Mark) × Prepared ms (now work) count (length (now out))) ⌝ }
     ensures { λ _. ⌜ ((ms : List Mark) (p : Prepared ms (now (work .entry)) count (length (now (out .entry)))) → now (out .exit) ≡ termBytes (p .term)) ⌝ }
 {
-    let mut writing = Writing {
+    let mut held = TermState {
         front: out.len(),
         stop: out.len(),
         low: FRAMES_END,
@@ -243,7 +243,7 @@ pub fn write_term(count: usize, work: &mut [u8], out: &mut [u8])
     let mut at = count;
     while 0 < at {
         at -= 1;
-        writing = on_mark(at, writing, work, out);
+        held = on_mark(at, held, work, out);
     }
-    reduce(0, writing, work, out);
+    reduce(0, held, work, out);
 }

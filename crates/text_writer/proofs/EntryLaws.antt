@@ -2,7 +2,7 @@
 -- Assumes nothing.
 use mathlib.Core.Path.{_≡_, refl, ap, _∙_}
 use mathlib.Core.List.{List, _++_}
-use Prim.Native.Nat.{ℕ, _+_, _≤_, _<_}
+use Prim.Native.Nat.{ℕ, _+_, _≤_}
 use native.Mathlib.Omega.{arith}
 use lib.ListN.{length, take, drop}
 use lib.Seq.{paste}
@@ -17,11 +17,10 @@ use Rattle.files.proofs.Answers.{term-file-read, term-file-refused}
 use Rattle.answers.specs.Answers.{refusal, wrote}
 use Rattle.notation.specs.Written.{written}
 use Rattle.notation.proofs.RoundTrip.{written-length}
-use Rattle.entries.specs.Outcomes.{otherFile, noFile, done}
-use Rattle.entries.specs.LentSpace.{cleared, writeOut}
-use Rattle.entries.specs.Texts.{writeTextWork, writeTextOutcome, writeText}
+use Rattle.entries.specs.Outcomes.{otherFile, done}
+use Rattle.entries.specs.LentSpace.{writeOut}
+use Rattle.entries.specs.Texts.{writeTextOutcome}
 use Rattle.entries.specs.Left.{leftIn}
-use Rattle.entries.proofs.LeftLaws as left
 use Rattle.entries.proofs.LeftLaws.{kept, enough-room}
 
 module _ (s : List ℕ) where
@@ -51,13 +50,3 @@ copied work out len text h l =
     let n : 0 + len ≡ length text = omega (arith, h .0) in
     let bytes : paste out 0 (drop 0 work) len ≡ text ++ drop (length text) out = ap (λ (y : List ℕ). y ++ drop (0 + len) out) (h .1) ∙ ap (λ (i : ℕ). text ++ drop i out) n in
     (λ i. kept (wrote (h .0 i) 0) (bytes i)) ∙ enough-room text out (omega (arith, h .0, l))
-
--- 29, and else what the call leaves with the work space cleared
-module _ (term work out : List ℕ) where
-  pub too-short : length work < writeTextWork → writeText term work out ≡ record { answer = refusal 29 noFile 0 0; work = work; out = out }
-  unfolding writeText
-  too-short l = left.too-short writeTextWork work out (writeTextOutcome term) l
-
-  pub long-enough : writeTextWork ≤ length work → writeText term work out ≡ record { answer = leftIn out (writeTextOutcome term) .answer; work = cleared work; out = leftIn out (writeTextOutcome term) .out }
-  unfolding writeText
-  long-enough l = left.long-enough writeTextWork work out (writeTextOutcome term) l

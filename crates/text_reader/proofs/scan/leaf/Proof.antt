@@ -10,26 +10,26 @@ use Rattle.text_reader.proofs.scan.leaf.Tie as tie
 add-from : tie.Need-add-from
 add-from c = search needs
 
-number-at-requires : tie.Need-number-at-requires
-number-at-requires c κs = search needs
+numeral-at-requires : tie.Need-numeral-at-requires
+numeral-at-requires c κs = search needs
 
 wrong-second-requires : tie.Need-wrong-second-requires
 wrong-second-requires c κs = search needs
 
 returns : tie.Need-returns
 returns c =
-    let number = c .before .before in
-    let entry = number .before .before .before .before in
-    leaf-none _ _ _ (entry .pre .0) _ _ (number .number-at .ensures) _ _ (entry .pre .1) refl (entry .pre .2) _ _ (c .before .if1 .taken) (c .wrong-second .ensures)
+    let numeral = c .before .before in
+    let entry = numeral .before .before .before .before in
+    leaf-none _ _ _ (entry .pre .0) _ _ (numeral .numeral-at .ensures) _ _ (entry .pre .1) refl (entry .pre .2) _ _ (c .before .if1 .taken) (c .wrong-second .ensures)
 
 too-large-requires : tie.Need-too-large-requires
 too-large-requires c κs = search needs
 
 returns-2 : tie.Need-returns-2
 returns-2 c =
-    let number = c .before .before .before in
-    let entry = number .before .before .before .before in
-    leaf-large _ _ _ (entry .pre .0) _ _ (number .number-at .ensures) _ _ (entry .pre .1) refl (entry .pre .2) _ _ (c .before .before .if1 .left) (omega (arith, c .before .if2 .taken)) (c .too-large .ensures)
+    let numeral = c .before .before .before in
+    let entry = numeral .before .before .before .before in
+    leaf-large _ _ _ (entry .pre .0) _ _ (numeral .numeral-at .ensures) _ _ (entry .pre .1) refl (entry .pre .2) _ _ (c .before .before .if1 .left) (omega (arith, c .before .if2 .taken)) (c .too-large .ensures)
 
 mul-store16 : tie.Need-mul-store16
 mul-store16 c = search needs
@@ -53,16 +53,16 @@ returns-3 : tie.Need-returns-3
 returns-3 c =
     let done = c .before .before in
     let store = done .before .before .before .before in
-    let number = store .before .before .before .before .before in
-    let entry = number .before .before .before .before in
-    leaf-ok _ _ _ (entry .pre .0) _ _ (number .number-at .ensures) _ _ (entry .pre .1) refl (entry .pre .2) _ _ _ (store .before .before .before .before .if1 .left) (omega (arith, store .before .before .before .if2 .left)) (store .store16 .ensures) (done .complete .ensures .1) (done .complete .ensures .0)
+    let numeral = store .before .before .before .before .before in
+    let entry = numeral .before .before .before .before in
+    leaf-ok _ _ _ (entry .pre .0) _ _ (numeral .numeral-at .ensures) _ _ (entry .pre .1) refl (entry .pre .2) _ _ _ (store .before .before .before .before .if1 .left) (omega (arith, store .before .before .before .if2 .left)) (store .store16 .ensures) (done .complete .ensures .1) (done .complete .ensures .0)
 
 pub leaf-spec : {M : Type 1} → statement M
 leaf-spec =
     tie.close
     (tie.spec
     add-from
-    number-at-requires
+    numeral-at-requires
     wrong-second-requires
     returns
     too-large-requires

@@ -3,7 +3,7 @@
 use mathlib.Core.Path.{refl, sym, _∙_, subst}
 use Prim.Native.Nat.{ℕ}
 use borrow.Author.Needs.{needs}
-use Rattle.text_reader.specs.Places.{PairBytes, identity, nothing}
+use Rattle.text_reader.specs.Places.{TwoBytes, identity, nothing}
 use Rattle.text_reader.proofs.PlaceLaws.{after-from, after-end, ready-past, due-refused}
 use Rattle.text_reader.proofs.scan.on_due.Statement.{statement}
 use Rattle.text_reader.proofs.scan.on_due.Tie as tie
@@ -47,29 +47,29 @@ same-length-3 c = search needs
 returns-3 : tie.Need-returns-3
 returns-3 c = after-from _ _ _ _ _ (c .before .before .leaf .ensures) (c .before .before .before .before .before .before .before .before .before .before .before .past-openings .ensures .moved .rises)
 
-pair-requires : tie.Need-pair-requires
-pair-requires c κs =
+two-bytes-requires : tie.Need-two-bytes-requires
+two-bytes-requires c κs =
     let run = c .before .before .before .before .before .before .before .before .before in
     let entry = run .before .before .before .before in
-    ((ready-past _ _ _ _ _ (entry .pre .0) (run .past-openings .ensures .moved) (run .past-openings .kept .1 .0) (c .before .before .before .before .before .before .if1 .left)), (run .past-openings .ensures .moved .same ∙ entry .pre .1), subst (λ (b : ℕ). PairBytes b 100 17) (sym (c .before .if4 .taken)) identity)
+    ((ready-past _ _ _ _ _ (entry .pre .0) (run .past-openings .ensures .moved) (run .past-openings .kept .1 .0) (c .before .before .before .before .before .before .if1 .left)), (run .past-openings .ensures .moved .same ∙ entry .pre .1), subst (λ (b : ℕ). TwoBytes b 100 17) (sym (c .before .if4 .taken)) identity)
 
 same-length-4 : tie.Need-same-length-4
 same-length-4 c = search needs
 
 returns-4 : tie.Need-returns-4
-returns-4 c = after-from _ _ _ _ _ (c .before .before .pair .ensures) (c .before .before .before .before .before .before .before .before .before .before .before .before .past-openings .ensures .moved .rises)
+returns-4 c = after-from _ _ _ _ _ (c .before .before .two-bytes .ensures) (c .before .before .before .before .before .before .before .before .before .before .before .before .past-openings .ensures .moved .rises)
 
-pair-requires-2 : tie.Need-pair-requires-2
-pair-requires-2 c κs =
+two-bytes-requires-2 : tie.Need-two-bytes-requires-2
+two-bytes-requires-2 c κs =
     let run = c .before .before .before .before .before .before .before .before .before .before in
     let entry = run .before .before .before .before in
-    ((ready-past _ _ _ _ _ (entry .pre .0) (run .past-openings .ensures .moved) (run .past-openings .kept .1 .0) (c .before .before .before .before .before .before .before .if1 .left)), (run .past-openings .ensures .moved .same ∙ entry .pre .1), subst (λ (b : ℕ). PairBytes b 62 21) (sym (c .before .if5 .taken)) nothing)
+    ((ready-past _ _ _ _ _ (entry .pre .0) (run .past-openings .ensures .moved) (run .past-openings .kept .1 .0) (c .before .before .before .before .before .before .before .if1 .left)), (run .past-openings .ensures .moved .same ∙ entry .pre .1), subst (λ (b : ℕ). TwoBytes b 62 21) (sym (c .before .if5 .taken)) nothing)
 
 same-length-5 : tie.Need-same-length-5
 same-length-5 c = search needs
 
 returns-5 : tie.Need-returns-5
-returns-5 c = after-from _ _ _ _ _ (c .before .before .pair2 .ensures) (c .before .before .before .before .before .before .before .before .before .before .before .before .before .past-openings .ensures .moved .rises)
+returns-5 c = after-from _ _ _ _ _ (c .before .before .two-bytes2 .ensures) (c .before .before .before .before .before .before .before .before .before .before .before .before .before .past-openings .ensures .moved .rises)
 
 refused-requires : tie.Need-refused-requires
 refused-requires c κs = search needs
@@ -98,10 +98,10 @@ on-due-spec =
     leaf-requires
     same-length-3
     returns-3
-    pair-requires
+    two-bytes-requires
     same-length-4
     returns-4
-    pair-requires-2
+    two-bytes-requires-2
     same-length-5
     returns-5
     refused-requires

@@ -20,7 +20,7 @@ same-length c = search needs
 returns : tie.Need-returns
 returns c =
     let l = c .before .pre in
-    let low = c .before .args .writing .low - 3 in
+    let low = c .before .args .held .low - 3 in
     (λ fs o x. shown-closing fs _ _ o _ _ low x (omega (arith, l .0)) (omega (arith, l .0, l .1, l .2)) refl, (omega (arith, l .0), closing-below (c .before .args .work .now) _ low refl))
 
 pub on-closing-spec : {M : Type 1} → statement M

@@ -14,12 +14,12 @@ use Rattle.text_reader.proofs.term.write_term.Statement.{statement}
 use Rattle.text_reader.proofs.term.write_term.Tie as tie
 
 abbrev Inv-loop : tie.InvT-loop
-Inv-loop count work₀ out₀ writing₀ at₀ work out writing at =
+Inv-loop count work₀ out₀ held₀ at₀ work out held at =
     (at ≤ count) × (length work ≡ length work₀) × (length out ≡ length out₀)
-    × ((ms : List Mark) → Prepared ms work₀ count (length out₀) → MarksStand work ms at × Shown (stateOf (drop at ms)) work out (writing .front) (writing .stop) (writing .low))
+    × ((ms : List Mark) → Prepared ms work₀ count (length out₀) → MarksStand work ms at × Shown (stateOf (drop at ms)) work out (held .front) (held .stop) (held .low))
 
 abbrev μ-loop : tie.MeasureT-loop
-μ-loop count work₀ out₀ writing₀ at₀ work out writing at = at
+μ-loop count work₀ out₀ held₀ at₀ work out held at = at
 
 loop-holds : tie.Need-loop-holds Inv-loop μ-loop
 loop-holds c = (omega arith, refl, refl, λ ms p. (p .stand, shown-start _ _ _ _ p _ _ refl))

@@ -1,4 +1,4 @@
--- `scan::number_at` meets its contract: the invariant: digits stand from the first place to this one, and this is their value.
+-- `scan::numeral_at` meets its contract: the invariant: digits stand from the first place to this one, and this is their value.
 -- Assumes nothing.
 use mathlib.Core.Path.{sym, _∙_}
 use Prim.Native.Nat.{_-_}
@@ -9,8 +9,8 @@ use borrow.Author.Tests.{not-true, not-false}
 use Rattle.notation.proofs.MeetLaws.{digit-is}
 use Rattle.text_reader.specs.Places.{Passed}
 use Rattle.text_reader.proofs.PassLaws.{passed-none, passed-next, no-digit, no-more}
-use Rattle.text_reader.proofs.scan.number_at.Statement.{statement}
-use Rattle.text_reader.proofs.scan.number_at.Tie as tie
+use Rattle.text_reader.proofs.scan.numeral_at.Statement.{statement}
+use Rattle.text_reader.proofs.scan.numeral_at.Tie as tie
 
 abbrev Inv-loop : tie.InvT-loop
 Inv-loop text from at₀ value₀ at value = Passed text from value at
@@ -52,8 +52,8 @@ loop-again c =
 returns-2 : tie.Need-returns-2 Inv-loop μ-loop
 returns-2 c = record { passed = c .before .loop .inv; last = no-more _ _ (c .loop-test .left) }
 
-pub number-at-spec : {M : Type 1} → statement M
-number-at-spec =
+pub numeral-at-spec : {M : Type 1} → statement M
+numeral-at-spec =
     tie.close
     (tie.spec
     Inv-loop
