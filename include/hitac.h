@@ -102,8 +102,8 @@ struct hitac_answer hitac_write_text(const uint8_t *term, size_t term_length,
 #define HITAC_FLATTEN_STACK 1536       /* for hitac_flatten */
 #define HITAC_CHECK_FLAT_STACK 1536    /* for hitac_check_flat */
 #define HITAC_WRITE_PROOF_STACK 172032 /* for hitac_write_proof */
-#define HITAC_READ_TEXT_STACK 1536     /* for hitac_read_text */
-#define HITAC_WRITE_TEXT_STACK 1536    /* for hitac_write_text */
+#define HITAC_READ_TEXT_STACK 512      /* for hitac_read_text */
+#define HITAC_WRITE_TEXT_STACK 1024    /* for hitac_write_text */
 
 /* Output space that is always long enough, in bytes. */
 #define HITAC_LONGEST_PROOF 21510 /* for hitac_run and hitac_write_proof: no proof file is longer */

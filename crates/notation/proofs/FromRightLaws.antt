@@ -1,18 +1,17 @@
 -- What reads as a term in the grammar is read as that term from the right, so that marks have one reading at the most.
 -- Assumes nothing.
 use mathlib.Core.Path.{_≡_, refl, sym, ap, _∙_, subst}
-use mathlib.Core.Bool.{Bool, true, false, cond}
+use mathlib.Core.Bool.{Bool, cond}
 use mathlib.Core.List.{List, [], _∷_, _++_, append-assoc, append-nil}
-use mathlib.Core.Option.{Option, none, some}
-use Prim.Native.Nat.{ℕ, suc, _≤_, _<_}
+use mathlib.Core.Option.{some}
+use Prim.Native.Nat.{ℕ, _≤_, _<_}
 use native.Mathlib.Omega.{arith}
-use lib.Dec.{leb}
 use borrow.Author.Tests.{le-leb, lt-leb}
 use Rattle.format.specs.Terms.{Term}
-use Rattle.notation.specs.Marks.{Sign, semicolon, bar, star, Leaf, Mark, leaf, labelMark, sign, opening, closing, leafTerm, labelTerm, join}
+use Rattle.notation.specs.Marks.{Sign, semicolon, bar, star, Mark, leaf, labelMark, sign, opening, closing, labelTerm, signTerm}
 use Rattle.notation.specs.Grammar.{Level, sequences, alternations, tensors, operand, End, closed, opened, Reads, one-leaf, brackets, labelled, one-operand, with-star, one-tensor, with-bar, one-alternation, with-semicolon}
 use Rattle.notation.specs.Written.{rank}
-use Rattle.notation.specs.FromRight.{Frame, waiting, bracket, State, due, had, stuck, reducedTerm, reducedFrames, unbracket, onMark, stateOf, wholeOf, termOf}
+use Rattle.notation.specs.FromRight.{Frame, waiting, bracket, State, due, had, reducedTerm, reducedFrames, unbracket, onMark, stateOf, wholeOf, termOf}
 
 abbrev pub rankOf : Level → ℕ
 rankOf sequences = 0
@@ -23,7 +22,7 @@ rankOf operand = 3
 -- the signs of the frames `gs` above `fs` all bind at least as tight as l, and with v they make t
 pub data Above (l : ℕ) : Term → List Frame → Term → List Frame → Type 0 where
   settled : {t : Term} {fs : List Frame} → Above l t fs t fs
-  one-more : {s : Sign} {v u t : Term} {gs fs : List Frame} → l ≤ rank s → Above l (join s v u) gs t fs → Above l v (waiting s u ∷ gs) t fs
+  one-more : {s : Sign} {v u t : Term} {gs fs : List Frame} → l ≤ rank s → Above l (signTerm s v u) gs t fs → Above l v (waiting s u ∷ gs) t fs
 
 -- the first frame is no sign that binds as tight as n
 abbrev pub Below : ℕ → List Frame → Type 0
@@ -34,7 +33,7 @@ Below n (waiting s u ∷ fs) = rank s < n
 pub reduced-above : {l : ℕ} {v t : Term} {gs fs : List Frame} (n : ℕ) → n ≤ l → Above l v gs t fs → reducedTerm n v gs ≡ reducedTerm n t fs
 unfolding reducedTerm
 reduced-above n h settled = refl
-reduced-above n h (one-more {s = s} {v = v} {u = u} {gs = gs} k a) = ap (λ (b : Bool). cond b (reducedTerm n (join s v u) gs) v) (le-leb n (rank s) (omega arith)) ∙ reduced-above n h a
+reduced-above n h (one-more {s = s} {v = v} {u = u} {gs = gs} k a) = ap (λ (b : Bool). cond b (reducedTerm n (signTerm s v u) gs) v) (le-leb n (rank s) (omega arith)) ∙ reduced-above n h a
 
 pub left-above : {l : ℕ} {v t : Term} {gs fs : List Frame} (n : ℕ) → n ≤ l → Above l v gs t fs → reducedFrames n gs ≡ reducedFrames n fs
 unfolding reducedFrames
@@ -45,7 +44,7 @@ pub reduced-below : (n : ℕ) (t : Term) (fs : List Frame) → Below n fs → re
 unfolding reducedTerm
 reduced-below n t [] h = refl
 reduced-below n t (bracket ∷ fs) h = refl
-reduced-below n t (waiting s u ∷ fs) h = ap (λ (b : Bool). cond b (reducedTerm n (join s t u) fs) t) (lt-leb n (rank s) h)
+reduced-below n t (waiting s u ∷ fs) h = ap (λ (b : Bool). cond b (reducedTerm n (signTerm s t u) fs) t) (lt-leb n (rank s) h)
 
 pub left-below : (n : ℕ) (fs : List Frame) → Below n fs → reducedFrames n fs ≡ fs
 unfolding reducedFrames
@@ -62,7 +61,7 @@ above-less : {l m : ℕ} {v t : Term} {gs fs : List Frame} → m ≤ l → Above
 above-less h settled = settled
 above-less {l} {m} h (one-more {s = s} k a) = one-more {s = s} (omega arith) (above-less h a)
 
-above-sign : {l m : ℕ} {v t u : Term} {s : Sign} {gs fs : List Frame} → m ≤ l → m ≤ rank s → Above l v gs t (waiting s u ∷ fs) → Above m v gs (join s t u) fs
+above-sign : {l m : ℕ} {v t u : Term} {s : Sign} {gs fs : List Frame} → m ≤ l → m ≤ rank s → Above l v gs t (waiting s u ∷ fs) → Above m v gs (signTerm s t u) fs
 above-sign h k settled = one-more k settled
 above-sign h k (one-more {s = s′} j a) = one-more {s = s′} (omega arith) (above-sign h k a)
 
@@ -97,7 +96,7 @@ sign-state {r} {u} {fs} {σ} s e b g =
 got-up : {l m : ℕ} {t : Term} {fs : List Frame} {σ : State} → l ≤ m → Got m t fs σ → Got l t fs σ
 got-up h g = record { value = g .value; frames = g .frames; is = g .is; above = above-less h (g .above) }
 
-got-sign : {l m : ℕ} {t u : Term} {fs : List Frame} {σ : State} (s : Sign) → l ≤ m → l ≤ rank s → Got m t (waiting s u ∷ fs) σ → Got l (join s t u) fs σ
+got-sign : {l m : ℕ} {t u : Term} {fs : List Frame} {σ : State} (s : Sign) → l ≤ m → l ≤ rank s → Got m t (waiting s u ∷ fs) σ → Got l (signTerm s t u) fs σ
 got-sign s h k g = record { value = g .value; frames = g .frames; is = g .is; above = above-sign h k (g .above) }
 
 got-one : {l : ℕ} {t : Term} {fs : List Frame} {σ : State} → σ ≡ had t fs → Got l t fs σ

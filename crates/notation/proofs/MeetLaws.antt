@@ -3,28 +3,27 @@
 use mathlib.Core.Path.{_≡_, refl, sym, ap, _∙_, subst}
 use mathlib.Core.Bool.{Bool, true, false, cond}
 use mathlib.Core.List.{List, [], _∷_, _++_, append-assoc, append-nil}
-use Prim.Native.Nat.{ℕ, zero, suc, _+_, _*_, _-_, _≤_, _<_}
+use Prim.Native.Nat.{ℕ, suc, _+_, _*_, _-_, _≤_, _<_}
 use native.Mathlib.Omega.{arith}
 use lib.Dec.{leb, ltb, eqb}
-use lib.ListN.{length, length-append}
+use lib.ListN.{length}
 use borrow.Author.Tests.{ltb-true, ltb-false, leb-true, leb-false, eqb-true, eqb-false}
 use Rattle.format.specs.Limits.{mostTermFields}
 use Rattle.format.specs.Refusals.{Cause, limitPassed, textWrong, valueTooLarge}
 use Rattle.format.specs.Results.{Result, gives, refused, andThen}
-use Rattle.format.specs.Terms.{Term, fields, size}
+use Rattle.format.specs.Terms.{fields, size}
 use Rattle.notation.specs.Scans.{Mode}
 use Rattle.notation.specs.Scans as M
 use Rattle.notation.specs.Scans.{Scan}
 use Rattle.notation.specs.Letters.{IsDigit, isDigit}
-use Rattle.notation.specs.Marks.{Sign, semicolon, bar, star, Leaf, ruleLeaf, idLeaf, emptyLeaf, goalLeaf, tacticLeaf, Mark, leaf, labelMark, sign, opening, closing, signByte, Digits, no-more, more, Number, number, Spells, rule, identity, nothing, assertion, tactic, labelling, between, opens, closes, Spelled, ends, blanked, marked}
-use Rattle.notation.specs.Grammar.{ReadsAs}
+use Rattle.notation.specs.Marks.{Sign, semicolon, bar, star, Leaf, ruleLeaf, idLeaf, emptyLeaf, goalLeaf, tacticLeaf, Mark, leaf, sign, closing, signByte, no-more, more, Number, number, Spells, rule, identity, nothing, assertion, tactic, labelling, between, opens, closes, Spelled, ends, blanked}
 use Rattle.notation.specs.Passing.{Passes, rests, past-leaf, past-label, past-sign, past-opening, past-closing, markFields, fieldMarks, markSize, sizes, MarkValue, MarkValues}
-use Rattle.notation.specs.Meets.{Viable, NoDigit, Unrefused, Numbered, ofRule, ofGoal, ofTactic, ofLabel, headOf, Large, LastOf, FieldAt, a-leaf, a-label, a-sign, Full, Wrong, Fits}
-use Rattle.notation.specs.Scans.{mostValue, scanned, start, turned, begins, completes, beginsNumbered, isSign, onDue, onHad, digitMore, leafEnds, onDigits, labelEnds, onLabelDigits, onBegun, onLabelBegun, onHalf, stepIn, step, finished, endIn, atEnd, scan}
+use Rattle.notation.specs.Meets.{Viable, NoDigit, Unrefused, Numbered, ofRule, ofGoal, ofTactic, ofLabel, headOf, Large, LastOf, FieldAt, a-leaf, a-label, a-sign, Full, Fits}
+use Rattle.notation.specs.Scans.{mostValue, scanned, completes, beginsNumbered, isSign, onDue, onHad, leafEnds, onDigits, labelEnds, onLabelDigits, onBegun, onLabelBegun, onHalf, stepIn, finished, endIn, scan}
 use Rattle.notation.proofs.WrittenText.{values-join, number-then}
 use Rattle.notation.proofs.PassingLaws.{pass-append, pass-reads, reads-fields, reads-size, reads-values, field-marks-append, sizes-append}
 use Rattle.notation.proofs.ScanLaws.{modeOf, Kept, kept-more}
-use Rattle.notation.proofs.ViableLaws.{spelled-append, spelled-then, pass-viable, viable-prefix, reads-not-wrong}
+use Rattle.notation.proofs.ViableLaws.{spelled-append, spelled-then, pass-viable, viable-prefix}
 
 -- whole marks, as the scan stands behind them
 pub record Whole (q : List ℕ) (d : Bool) (n f z : ℕ) : Type 0 where

@@ -2,18 +2,18 @@
 -- Assumes nothing.
 use mathlib.Core.Path.{_≡_, refl, sym, ap, _∙_, subst}
 use mathlib.Core.Bool.{Bool, true, false, cond}
-use mathlib.Core.List.{List, [], _∷_, _++_, append-assoc, append-nil}
+use mathlib.Core.List.{List, [], _∷_, _++_, append-assoc}
 use mathlib.Core.Option.{Option, none, some}
-use Prim.Native.Nat.{ℕ, zero, suc, _+_, _≤_, _<_}
+use Prim.Native.Nat.{ℕ, _+_, _≤_, _<_}
 use native.Mathlib.Omega.{arith}
-use lib.Dec.{ltb, eqb}
+use lib.Dec.{ltb}
 use lib.ListN.{length, length-append}
 use borrow.Author.Tests.{ltb-true, ltb-false, lt-ltb, le-ltb}
 use Rattle.format.specs.Inputs.{ofSize}
 use Rattle.format.specs.Limits.{mostBytes, mostTermFields}
 use Rattle.format.specs.Refusals.{Cause, inputTooLong, limitPassed, textWrong, valueTooLarge}
 use Rattle.format.specs.Results.{Result, gives, refused, andThen}
-use Rattle.format.specs.Terms.{Term, fields, size}
+use Rattle.format.specs.Terms.{Term, fields}
 use Rattle.format.specs.Encoding.{TermValues}
 use Rattle.notation.specs.Scans.{Scan}
 use Rattle.notation.specs.Grammar.{ReadsAs}
@@ -22,9 +22,8 @@ use Rattle.notation.specs.FromRight.{stateOf, termOf}
 use Rattle.notation.specs.Meets.{Viable, headOf, Large, Full, Wrong, Fits}
 use Rattle.notation.specs.Scans.{start, scan}
 use Rattle.notation.specs.Parse.{termFound, parse}
-use Rattle.notation.proofs.TextLaws.{text-term, one-reading}
+use Rattle.notation.proofs.TextLaws.{text-term}
 use Rattle.notation.proofs.ViableLaws.{viable-prefix, fits-scan}
-use Rattle.notation.proofs.MeetLaws.{FitsIn}
 use Rattle.notation.proofs.ReaderLaws.{Verdict, wrong, over, fulls, Told, text-told, large-scan, full-scan}
 
 -- of two beginnings of one list the longer one goes on where the shorter one ends

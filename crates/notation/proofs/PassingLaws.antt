@@ -1,16 +1,16 @@
 -- Marks that pass from an operand due to one read, with every bracket closed, have a reading; and the marks of a reading pass so.
 -- Assumes nothing.
 use mathlib.Core.Path.{_≡_, refl, sym, ap, _∙_, subst}
-use mathlib.Core.Bool.{Bool, true, false, cond}
+use mathlib.Core.Bool.{Bool, true, false}
 use mathlib.Core.List.{List, [], _∷_, _++_, append-assoc, append-nil}
 use Prim.Native.Nat.{ℕ, zero, suc, _+_, _≤_, _<_}
 use native.Mathlib.Omega.{arith}
-use lib.Dec.{leb, eqb}
-use borrow.Author.Tests.{leb-true, leb-false, eqb-true, eqb-false}
+use lib.Dec.{leb}
+use borrow.Author.Tests.{leb-true, leb-false}
 use Rattle.format.specs.Terms.{Term, fields, size}
 use Rattle.format.specs.Encoding.{TermValues}
-use Rattle.notation.specs.Marks.{Sign, semicolon, bar, star, Leaf, ruleLeaf, idLeaf, emptyLeaf, goalLeaf, tacticLeaf, Mark, leaf, labelMark, sign, opening, closing, leafTerm, labelTerm, join}
-use Rattle.notation.specs.Grammar.{Level, sequences, alternations, tensors, operand, End, closed, opened, Reads, one-leaf, brackets, labelled, one-operand, with-star, one-tensor, with-bar, one-alternation, with-semicolon}
+use Rattle.notation.specs.Marks.{Sign, semicolon, bar, star, Leaf, ruleLeaf, idLeaf, emptyLeaf, goalLeaf, tacticLeaf, Mark, leaf, labelMark, sign, opening, closing, leafTerm, labelTerm, signTerm}
+use Rattle.notation.specs.Grammar.{Level, sequences, operand, End, closed, opened, Reads, one-leaf, brackets, labelled, one-operand, with-star, one-tensor, with-bar, one-alternation, with-semicolon}
 use Rattle.notation.specs.Written.{rank}
 use Rattle.notation.specs.Passing.{Passes, rests, past-leaf, past-label, past-sign, past-opening, past-closing, markFields, fieldMarks, markSize, sizes, MarkValue, MarkValues}
 use Rattle.notation.proofs.WrittenLaws.{levelAt, join-reads}
@@ -195,17 +195,17 @@ pass-reads {ms} f =
     record { end = p .end; term = p .term; reads = subst (λ (m : List Mark). Reads sequences (p .end) m (p .term)) (sym is) (p .reads) }
 
 -- a term has the fields, the bytes and the values of its marks
-fields-join : (s : Sign) (t u : Term) → fields (join s t u) ≡ 1 + fields t + fields u
+fields-join : (s : Sign) (t u : Term) → fields (signTerm s t u) ≡ 1 + fields t + fields u
 unfolding fields
 fields-join semicolon t u = refl
 fields-join bar t u = refl
 fields-join star t u = refl
 
-pub size-join : (s : Sign) (t u : Term) → size (join s t u) ≡ 3 + size t + size u
+pub size-signTerm : (s : Sign) (t u : Term) → size (signTerm s t u) ≡ 3 + size t + size u
 unfolding size
-size-join semicolon t u = refl
-size-join bar t u = refl
-size-join star t u = refl
+size-signTerm semicolon t u = refl
+size-signTerm bar t u = refl
+size-signTerm star t u = refl
 
 pub field-marks-append : (ms ns : List Mark) → fieldMarks (ms ++ ns) ≡ fieldMarks ms + fieldMarks ns
 unfolding fieldMarks

@@ -1,29 +1,27 @@
 -- The scan answers 0 exactly for the texts that read as a term within the limits, 37 and 5 exactly where they are met first, and 36 at the first byte after which no text of the notation can follow.
 -- Assumes nothing.
 use mathlib.Core.Path.{_≡_, refl, sym, ap, _∙_, subst}
-use mathlib.Core.Bool.{Bool, true, false, cond}
-use mathlib.Core.List.{List, [], _∷_, _++_, append-assoc, append-nil}
-use mathlib.Core.Option.{Option, none, some}
-use Prim.Native.Nat.{ℕ, zero, suc, _+_, _*_, _-_, _≤_, _<_}
+use mathlib.Core.Bool.{Bool}
+use mathlib.Core.List.{List, [], _∷_, _++_, append-assoc}
+use Prim.Native.Nat.{ℕ, _+_, _-_, _<_}
 use native.Mathlib.Omega.{arith}
-use lib.ListN.{length, length-append, take}
+use lib.ListN.{length, length-append}
 use Rattle.format.specs.Limits.{mostTermFields}
 use Rattle.format.specs.Refusals.{Cause, limitPassed, textWrong, valueTooLarge}
 use Rattle.format.specs.Results.{Result, gives, refused, andThen}
-use Rattle.format.specs.Terms.{Term, fields, size}
-use Rattle.notation.specs.Scans.{Mode}
+use Rattle.format.specs.Terms.{fields, size}
 use Rattle.notation.specs.Scans as M
 use Rattle.notation.specs.Scans.{Scan}
 use Rattle.notation.specs.Letters.{isDigit}
-use Rattle.notation.specs.Marks.{Mark, Spelled, ends, Spells}
+use Rattle.notation.specs.Marks.{Mark, ends, Spells}
 use Rattle.notation.specs.Grammar.{ReadsAs}
-use Rattle.notation.specs.Passing.{Passes, rests, fieldMarks, sizes, markFields}
-use Rattle.notation.specs.Meets.{Viable, NoDigit, Unrefused, Numbered, ofRule, ofGoal, ofTactic, ofLabel, headOf, Large, LastOf, FieldAt, a-leaf, a-label, a-sign, Full, Wrong, Fits}
+use Rattle.notation.specs.Passing.{rests, fieldMarks, sizes, markFields}
+use Rattle.notation.specs.Meets.{Viable, NoDigit, Unrefused, Numbered, ofRule, ofGoal, ofTactic, ofLabel, headOf, Large, LastOf, FieldAt, a-leaf, a-label, a-sign, Full, Wrong}
 use Rattle.notation.specs.Scans.{mostValue, scanned, start, onBegun, onLabelBegun, onHalf, stepIn, step, endIn, atEnd, scan, onDue, beginsNumbered}
-use Rattle.notation.proofs.TextLaws.{text-term, one-reading, spells-start}
-use Rattle.notation.proofs.ScanLaws.{modeOf, Kept, kept-under, number-scan, label-number-scan, digits-over, label-over, Passed, passes, too-large, too-many, leaf-scan, label-scan, sign-scan, Along, through, large, full, scan-along}
-use Rattle.notation.proofs.ViableLaws.{viable-prefix, fits-scan, reads-not-wrong}
-use Rattle.notation.proofs.MeetLaws.{StandsIn, Stands, stands-viable, Refusal, is-wrong, is-large, is-full, StepOk, step-ok, FitsIn, EndOk, end-ok, Whole}
+use Rattle.notation.proofs.TextLaws.{spells-start}
+use Rattle.notation.proofs.ScanLaws.{modeOf, kept-under, number-scan, label-number-scan, digits-over, label-over, Passed, passes, too-large, too-many, leaf-scan, label-scan, sign-scan, Along, through, large, full, scan-along}
+use Rattle.notation.proofs.ViableLaws.{reads-not-wrong}
+use Rattle.notation.proofs.MeetLaws.{Stands, stands-viable, Refusal, is-wrong, is-large, is-full, StepOk, step-ok, FitsIn, EndOk, end-ok}
 
 -- what is met
 pub data Verdict (text : List ℕ) : Cause → ℕ → Type 0 where

@@ -2,24 +2,24 @@
 -- Assumes nothing.
 use mathlib.Core.Path.{_≡_, refl, sym, ap, _∙_, subst}
 use mathlib.Core.Bool.{Bool, true, false, cond}
-use mathlib.Core.List.{List, [], _∷_, _++_, append-assoc, append-nil}
-use Prim.Native.Nat.{ℕ, zero, suc, _+_, _*_, _-_, _≤_, _<_}
+use mathlib.Core.List.{List, [], _∷_, _++_, append-assoc}
+use Prim.Native.Nat.{ℕ, suc, _+_, _*_, _-_, _≤_, _<_}
 use native.Mathlib.Omega.{arith}
-use lib.Dec.{leb, ltb, eqb}
+use lib.Dec.{leb, ltb}
 use lib.ListN.{length, length-append}
-use borrow.Author.Tests.{ltb-true, ltb-false, leb-true, leb-false, lt-ltb, le-ltb, le-leb, lt-leb, ne-eqb}
+use borrow.Author.Tests.{ltb-true, ltb-false, leb-true, leb-false, ne-eqb}
 use Rattle.format.specs.Limits.{mostTermFields}
-use Rattle.format.specs.Refusals.{Cause, limitPassed, textWrong, valueTooLarge}
+use Rattle.format.specs.Refusals.{limitPassed, textWrong, valueTooLarge}
 use Rattle.format.specs.Results.{Result, gives, refused, andThen}
 use Rattle.notation.specs.Scans.{Mode}
 use Rattle.notation.specs.Scans as M
 use Rattle.notation.specs.Scans.{Scan}
-use Rattle.notation.specs.Letters.{IsDigit, isDigit}
+use Rattle.notation.specs.Letters.{isDigit}
 use Rattle.notation.specs.Marks.{Sign, semicolon, bar, star, Leaf, ruleLeaf, idLeaf, emptyLeaf, goalLeaf, tacticLeaf, Mark, leaf, labelMark, sign, opening, closing, Digits, no-more, more, Number, number, Spells, rule, identity, nothing, assertion, tactic, labelling, between, opens, closes, Spelled, ends, blanked, marked}
 use Rattle.notation.specs.Passing.{Passes, rests, past-leaf, past-label, past-sign, past-opening, past-closing, markFields, fieldMarks, markSize, sizes, MarkValue, MarkValues}
 use Rattle.notation.specs.Meets.{NoDigit, LastOf}
-use Rattle.notation.specs.Scans.{mostValue, scanned, turned, begins, completes, beginsNumbered, isSign, onDue, onHad, digitMore, leafEnds, onDigits, labelEnds, onLabelDigits, onBegun, onLabelBegun, onHalf, stepIn, step, finished, endIn, atEnd, scan}
-use Rattle.notation.proofs.TextLaws.{digit-yes, spells-start, spelled-start}
+use Rattle.notation.specs.Scans.{mostValue, scanned, turned, completes, beginsNumbered, isSign, onDue, onHad, digitMore, leafEnds, onDigits, labelEnds, onLabelDigits, onBegun, onLabelBegun, onHalf, stepIn, step, endIn, atEnd, scan}
+use Rattle.notation.proofs.TextLaws.{digit-yes, spells-start}
 
 abbrev pub modeOf : Bool → Mode
 modeOf true = M.due

@@ -8,10 +8,10 @@ use native.Mathlib.Omega.{arith}
 use lib.Dec.{ltb}
 use borrow.Author.Tests.{lt-ltb, ltb-false}
 use Rattle.notation.specs.Letters.{blank, letterA, question, letterT, leftSquare, rightSquare, leftRound, starByte}
-use Rattle.notation.specs.Marks.{Sign, star, Spells, Leaf, ruleLeaf, idLeaf, emptyLeaf, goalLeaf, tacticLeaf, Mark, leaf, labelMark, sign, opening, closing, rule, identity, nothing, assertion, tactic, labelling, opens, closes}
+use Rattle.notation.specs.Marks.{star, Spells, ruleLeaf, idLeaf, emptyLeaf, goalLeaf, tacticLeaf, Mark, leaf, labelMark, sign, opening, closing, rule, identity, nothing, assertion, tactic, labelling, opens, closes}
 use Rattle.notation.specs.Passing.{MarkValue, MarkValues}
 use Rattle.notation.specs.Written.{digits, decimal, markBytes, textOf}
-use Rattle.notation.specs.Spacing.{NoSign, a-leaf, a-label, an-opening, a-closing, NoLeadingZero, Spaced, no-marks, spaced-sign, spaced-mark}
+use Rattle.notation.specs.Spacing.{a-leaf, a-label, an-opening, a-closing, NoLeadingZero, Spaced, no-marks, spaced-sign, spaced-mark}
 use Rattle.notation.proofs.WrittenText.{tens, decimal-number}
 
 -- a list of digits that begins with 0

@@ -1,24 +1,23 @@
 -- Bytes that a text of the notation can begin with; and the scan of a text of the notation.
 -- Assumes nothing.
-use mathlib.Core.Path.{_≡_, refl, sym, ap, _∙_, subst}
-use mathlib.Core.Bool.{Bool, true, false, cond}
+use mathlib.Core.Path.{_≡_, sym, subst}
+use mathlib.Core.Bool.{Bool, true, false}
 use mathlib.Core.List.{List, [], _∷_, _++_, append-assoc, append-nil}
-use Prim.Native.Nat.{ℕ, zero, suc, _+_, _≤_, _<_}
+use Prim.Native.Nat.{ℕ, zero, suc, _+_, _≤_}
 use native.Mathlib.Omega.{arith}
-use lib.ListN.{length, replicate}
+use lib.ListN.{replicate}
 use Rattle.format.specs.Limits.{mostTermFields}
-use Rattle.format.specs.Refusals.{Cause, limitPassed, textWrong, valueTooLarge}
-use Rattle.format.specs.Results.{Result, gives, refused}
+use Rattle.format.specs.Refusals.{textWrong}
+use Rattle.format.specs.Results.{gives, refused}
 use Rattle.format.specs.Terms.{Term, fields, size}
 use Rattle.notation.specs.Scans as M
-use Rattle.notation.specs.Scans.{Scan}
 use Rattle.notation.specs.Marks.{Mark, leaf, idLeaf, closing, Spells, identity, closes, Spelled, ends, blanked, marked}
 use Rattle.notation.specs.Grammar.{ReadsAs}
-use Rattle.notation.specs.Passing.{Passes, rests, past-leaf, past-closing, fieldMarks, sizes, MarkValues}
+use Rattle.notation.specs.Passing.{Passes, rests, past-leaf, past-closing, fieldMarks}
 use Rattle.notation.specs.Meets.{Viable, Fits}
 use Rattle.notation.specs.Scans.{scanned, start, finished, endIn, atEnd, scan}
 use Rattle.notation.proofs.PassingLaws.{pass-append, reads-pass, pass-reads, reads-fields, reads-size, values-read}
-use Rattle.notation.proofs.ScanLaws.{modeOf, Along, through, large, full, scan-along}
+use Rattle.notation.proofs.ScanLaws.{Along, through, large, full, scan-along}
 
 pub spelled-append : {p s : List ℕ} {ms ns : List Mark} → Spelled p ms → Spelled s ns → Spelled (p ++ s) (ms ++ ns)
 spelled-append ends q = q

@@ -1,15 +1,15 @@
 -- The marks written for a term read as that term, and no marks that read as it are fewer.
 -- Assumes nothing.
-use mathlib.Core.Path.{_≡_, refl, sym, ap, _∙_, subst}
+use mathlib.Core.Path.{_≡_, refl, ap, _∙_, subst}
 use mathlib.Core.Bool.{Bool, true, false, cond}
 use mathlib.Core.List.{List, [], _∷_, _++_}
-use Prim.Native.Nat.{ℕ, zero, suc, _+_, _≤_, _<_}
+use Prim.Native.Nat.{ℕ, zero, suc, _+_, _≤_}
 use native.Mathlib.Omega.{arith}
 use lib.Dec.{ltb}
 use lib.ListN.{length, length-append}
-use borrow.Author.Tests.{ltb-true, ltb-false, lt-ltb, le-ltb}
+use borrow.Author.Tests.{ltb-true, ltb-false, le-ltb}
 use Rattle.format.specs.Terms.{Term, atomic, id, label, sequence, tensor, empty, alternation, assert, defined}
-use Rattle.notation.specs.Marks.{Sign, semicolon, bar, star, Leaf, ruleLeaf, idLeaf, emptyLeaf, goalLeaf, tacticLeaf, Mark, leaf, labelMark, sign, opening, closing, leafTerm, labelTerm, join}
+use Rattle.notation.specs.Marks.{Sign, semicolon, bar, star, Leaf, ruleLeaf, idLeaf, emptyLeaf, goalLeaf, tacticLeaf, Mark, leaf, labelMark, sign, opening, closing, leafTerm, labelTerm, signTerm}
 use Rattle.notation.specs.Grammar.{Level, sequences, alternations, tensors, operand, End, closed, opened, Reads, one-leaf, brackets, labelled, one-operand, with-star, one-tensor, with-bar, one-alternation, with-semicolon}
 use Rattle.notation.specs.Written.{rank, chain, bracketedIf, marksOf}
 use Rattle.notation.proofs.FromRightLaws.{rankOf}
@@ -47,7 +47,7 @@ looser-level star (suc zero) h r = one-tensor r
 looser-level star (suc (suc zero)) h r = r
 looser-level star (suc (suc (suc b))) h r = absurd (omega arith)
 
-pub join-reads : {e : End} {ms ns : List Mark} {t u : Term} (s : Sign) → Reads (levelAt (suc (rank s))) closed ms t → Reads (levelAt (rank s)) e ns u → Reads (levelAt (rank s)) e (ms ++ (sign s ∷ ns)) (join s t u)
+pub join-reads : {e : End} {ms ns : List Mark} {t u : Term} (s : Sign) → Reads (levelAt (suc (rank s))) closed ms t → Reads (levelAt (rank s)) e ns u → Reads (levelAt (rank s)) e (ms ++ (sign s ∷ ns)) (signTerm s t u)
 join-reads semicolon p q = with-semicolon p q
 join-reads bar p q = with-bar p q
 join-reads star p q = with-star p q
@@ -67,11 +67,11 @@ unfolding bracketedIf
 bracketed-writes n b true w = record { end = closed; ends = refl; reads = any-level b (brackets (one-alternation (one-tensor (one-operand (labelled n (w .reads)))))) }
 bracketed-writes n b false w = record { end = opened; ends = tt; reads = any-level b (labelled n (w .reads)) }
 
-chain-writes : {L : List Mark} {t u : Term} (s : Sign) (b : ℕ) (f : Bool) (R : Bool → List Mark) → Writes (suc (rank s)) true L t → ((g : Bool) → Writes (rank s) g (R g) u) → Writes b f (chain s b f L R) (join s t u)
+chain-writes : {L : List Mark} {t u : Term} (s : Sign) (b : ℕ) (f : Bool) (R : Bool → List Mark) → Writes (suc (rank s)) true L t → ((g : Bool) → Writes (rank s) g (R g) u) → Writes b f (chain s b f L R) (signTerm s t u)
 unfolding chain
 chain-writes {L} {t} {u} s b f R p q = go (ltb (rank s) b) refl
   where
-    go : (c : Bool) → ltb (rank s) b ≡ c → Writes b f (cond c (opening ∷ ((L ++ (sign s ∷ R false)) ++ (closing ∷ []))) (L ++ (sign s ∷ R f))) (join s t u)
+    go : (c : Bool) → ltb (rank s) b ≡ c → Writes b f (cond c (opening ∷ ((L ++ (sign s ∷ R false)) ++ (closing ∷ []))) (L ++ (sign s ∷ R f))) (signTerm s t u)
     go true h = record { end = closed; ends = any-ends f; reads = any-level b (brackets (looser-level s 0 (omega arith) (join-reads s (closed-reads p) (q false .reads)))) }
     go false h = record { end = q f .end; ends = q f .ends; reads = looser-level s b (ltb-false (rank s) b h) (join-reads s (closed-reads p) (q f .reads)) }
 

@@ -2,16 +2,16 @@
 -- Assumes nothing.
 use mathlib.Core.Path.{_≡_, refl, sym, ap, _∙_, subst}
 use mathlib.Core.Bool.{Bool, true, false, cond}
-use mathlib.Core.List.{List, [], _∷_, _++_, append-assoc, append-nil}
-use Prim.Native.Nat.{ℕ, zero, suc, _+_, _*_, _-_, _≤_, _<_, _/_, _%_}
+use mathlib.Core.List.{List, [], _∷_, _++_}
+use Prim.Native.Nat.{ℕ, zero, suc, _+_, _*_, _-_, _<_, _/_, _%_}
 use native.Mathlib.Omega.{arith}
 use lib.Dec.{ltb, eqb}
-use lib.ListN.{length, length-append}
-use borrow.Author.Tests.{ltb-true, ltb-false, ne-eqb}
+use lib.ListN.{length}
+use borrow.Author.Tests.{ltb-true, ne-eqb}
 use Rattle.format.specs.Terms.{Term, atomic, id, label, sequence, tensor, empty, alternation, assert, defined}
 use Rattle.format.specs.Encoding.{TermValues}
-use Rattle.notation.specs.Letters.{IsDigit, isDigit, leftRound, rightRound}
-use Rattle.notation.specs.Marks.{Sign, semicolon, bar, star, Leaf, ruleLeaf, idLeaf, emptyLeaf, goalLeaf, tacticLeaf, Mark, leaf, labelMark, sign, opening, closing, Digits, no-more, more, Number, number, Spells, rule, identity, nothing, assertion, tactic, labelling, between, opens, closes, Spelled, ends, blanked, marked}
+use Rattle.notation.specs.Letters.{IsDigit, leftRound, rightRound}
+use Rattle.notation.specs.Marks.{Sign, semicolon, bar, star, ruleLeaf, idLeaf, emptyLeaf, goalLeaf, tacticLeaf, Mark, leaf, labelMark, sign, opening, closing, Digits, no-more, more, Number, number, Spells, rule, identity, nothing, assertion, tactic, labelling, between, opens, closes, Spelled, ends, blanked, marked}
 use Rattle.notation.specs.Grammar.{ReadsAs}
 use Rattle.notation.specs.Passing.{MarkValue, MarkValues}
 use Rattle.notation.specs.Written.{rank, chain, bracketedIf, marksOf, digits, decimal, markBytes, textOf, written}

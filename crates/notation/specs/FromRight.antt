@@ -6,7 +6,7 @@ use mathlib.Core.List.{List, [], _∷_}
 use mathlib.Core.Option.{Option, none, some}
 use lib.Dec.{leb}
 use Rattle.format.specs.Terms.{Term}
-use Rattle.notation.specs.Marks.{Sign, Mark, leaf, labelMark, sign, opening, closing, leafTerm, labelTerm, join}
+use Rattle.notation.specs.Marks.{Sign, Mark, leaf, labelMark, sign, opening, closing, leafTerm, labelTerm, signTerm}
 use Rattle.notation.specs.Written.{rank}
 
 -- a sign whose right part was read, or a closing bracket; the last met comes first
@@ -24,7 +24,7 @@ pub data State : Type 0 where
 unfoldable pub reducedTerm : (least : ℕ) → Term → List Frame → Term
 reducedTerm n t [] = t
 reducedTerm n t (bracket ∷ fs) = t
-reducedTerm n t (waiting s u ∷ fs) = cond (leb n (rank s)) (reducedTerm n (join s t u) fs) t
+reducedTerm n t (waiting s u ∷ fs) = cond (leb n (rank s)) (reducedTerm n (signTerm s t u) fs) t
 
 unfoldable pub reducedFrames : (least : ℕ) → List Frame → List Frame
 reducedFrames n [] = []

@@ -2,7 +2,7 @@
 use Prim.Native.Nat.{ℕ}
 use mathlib.Core.List.{List, [], _∷_, _++_}
 use Rattle.format.specs.Terms.{Term, sequence, tensor, alternation}
-use Rattle.notation.specs.Marks.{Sign, semicolon, bar, star, Leaf, Mark, leaf, labelMark, sign, opening, closing, leafTerm, labelTerm, Spelled}
+use Rattle.notation.specs.Marks.{semicolon, bar, star, Leaf, Mark, leaf, labelMark, sign, opening, closing, leafTerm, labelTerm, Spelled}
 
 -- what a list of marks is read as: a chain of sequences, of alternations, of tensors, or one operand
 pub data Level : Type 0 where

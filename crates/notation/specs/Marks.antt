@@ -38,10 +38,10 @@ abbrev pub labelTerm : ℕ → Term → Term
 labelTerm n t = label (labelOf n) t
 
 -- the term of two terms with a sign between them
-abbrev pub join : Sign → Term → Term → Term
-join semicolon t u = sequence t u
-join bar t u = alternation t u
-join star t u = tensor t u
+abbrev pub signTerm : Sign → Term → Term → Term
+signTerm semicolon t u = sequence t u
+signTerm bar t u = alternation t u
+signTerm star t u = tensor t u
 
 abbrev pub signByte : Sign → ℕ
 signByte semicolon = semicolonByte

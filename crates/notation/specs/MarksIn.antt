@@ -1,6 +1,6 @@
 -- P8: the marks of a text, each known by its first byte: no mark has that byte elsewhere, so that digits, blanks, `d`, `>` and `]` are passed over.
 use Prim.Native.Nat.{ℕ, _+_, _*_, _-_}
-use mathlib.Core.Bool.{Bool, cond}
+use mathlib.Core.Bool.{cond}
 use mathlib.Core.List.{List, [], _∷_}
 use mathlib.Core.Option.{Option, none, some}
 use lib.Dec.{eqb}

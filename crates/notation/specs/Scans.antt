@@ -2,9 +2,8 @@
 -- 37, a value over 65,535, at its first digit, when its last digit is read. 5 comes at the mark that makes the 4,097th term field, once complete and after any 37;
 -- of these three the one met first in the text is given."
 use Prim.Native.Nat.{ℕ, _+_, _*_, _-_}
-use mathlib.Core.Bool.{Bool, true, false, cond}
+use mathlib.Core.Bool.{Bool, true, cond}
 use mathlib.Core.List.{List, [], _∷_}
-use mathlib.Core.Option.{Option, none, some}
 use lib.Dec.{eqb, leb, ltb}
 use Rattle.format.specs.Limits.{mostTermFields}
 use Rattle.format.specs.Refusals.{limitPassed, textWrong, valueTooLarge}

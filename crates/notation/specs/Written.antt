@@ -5,7 +5,7 @@ use mathlib.Core.List.{List, [], _∷_, _++_}
 use lib.Dec.{ltb}
 use Rattle.format.specs.Terms.{Term, atomic, id, label, sequence, tensor, empty, alternation, assert, defined}
 use Rattle.notation.specs.Letters.{blank, letterA, question, letterT, letterI, letterD, less, greater, leftSquare, rightSquare, leftRound, rightRound}
-use Rattle.notation.specs.Marks.{Sign, semicolon, bar, star, Leaf, ruleLeaf, idLeaf, emptyLeaf, goalLeaf, tacticLeaf, Mark, leaf, labelMark, sign, opening, closing, signByte}
+use Rattle.notation.specs.Marks.{Sign, semicolon, bar, star, ruleLeaf, idLeaf, emptyLeaf, goalLeaf, tacticLeaf, Mark, leaf, labelMark, sign, opening, closing, signByte}
 
 -- how tight a sign binds
 abbrev pub rank : Sign → ℕ

@@ -1,20 +1,20 @@
 -- The sizes of what is held, and when a state is stuck.
 -- Assumes nothing.
-use mathlib.Core.Path.{_≡_, refl, sym, ap, _∙_, subst}
+use mathlib.Core.Path.{_≡_, refl, ap, _∙_}
 use mathlib.Core.Bool.{Bool, true, false, cond}
-use mathlib.Core.List.{List, [], _∷_, _++_, append-assoc, append-nil}
-use Prim.Native.Nat.{ℕ, zero, suc, _+_, _*_, _-_, _≤_, _<_}
+use mathlib.Core.List.{List, [], _∷_, _++_}
+use Prim.Native.Nat.{ℕ, zero, suc, _+_, _*_, _-_, _≤_}
 use native.Mathlib.Omega.{arith}
 use lib.Dec.{leb}
-use lib.ListN.{length, getD, drop, length-append}
+use lib.ListN.{length, drop, length-append}
 use Rattle.format.specs.Terms.{Term, size}
 use Rattle.format.specs.Encoding.{termBytes}
 use Rattle.format.proofs.Encoded.{length-termBytes}
-use Rattle.notation.specs.Marks.{Sign, semicolon, bar, star, Leaf, ruleLeaf, idLeaf, emptyLeaf, goalLeaf, tacticLeaf, Mark, leaf, labelMark, sign, opening, closing, leafTerm, labelTerm, join}
+use Rattle.notation.specs.Marks.{Sign, Mark, leaf, labelMark, sign, opening, closing, labelTerm, signTerm}
 use Rattle.notation.specs.Written.{rank}
 use Rattle.notation.specs.Passing.{markSize, sizes}
 use Rattle.notation.specs.FromRight.{Frame, waiting, bracket, State, due, had, stuck, reducedTerm, reducedFrames, unbracket, onMark, stateOf}
-use Rattle.notation.proofs.PassingLaws.{size-join, leaf-size}
+use Rattle.notation.proofs.PassingLaws.{size-signTerm, leaf-size}
 use Rattle.text_reader.specs.Held.{restBytes, waits, NotStuck, framesOf}
 
 -- the bytes of a state, and the headers that wait
@@ -31,11 +31,11 @@ pub reduced-size : (n : ℕ) (t : Term) (fs : List Frame) → size (reducedTerm 
 unfolding reducedTerm reducedFrames waits restBytes
 reduced-size n t [] = refl
 reduced-size n t (bracket ∷ fs) = refl
-reduced-size n t (waiting s u ∷ fs) = go (leb n (rank s)) (reduced-size n (join s t u) fs)
+reduced-size n t (waiting s u ∷ fs) = go (leb n (rank s)) (reduced-size n (signTerm s t u) fs)
   where
-    go : (c : Bool) → size (reducedTerm n (join s t u) fs) + length (restBytes (reducedFrames n fs)) + 3 * waits (reducedFrames n fs) ≡ size (join s t u) + length (restBytes fs) + 3 * waits fs
-        → size (cond c (reducedTerm n (join s t u) fs) t) + length (restBytes (cond c (reducedFrames n fs) (waiting s u ∷ fs))) + 3 * waits (cond c (reducedFrames n fs) (waiting s u ∷ fs)) ≡ size t + length (termBytes u ++ restBytes fs) + 3 * (1 + waits fs)
-    go true ih = ih ∙ omega (arith, size-join s t u, rest-length s u fs)
+    go : (c : Bool) → size (reducedTerm n (signTerm s t u) fs) + length (restBytes (reducedFrames n fs)) + 3 * waits (reducedFrames n fs) ≡ size (signTerm s t u) + length (restBytes fs) + 3 * waits fs
+        → size (cond c (reducedTerm n (signTerm s t u) fs) t) + length (restBytes (cond c (reducedFrames n fs) (waiting s u ∷ fs))) + 3 * waits (cond c (reducedFrames n fs) (waiting s u ∷ fs)) ≡ size t + length (termBytes u ++ restBytes fs) + 3 * (1 + waits fs)
+    go true ih = ih ∙ omega (arith, size-signTerm s t u, rest-length s u fs)
     go false ih = refl
 
 unbracket-size : (t : Term) (fs : List Frame) → NotStuck (unbracket t fs) → needs (unbracket t fs) ≡ size t + length (restBytes fs) + 3 * waits fs

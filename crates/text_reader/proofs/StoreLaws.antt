@@ -3,22 +3,21 @@
 use mathlib.Core.Path.{_≡_, refl, sym, ap, ap₂, _∙_, subst}
 use mathlib.Core.Logic.{_≢_}
 use mathlib.Core.Bool.{Bool, true, false, cond}
-use mathlib.Core.List.{List, [], _∷_, _++_, append-assoc, append-nil}
-use Prim.Native.Nat.{ℕ, zero, suc, _+_, _*_, _-_, _≤_, _<_, _/_, _%_}
+use mathlib.Core.List.{List, [], _∷_, _++_, append-assoc}
+use Prim.Native.Nat.{ℕ, suc, _+_, _*_, _-_, _≤_, _<_, _/_, _%_}
 use native.Mathlib.Omega.{arith}
-use native.Mathlib.Numerals.{add-one, add-two, add-three}
-use lib.Dec.{leb, eqb}
+use native.Mathlib.Numerals.{add-one}
+use lib.Dec.{leb}
 use lib.ListN.{length, getD, drop, take, set, length-append, length-drop, length-set}
-use lib.Seq.{sets, sets-eq, drop-at, length-take-le, drop-cons, drop-length, getD-set-same, getD-set-other}
-use borrow.Author.Tests.{eq-eqb, ne-eqb}
+use lib.Seq.{sets, sets-eq, drop-at, length-take-le, getD-set-same, getD-set-other}
 use Rattle.words.specs.Word.{word, putWord}
 use Rattle.words.proofs.WordLaws.{word-same}
 use Rattle.format.specs.Terms.{Term, size}
 use Rattle.format.specs.Encoding.{wordBytes, termBytes}
 use Rattle.format.proofs.Encoded.{length-termBytes}
-use Rattle.notation.specs.Marks.{Sign, semicolon, bar, star, Leaf, Mark, leafTerm, labelTerm, join}
+use Rattle.notation.specs.Marks.{Sign, semicolon, bar, star, labelTerm, signTerm}
 use Rattle.notation.specs.Written.{rank}
-use Rattle.notation.specs.FromRight.{Frame, waiting, bracket, State, due, had, stuck, reducedTerm, reducedFrames, unbracket}
+use Rattle.notation.specs.FromRight.{Frame, waiting, bracket, reducedTerm, reducedFrames, unbracket}
 use Rattle.notation.specs.Signs.{rankTag}
 use Rattle.text_reader.specs.Held.{framesEnd, signTag, restBytes, waits, Stacked, ShownDue, ShownHad, Shown, NotStuck, reducesMore, SameBelow, Reduced}
 use Rattle.text_reader.proofs.HeldLaws.{reduced-size}
@@ -72,14 +71,14 @@ reduced-sign n total low k w [] st h g z = absurd (omega (arith, st))
 reduced-sign n total low k w (bracket ∷ fs) st h g z = absurd (z (g ∙ st .0))
 reduced-sign n total low k w (waiting s u ∷ fs) st h g z = ap (leb n) (ap rankTag (g ∙ st .0) ∙ rank-tag s)
 
-join-bytes : (s : Sign) (t u : Term) → termBytes (join s t u) ≡ signTag s ∷ (wordBytes (size t + size u) ++ (termBytes t ++ termBytes u))
+sign-bytes : (s : Sign) (t u : Term) → termBytes (signTerm s t u) ≡ signTag s ∷ (wordBytes (size t + size u) ++ (termBytes t ++ termBytes u))
 unfolding termBytes
-join-bytes s t u = by s ∙ ap (λ (n : ℕ). signTag s ∷ (wordBytes n ++ (termBytes t ++ termBytes u))) (both t u)
+sign-bytes s t u = by s ∙ ap (λ (n : ℕ). signTag s ∷ (wordBytes n ++ (termBytes t ++ termBytes u))) (both t u)
   where
     both : (t u : Term) → length (termBytes t ++ termBytes u) ≡ size t + size u
     both t u = length-append (termBytes t) (termBytes u) ∙ omega (arith, length-termBytes t, length-termBytes u)
 
-    by : (s : Sign) → termBytes (join s t u) ≡ signTag s ∷ (wordBytes (length (termBytes t ++ termBytes u)) ++ (termBytes t ++ termBytes u))
+    by : (s : Sign) → termBytes (signTerm s t u) ≡ signTag s ∷ (wordBytes (length (termBytes t ++ termBytes u)) ++ (termBytes t ++ termBytes u))
     by semicolon = refl
     by bar = refl
     by star = refl
@@ -102,7 +101,7 @@ module _ (t : Term) (s : Sign) (u : Term) (fs : List Frame) (w o : List ℕ) (fr
   end-is end e = let k : word w (low + 1) + length (restBytes fs) ≡ length o = x .stacked .1 in omega (arith, lengths)
 
   pub took : (o′ : List ℕ) (kind end : ℕ) → 3 ≤ front → kind ≡ getD w low 0 → end ≡ word w (low + 1) → length o′ ≡ length o → drop (front - 3) o′ ≡ kind ∷ (wordBytes (end - front) ++ drop (front - 3 + 3) o)
-      → ShownHad (join s t u) fs w o′ (front - 3) end (low + 3)
+      → ShownHad (signTerm s t u) fs w o′ (front - 3) end (low + 3)
   unfolding Stacked restBytes
   took o′ kind end h k e same put =
       let within = x .within in
@@ -111,7 +110,7 @@ module _ (t : Term) (s : Sign) (u : Term) (fs : List Frame) (w o : List ℕ) (fr
       let tag : kind ≡ signTag s = k ∙ x .stacked .0 in
       let end-at : end + length (restBytes fs) ≡ length o = ends-at (end-is end e) in
       record {
-        bytes = put ∙ ap (λ (m : ℕ). kind ∷ (wordBytes m ++ drop (front - 3 + 3) o)) n ∙ ap (λ (m : ℕ). kind ∷ (wordBytes (size t + size u) ++ drop m o)) back ∙ ap (λ (m : ℕ). m ∷ (wordBytes (size t + size u) ++ drop front o)) tag ∙ ap (λ (l : List ℕ). signTag s ∷ (wordBytes (size t + size u) ++ l)) (x .bytes ∙ sym (append-assoc (termBytes t) (termBytes u) (restBytes fs))) ∙ ap (λ (l : List ℕ). l ++ restBytes fs) (sym (join-bytes s t u));
+        bytes = put ∙ ap (λ (m : ℕ). kind ∷ (wordBytes m ++ drop (front - 3 + 3) o)) n ∙ ap (λ (m : ℕ). kind ∷ (wordBytes (size t + size u) ++ drop m o)) back ∙ ap (λ (m : ℕ). m ∷ (wordBytes (size t + size u) ++ drop front o)) tag ∙ ap (λ (l : List ℕ). signTag s ∷ (wordBytes (size t + size u) ++ l)) (x .bytes ∙ sym (append-assoc (termBytes t) (termBytes u) (restBytes fs))) ∙ ap (λ (l : List ℕ). l ++ restBytes fs) (sym (sign-bytes s t u));
         within = omega arith;
         ends = end-at ∙ sym same;
         stacked = subst (λ (m : ℕ). Stacked w m (low + 3) fs) (sym same) (x .stacked .2);
@@ -154,16 +153,16 @@ module _ (n : ℕ) (t : Term) (fs : List Frame) (w o : List ℕ) (front stop low
   pub taken-ahead : 3 ≤ front
   taken-ahead = let h = x .ahead in omega (arith, waits-first)
 
-  pub taken-next : (o′ : List ℕ) (front′ stop′ low′ : ℕ) (more′ : Bool) → ShownHad (join (taken-first .sign) (x .term) (taken-first .term)) (taken-first .rest) w o′ front′ stop′ low′ → front′ + 3 ≡ front → more′ ≡ reducesMore n (taken-first .rest) → Reduced n t fs w o′ front′ stop′ low′ more′
+  pub taken-next : (o′ : List ℕ) (front′ stop′ low′ : ℕ) (more′ : Bool) → ShownHad (signTerm (taken-first .sign) (x .term) (taken-first .term)) (taken-first .rest) w o′ front′ stop′ low′ → front′ + 3 ≡ front → more′ ≡ reducesMore n (taken-first .rest) → Reduced n t fs w o′ front′ stop′ low′ more′
   unfolding reducedTerm reducedFrames
   taken-next o′ front′ stop′ low′ more′ y f m =
       let p = taken-first in
       let h = x .ahead in
       record {
-        term = join (p .sign) (x .term) (p .term);
+        term = signTerm (p .sign) (x .term) (p .term);
         frames = p .rest;
         shown = y;
-        reduced-same = sym (ap (λ (b : Bool). cond b (reducedTerm n (join (p .sign) (x .term) (p .term)) (p .rest)) (x .term)) (p .tight)) ∙ sym (ap (reducedTerm n (x .term)) (p .is)) ∙ x .reduced-same;
+        reduced-same = sym (ap (λ (b : Bool). cond b (reducedTerm n (signTerm (p .sign) (x .term) (p .term)) (p .rest)) (x .term)) (p .tight)) ∙ sym (ap (reducedTerm n (x .term)) (p .is)) ∙ x .reduced-same;
         left-same = sym (ap (λ (b : Bool). cond b (reducedFrames n (p .rest)) (waiting (p .sign) (p .term) ∷ p .rest)) (p .tight)) ∙ sym (ap (reducedFrames n) (p .is)) ∙ x .left-same;
         is-more = m;
         ahead = omega (arith, waits-first);
@@ -173,7 +172,7 @@ none-taken : (n : ℕ) (t : Term) (fs : List Frame) → false ≡ reducesMore n 
 unfolding reducesMore reducedTerm reducedFrames
 none-taken n t [] e = (refl, refl)
 none-taken n t (bracket ∷ fs) e = (refl, refl)
-none-taken n t (waiting s u ∷ fs) e = (ap (λ (b : Bool). cond b (reducedTerm n (join s t u) fs) t) (sym e), ap (λ (b : Bool). cond b (reducedFrames n fs) (waiting s u ∷ fs)) (sym e))
+none-taken n t (waiting s u ∷ fs) e = (ap (λ (b : Bool). cond b (reducedTerm n (signTerm s t u) fs) t) (sym e), ap (λ (b : Bool). cond b (reducedFrames n fs) (waiting s u ∷ fs)) (sym e))
 
 pub taken-all : (n : ℕ) (t : Term) (fs : List Frame) (w o : List ℕ) (front stop low : ℕ) (more : Bool) → Reduced n t fs w o front stop low more → more ≡ false → ShownHad (reducedTerm n t fs) (reducedFrames n fs) w o front stop low
 taken-all n t fs w o front stop low more x e =

@@ -1,20 +1,20 @@
 -- The whole text, read from the right.
 -- Assumes nothing.
 use mathlib.Core.Path.{_≡_, refl, sym, ap, ap₂, _∙_, subst}
-use mathlib.Core.List.{List, [], _∷_, _++_, append-assoc, append-nil}
-use mathlib.Core.Option.{Option, none, some}
+use mathlib.Core.List.{List, [], _∷_, _++_, append-nil}
+use mathlib.Core.Option.{some}
 use Prim.Native.Nat.{ℕ, zero, suc, _+_, _*_, _-_, _≤_, _<_}
 use native.Mathlib.Omega.{arith}
-use lib.ListN.{length, getD, drop, length-append, length-drop}
+use lib.ListN.{length, getD, drop}
 use lib.Seq.{drop-length}
 use Rattle.format.specs.Terms.{Term, size}
 use Rattle.format.specs.Encoding.{termBytes}
-use Rattle.notation.specs.FromRight.{Frame, waiting, bracket, State, due, had, stuck, reducedTerm, reducedFrames, stateOf, wholeOf, termOf}
+use Rattle.notation.specs.FromRight.{Frame, State, due, had, stuck, reducedTerm, reducedFrames, stateOf, wholeOf, termOf}
 use Rattle.words.specs.Word.{word}
 use Rattle.notation.specs.Marks.{semicolon, bar, star, ruleLeaf, idLeaf, emptyLeaf, goalLeaf, tacticLeaf, Mark, leaf, labelMark, sign, opening, closing}
 use Rattle.notation.specs.Passing.{sizes}
 use Rattle.text_reader.specs.MarkList.{MarkStands, MarksStand}
-use Rattle.text_reader.specs.Held.{framesEnd, restBytes, waits, Stacked, ShownDue, ShownHad, Shown, NotStuck, framesOf, SameBelow, MarkReady, Prepared}
+use Rattle.text_reader.specs.Held.{framesEnd, restBytes, waits, Stacked, ShownHad, Shown, NotStuck, SameBelow, MarkReady, Prepared}
 use Rattle.text_reader.proofs.HeldLaws.{needs, state-size, drop-unstuck, reduced-size}
 use Rattle.text_reader.proofs.StoreLaws.{had-lengths}
 

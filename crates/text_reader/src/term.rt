@@ -7,7 +7,7 @@ ghost use lib.ListN.{length, drop, set, getD};
 ghost use Rattle.words.specs.Word.{putWord};
 ghost use Rattle.format.specs.Terms.{Term};
 ghost use Rattle.format.specs.Encoding.{wordBytes, termBytes};
-ghost use Rattle.notation.specs.Marks.{Sign, Mark, join, labelTerm};
+ghost use Rattle.notation.specs.Marks.{Sign, Mark, signTerm, labelTerm};
 ghost use Rattle.notation.specs.Written.{rank};
 ghost use Rattle.notation.specs.FromRight.{Frame, waiting, bracket, reducedTerm, reducedFrames, unbracket, stateOf};
 ghost use Rattle.text_reader.specs.Held.{framesEnd, signTag, Stacked, ShownDue, ShownHad, Shown, NotStuck, reducesMore, waits, isPlain, SameBelow, MarkReady, Prepared};
@@ -61,7 +61,7 @@ fn reduces_more(low: usize, least: usize, work: &[u8]) -> bool
 // The lowest frame, a sign, with the term read last.
 fn reduce_one(held: TermState, work: &[u8], out: &mut [u8]) -> TermState
     requires { ⌜ (3 ≤ held .front) × (framesEnd ≤ length (now work)) × (length (now out) < 65536) × ((t : Term) × (s : Sign) × (u : Term) × (fs : List Frame) × ShownHad t (waiting s u ∷ fs) (now work) (now out) (held .front) (held .stop) (held .low)) ⌝ }
-    ensures { λ r. ⌜ ((t : Term) (s : Sign) (u : Term) (fs : List Frame) → ShownHad t (waiting s u ∷ fs) (now (work .entry)) (now (out .entry)) (held .front) (held .stop) (held .low) → ShownHad (join s t u) fs (now (work .entry)) (now (out .exit)) (r .front) (r .stop) (r .low)) ⌝ }
+    ensures { λ r. ⌜ ((t : Term) (s : Sign) (u : Term) (fs : List Frame) → ShownHad t (waiting s u ∷ fs) (now (work .entry)) (now (out .entry)) (held .front) (held .stop) (held .low) → ShownHad (signTerm s t u) fs (now (work .entry)) (now (out .exit)) (r .front) (r .stop) (r .low)) ⌝ }
     ensures { λ r. ⌜ (r .front + 3 ≡ held .front) × (held .low + 3 ≡ r .low) × (r .low ≤ framesEnd) ⌝ }
 {
     let front = held.front;

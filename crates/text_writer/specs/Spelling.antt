@@ -1,6 +1,6 @@
 -- How a term is written, by the tag of its field: where brackets are needed, and the bytes of each mark.
 use Prim.Native.Nat.{ℕ}
-use mathlib.Core.Bool.{Bool, true, false, cond}
+use mathlib.Core.Bool.{Bool, false, cond}
 use mathlib.Core.List.{List, [], _∷_, _++_}
 use lib.Dec.{eqb, ltb}
 use Rattle.format.specs.Terms.{Term}

@@ -32,8 +32,8 @@ pub const RUN_STACK: usize = 200704;
 pub const FLATTEN_STACK: usize = 1536;
 pub const CHECK_FLAT_STACK: usize = 1536;
 pub const WRITE_PROOF_STACK: usize = 172032;
-pub const READ_TEXT_STACK: usize = 1536;
-pub const WRITE_TEXT_STACK: usize = 1536;
+pub const READ_TEXT_STACK: usize = 512;
+pub const WRITE_TEXT_STACK: usize = 1024;
 
 pub const LONGEST_PROOF: usize = 21510;
 pub const LONGEST_FLAT: usize = 16131;

@@ -1,11 +1,9 @@
 -- `signs::rank_of` meets its contract: by its tests.
 -- Assumes nothing.
-use borrow.Author.Tests.{eq-eqb, ne-eqb, lt-ltb, le-ltb, le-leb, lt-leb}
+use borrow.Author.Tests.{eq-eqb, ne-eqb}
 use Rattle.notation.specs.Signs.{rankTag}
 use Rattle.notation.proofs.signs.rank_of.Statement.{statement}
 use Rattle.notation.proofs.signs.rank_of.Tie as tie
-use Rattle.notation.proofs.signs.rank_of.Reads as reads
-use Rattle.notation.proofs.signs.rank_of.Lts as lts
 
 -- src/term.rt:44:9
 returns : tie.Need-returns

@@ -1,12 +1,9 @@
 -- `entry::read_within` meets its contract: by what the scan tells.
 -- Assumes nothing.
 use borrow.Author.Needs.{needs}
-use mathlib.Core.Path.{_≡_, refl, sym, ap, _∙_}
-use mathlib.Core.List.{List}
-use Prim.Native.Nat.{ℕ, _≤_}
+use mathlib.Core.Path.{sym, ap, _∙_}
 use native.Mathlib.Omega.{arith}
 use denote.Ref.{now}
-use lib.ListN.{length}
 use Rattle.entries.specs.LentSpace.{Written}
 use Rattle.text_reader.proofs.EntryLaws.{long-text, refused-place, refused-text, found-prepared, found-text}
 use Rattle.text_reader.proofs.entry.read_within.Statement.{statement}

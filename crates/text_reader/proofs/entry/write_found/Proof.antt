@@ -1,11 +1,10 @@
 -- `entry::write_found` meets its contract: 26, or the term in just as many bytes.
 -- Assumes nothing.
 use borrow.Author.Needs.{needs}
-use mathlib.Core.Path.{_≡_, refl, sym, ap, _∙_}
+use mathlib.Core.Path.{ap, _∙_}
 use Prim.Native.Nat.{ℕ}
 use native.Mathlib.Omega.{arith}
 use denote.Ref.{now}
-use lib.ListN.{length}
 use Rattle.answers.specs.Answers.{wrote}
 use Rattle.format.specs.Encoding.{termBytes}
 use Rattle.entries.specs.LentSpace.{Written}

@@ -1,12 +1,11 @@
 -- `term::on_mark` meets its contract: one law for each kind of mark, known by its first byte.
 -- Assumes nothing.
 use borrow.Author.Needs.{needs}
-use mathlib.Core.Path.{_≡_, refl, sym, ap, _∙_}
-use Prim.Native.Nat.{ℕ, _+_, _*_, _≤_, _<_}
+use mathlib.Core.Path.{_≡_, refl, sym, _∙_}
+use Prim.Native.Nat.{ℕ, _+_, _*_, _≤_}
 use native.Mathlib.Omega.{arith}
 use Rattle.notation.specs.Passing.{markSize}
-use Rattle.notation.specs.Marks.{Mark, opening, closing, labelMark}
-use Rattle.text_reader.specs.Held.{MarkReady}
+use Rattle.notation.specs.Marks.{opening, closing, labelMark}
 use Rattle.text_reader.proofs.OnMarkLaws.{frames-above, low-below, in-front, after, unstuck-as, room-as, leaf-done, had-label, had-sign, had-opening, waits-had, label-done, sign-done, opening-unstuck, opening-done, closing-done, is-closing, is-opening, is-label, is-plain, is-paired, is-valued}
 use Rattle.text_reader.proofs.term.on_mark.Statement.{statement}
 use Rattle.text_reader.proofs.term.on_mark.Tie as tie

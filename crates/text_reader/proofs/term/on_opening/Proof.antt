@@ -1,9 +1,8 @@
 -- `term::on_opening` meets its contract.
 -- Assumes nothing.
 use borrow.Author.Needs.{needs}
-use mathlib.Core.Path.{_≡_, refl, sym, ap, _∙_}
 use native.Mathlib.Omega.{arith}
-use Rattle.text_reader.proofs.StoreLaws.{opened-low, shown-opening}
+use Rattle.text_reader.proofs.StoreLaws.{shown-opening}
 use Rattle.text_reader.proofs.term.on_opening.Statement.{statement}
 use Rattle.text_reader.proofs.term.on_opening.Tie as tie
 

@@ -1,8 +1,7 @@
 -- `term::on_sign` meets its contract: the sign takes what binds as tight, and its frame comes below the others.
 -- Assumes nothing.
 use borrow.Author.Needs.{needs}
-use mathlib.Core.Path.{_≡_, refl, sym, ap, _∙_}
-use lib.ListN.{length}
+use mathlib.Core.Path.{ap, _∙_}
 use Prim.Native.Nat.{_-_}
 use native.Mathlib.Omega.{arith}
 use Rattle.notation.specs.Signs.{rankTag}

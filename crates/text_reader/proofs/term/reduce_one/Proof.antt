@@ -1,9 +1,7 @@
 -- `term::reduce_one` meets its contract: the header in front of two terms makes their pair.
 -- Assumes nothing.
 use borrow.Author.Needs.{needs}
-use mathlib.Core.Path.{_≡_, refl, sym, ap, _∙_}
-use Prim.Native.Nat.{_+_, _≤_}
-use lib.ListN.{length}
+use mathlib.Core.Path.{refl}
 use native.Mathlib.Omega.{arith}
 use Rattle.text_reader.proofs.StoreLaws.{frame-below, end-is, took}
 use Rattle.text_reader.proofs.term.reduce_one.Statement.{statement}

@@ -1,7 +1,7 @@
 -- `term::reduces_more` meets its contract: the frame at the place says whether it is a sign that binds as tight.
 -- Assumes nothing.
 use borrow.Author.Needs.{needs}
-use mathlib.Core.Path.{_≡_, refl, sym, ap, _∙_}
+use mathlib.Core.Path.{refl, ap, _∙_}
 use lib.Dec.{leb}
 use native.Mathlib.Omega.{arith}
 use Rattle.text_reader.proofs.StoreLaws.{reduced-none, reduced-bracket, reduced-sign}
