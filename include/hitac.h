@@ -9,6 +9,20 @@
 extern "C" {
 #endif
 
+/*
+ * The version of this header. The minor number goes up with each new call: 1.0 had the first five, 1.1 brought hitac_read_text,
+ * 1.2 hitac_write_text. The major number goes up when a program has to be compiled anew.
+ */
+#define HITAC_VERSION_MAJOR 1
+#define HITAC_VERSION_MINOR 2
+#define HITAC_VERSION (HITAC_VERSION_MAJOR * 65536 + HITAC_VERSION_MINOR) /* as hitac_version answers it */
+
+/*
+ * The version of the library: that of the header that it was built with. A program can go on with a library of the same
+ * major number and of its own or a larger minor number.
+ */
+uint32_t hitac_version(void);
+
 /* The answer of every call. A field that does not apply is 0. */
 struct hitac_answer {
     uint32_t number;    /* 0 for success, else the number of the refusal */
@@ -58,12 +72,24 @@ struct hitac_answer hitac_write_proof(const uint8_t *table, size_t table_length,
                                       uint8_t *work, size_t work_length,
                                       uint8_t *out, size_t out_length);
 
+/* Reads a text in the notation of docs/FORMAT.md; writes a term file. */
+struct hitac_answer hitac_read_text(const uint8_t *text, size_t text_length,
+                                    uint8_t *work, size_t work_length,
+                                    uint8_t *out, size_t out_length);
+
+/* Writes the text of a term file. */
+struct hitac_answer hitac_write_text(const uint8_t *term, size_t term_length,
+                                     uint8_t *work, size_t work_length,
+                                     uint8_t *out, size_t out_length);
+
 /* Work space that each call needs, in bytes. */
 #define HITAC_CHECK_WORK 65536       /* for hitac_check */
 #define HITAC_RUN_WORK 1290752       /* for hitac_run */
 #define HITAC_FLATTEN_WORK 200704    /* for hitac_flatten */
 #define HITAC_CHECK_FLAT_WORK 65536  /* for hitac_check_flat */
 #define HITAC_WRITE_PROOF_WORK 65536 /* for hitac_write_proof */
+#define HITAC_READ_TEXT_WORK 196608  /* for hitac_read_text */
+#define HITAC_WRITE_TEXT_WORK 36864  /* for hitac_write_text */
 
 /*
  * Machine stack that each call needs, in bytes, whatever the files: from the arguments and the return address that the
@@ -76,13 +102,17 @@ struct hitac_answer hitac_write_proof(const uint8_t *table, size_t table_length,
 #define HITAC_FLATTEN_STACK 1536       /* for hitac_flatten */
 #define HITAC_CHECK_FLAT_STACK 1536    /* for hitac_check_flat */
 #define HITAC_WRITE_PROOF_STACK 172032 /* for hitac_write_proof */
+#define HITAC_READ_TEXT_STACK 512      /* for hitac_read_text */
+#define HITAC_WRITE_TEXT_STACK 1024    /* for hitac_write_text */
 
 /* Output space that is always long enough, in bytes. */
 #define HITAC_LONGEST_PROOF 21510 /* for hitac_run and hitac_write_proof: no proof file is longer */
 #define HITAC_LONGEST_FLAT 16131  /* for hitac_flatten: no flat form of an accepted proof is longer */
+#define HITAC_LONGEST_TERM 20480  /* for hitac_read_text: no term file is longer */
+#define HITAC_LONGEST_TEXT 28671  /* for hitac_write_text: no written text is longer */
 
 /* Limits. */
-#define HITAC_LONGEST_FILE 65535    /* bytes in a file */
+#define HITAC_LONGEST_FILE 65535    /* bytes in a file, a text among them */
 #define HITAC_MOST_STEPS 4096       /* largest budget of hitac_run */
 #define HITAC_MOST_RULES 4096       /* rules in a table */
 #define HITAC_MOST_PREMISES 8       /* premises of a rule */
@@ -92,16 +122,17 @@ struct hitac_answer hitac_write_proof(const uint8_t *table, size_t table_length,
 #define HITAC_MOST_USES 4096        /* uses in a flat file */
 #define HITAC_MOST_OPENS 256        /* opens in a flat file */
 #define HITAC_MOST_ENTRIES 2048     /* uses and opens of a flat file that hitac_write_proof takes */
+#define HITAC_MOST_VALUE 65535      /* a rule name, goal, label or tactic number */
 
 /* The field file of an answer. */
 #define HITAC_NO_FILE 0    /* the refusal is in neither file */
 #define HITAC_TABLE 1      /* in the table */
-#define HITAC_OTHER_FILE 2 /* in the proof, job or flat file */
+#define HITAC_OTHER_FILE 2 /* in the proof, job or flat file, the text or the term file */
 
 /* The field number of an answer. */
 #define HITAC_SUCCESS 0 /* the result is there */
 
-/* Refusals while a file is read. */
+/* Refusals while a file is read; 1 and 5 also while a text is. */
 #define HITAC_INPUT_TOO_LONG 1        /* the file has more than 65,535 bytes */
 #define HITAC_FIELD_TORN 2            /* a field is cut off, or its contents reach past what encloses it */
 #define HITAC_TAG_NOT_ALLOWED 3       /* the tag may not stand there */
@@ -123,6 +154,10 @@ struct hitac_answer hitac_write_proof(const uint8_t *table, size_t table_length,
 #define HITAC_FLAT_WRONG 27       /* an entry of the flat file does not apply, or goals are pending at its end */
 #define HITAC_ENTRIES_TOO_MANY 28 /* the flat file has more than 2,048 entries and cannot be written as a proof */
 #define HITAC_WORK_TOO_SHORT 29   /* the work space is shorter than the size named for the call */
+
+/* Refusals of a text. */
+#define HITAC_TEXT_WRONG 36      /* no text of the notation goes on with this byte, or the text ends early */
+#define HITAC_VALUE_TOO_LARGE 37 /* a value is over 65,535; the place is that of its first digit */
 
 #ifdef __cplusplus
 }

@@ -1,4 +1,4 @@
-/* Checks that include/hitac.h and the library agree: the answer's layout, the sizes, every refusal number and every limit. C99 and C++. */
+/* Checks that include/hitac.h and the library agree: version, the answer's layout, sizes, refusal numbers and limits. C99 and C++. */
 #include <stdio.h>
 #include <string.h>
 
@@ -68,7 +68,15 @@ static void small_proof(size_t goals, size_t goal, size_t name, size_t remaining
     field(&other, 3, remaining, 20);
 }
 
-/* The file that a call takes beside the table, for a success. */
+/* So many times some marks, and others behind them, as the text. */
+static void marks(const char *first, size_t times, const char *last)
+{
+    other.length = 0;
+    text(&other, first, times);
+    text(&other, last, 1);
+}
+
+/* The file that a call takes beside the table or alone, for a success. */
 static void good_files(enum call call)
 {
     small_table();
@@ -81,11 +89,17 @@ static void good_files(enum call call)
         entry(&other, 2, 20);
         entry(&other, 2, 20);
     }
+    if (call == READ_TEXT)
+        marks("[1]", 1, "a12 ; id");
+    if (call == WRITE_TEXT) {
+        other.length = 0;
+        side_by_side(&other, 3, 12);
+    }
 }
 
 static int writes(enum call call)
 {
-    return call == RUN || call == FLATTEN || call == WRITE_PROOF;
+    return call != CHECK && call != CHECK_FLAT;
 }
 
 /* One byte too few of work space, and just enough; the same of output space. */
@@ -121,6 +135,13 @@ static void layout(void)
     expect("fields", offsetof(struct hitac_answer, fields) == 20);
     expect("uses", offsetof(struct hitac_answer, uses) == 24);
     expect("remaining", offsetof(struct hitac_answer, remaining) == 28);
+}
+
+static void version(void)
+{
+    expect("the version of header and library", hitac_version() == HITAC_VERSION);
+    expect("its major number", hitac_version() / 65536 == HITAC_VERSION_MAJOR);
+    expect("its minor number", hitac_version() % 65536 == HITAC_VERSION_MINOR);
 }
 
 /* The counts of an answer stand where the header says. */
@@ -313,8 +334,85 @@ static void limits_of_flats(void)
     is("an open more", answer(CHECK_FLAT), HITAC_LIMIT_PASSED, HITAC_OTHER_FILE, (uint32_t)end);
 }
 
+/* Whether a call leaves just these bytes, and says so. */
+static int leaves(enum call call, const void *bytes, size_t length)
+{
+    struct hitac_answer got = answer(call);
+    return got.number == HITAC_SUCCESS && got.length == length && memcmp(out, bytes, length) == 0;
+}
+
+/* A term in both forms: a1 * ([3]a2) ; a3, whose brackets keep the label from reaching too far. */
+static void both_forms(void)
+{
+    static const char TEXT[] = "a1 * ([3]a2) ; a3";
+    static const uint8_t TERM[] = {19, 0, 23, 20, 0, 15, 16, 0, 2, 0, 1, 18, 0, 7, 0, 3, 16, 0, 2, 0, 2, 16, 0, 2, 0, 3};
+    marks(TEXT, 1, "");
+    expect("the term of a text", leaves(READ_TEXT, TERM, sizeof TERM));
+    marks(" a0001*( (", 1, "[03]a2)) ;a3  ");
+    expect("the term of a text with other blanks, brackets and zeros", leaves(READ_TEXT, TERM, sizeof TERM));
+    other.length = 0;
+    for (size_t i = 0; i < sizeof TERM; i++)
+        put(&other, TERM[i]);
+    expect("the text of a term", leaves(WRITE_TEXT, TEXT, sizeof TEXT - 1));
+}
+
+/* 36 and 37, and 1 and 5 where a text has them; the largest value. */
+static void refusals_of_texts(void)
+{
+    marks("a1 ; ", 1, "a2x");
+    is("36", answer(READ_TEXT), HITAC_TEXT_WRONG, HITAC_OTHER_FILE, 7);
+    marks("(id ", 1, "");
+    is("36 at the end", answer(READ_TEXT), HITAC_TEXT_WRONG, HITAC_OTHER_FILE, 4);
+    marks("", 0, "a65535");
+    static const uint8_t largest[] = {16, 0, 2, HITAC_MOST_VALUE / 256, HITAC_MOST_VALUE % 256};
+    expect("the largest value", leaves(READ_TEXT, largest, sizeof largest));
+    marks("id ; ", 1, "a65536x");
+    is("37", answer(READ_TEXT), HITAC_VALUE_TOO_LARGE, HITAC_OTHER_FILE, 6);
+    marks(" ", HITAC_LONGEST_FILE - 2, "id");
+    is("the longest text that is read", answer(READ_TEXT), HITAC_SUCCESS, HITAC_NO_FILE, 0);
+    marks(" ", HITAC_LONGEST_FILE - 1, "id");
+    is("1 of a text", answer(READ_TEXT), HITAC_INPUT_TOO_LONG, HITAC_OTHER_FILE, 0);
+    marks("[1]", HITAC_MOST_TERM_FIELDS, "id");
+    is("5 of a text", answer(READ_TEXT), HITAC_LIMIT_PASSED, HITAC_OTHER_FILE, 3 * HITAC_MOST_TERM_FIELDS);
+}
+
+/* 1 to 5 of a term file. */
+static void refusals_of_term_files(void)
+{
+    other.length = 0;
+    is("2 of a term file", answer(WRITE_TEXT), HITAC_FIELD_TORN, HITAC_OTHER_FILE, 0);
+    field(&other, 3, 1, 10);
+    is("3 of a term file", answer(WRITE_TEXT), HITAC_TAG_NOT_ALLOWED, HITAC_OTHER_FILE, 0);
+    other.length = 0;
+    field(&other, 17, 0, 0);
+    put(&other, 0);
+    is("4 of a term file", answer(WRITE_TEXT), HITAC_LENGTH_WRONG, HITAC_OTHER_FILE, 3);
+    other.length = 0;
+    labels(&other, HITAC_MOST_TERM_FIELDS + 1);
+    is("5 of a term file", answer(WRITE_TEXT), HITAC_LIMIT_PASSED, HITAC_OTHER_FILE, 5 * HITAC_MOST_TERM_FIELDS);
+    other.length = HITAC_LONGEST_FILE + 1;
+    is("1 of a term file", answer(WRITE_TEXT), HITAC_INPUT_TOO_LONG, HITAC_OTHER_FILE, 0);
+}
+
+/* The most labels of five digits round such an atomic: no term file is longer, and no written text. */
+static void longest_term_and_text(void)
+{
+    marks("[65535]", HITAC_MOST_TERM_FIELDS - 1, "a65535");
+    expect("the longest text", other.length == HITAC_LONGEST_TEXT);
+    struct hitac_answer got = answer_in(READ_TEXT, HITAC_READ_TEXT_WORK, HITAC_LONGEST_TERM, 0);
+    is("its term file", got, HITAC_SUCCESS, HITAC_NO_FILE, 0);
+    expect("the longest term file", got.length == HITAC_LONGEST_TERM);
+    other.length = 0;
+    for (size_t i = 0; i < got.length; i++)
+        put(&other, out[i]);
+    got = answer_in(WRITE_TEXT, HITAC_WRITE_TEXT_WORK, HITAC_LONGEST_TEXT, 0);
+    is("its text", got, HITAC_SUCCESS, HITAC_NO_FILE, 0);
+    expect("the longest text is written", got.length == HITAC_LONGEST_TEXT);
+}
+
 int main(void)
 {
+    version();
     layout();
     counts();
     spaces(CHECK);
@@ -322,6 +420,8 @@ int main(void)
     spaces(FLATTEN);
     spaces(CHECK_FLAT);
     spaces(WRITE_PROOF);
+    spaces(READ_TEXT);
+    spaces(WRITE_TEXT);
     refusals_of_reading();
     refusals_of_tables();
     refusals_of_meaning();
@@ -330,6 +430,10 @@ int main(void)
     limits_of_terms();
     longest_results();
     limits_of_flats();
+    both_forms();
+    refusals_of_texts();
+    refusals_of_term_files();
+    longest_term_and_text();
     printf("agreement: %u tests, %u wrong\n", tests, failures);
     return failures != 0;
 }

@@ -1,4 +1,4 @@
-/* The five calls on files and spaces that the tests of the library share. C99 and C++. */
+/* The calls on files and spaces that the tests of the library share. C99 and C++. */
 #ifndef CALLS_H
 #define CALLS_H
 
@@ -8,8 +8,8 @@
 static struct bytes table, other;
 static uint8_t work[HITAC_RUN_WORK], out[HITAC_LONGEST_FILE];
 
-/* The five calls in one form, so that a case is one line. */
-enum call { CHECK, RUN, FLATTEN, CHECK_FLAT, WRITE_PROOF };
+/* The calls in one form, so that a case is one line. The last two take no table: the other file is the text or the term file. */
+enum call { CHECK, RUN, FLATTEN, CHECK_FLAT, WRITE_PROOF, READ_TEXT, WRITE_TEXT };
 
 static inline struct hitac_answer answer_in(enum call call, size_t work_length, size_t out_length, uint32_t budget)
 {
@@ -22,8 +22,12 @@ static inline struct hitac_answer answer_in(enum call call, size_t work_length, 
         return hitac_flatten(table.at, table.length, other.at, other.length, work, work_length, out, out_length);
     case CHECK_FLAT:
         return hitac_check_flat(table.at, table.length, other.at, other.length, work, work_length);
-    default:
+    case WRITE_PROOF:
         return hitac_write_proof(table.at, table.length, other.at, other.length, work, work_length, out, out_length);
+    case READ_TEXT:
+        return hitac_read_text(other.at, other.length, work, work_length, out, out_length);
+    default:
+        return hitac_write_text(other.at, other.length, work, work_length, out, out_length);
     }
 }
 
@@ -38,8 +42,12 @@ static inline size_t work_of(enum call call)
         return HITAC_FLATTEN_WORK;
     case CHECK_FLAT:
         return HITAC_CHECK_FLAT_WORK;
-    default:
+    case WRITE_PROOF:
         return HITAC_WRITE_PROOF_WORK;
+    case READ_TEXT:
+        return HITAC_READ_TEXT_WORK;
+    default:
+        return HITAC_WRITE_TEXT_WORK;
     }
 }
 

@@ -1,4 +1,4 @@
-/* Putting files together, for the tests of the library. docs/FORMAT.md says what the fields are. C99 and C++. */
+/* Putting files and texts together, for the tests of the library. docs/FORMAT.md says what the fields are. C99 and C++. */
 #ifndef FILES_H
 #define FILES_H
 
@@ -72,6 +72,14 @@ static inline void entry(struct bytes *file, size_t name, size_t goal)
     header(file, 32, 4);
     put16(file, name);
     put16(file, goal);
+}
+
+/* Some marks of a text, so many times. */
+static inline void text(struct bytes *file, const char *marks, size_t times)
+{
+    while (times-- > 0)
+        for (const char *byte = marks; *byte != 0; byte++)
+            put(file, (uint8_t)*byte);
 }
 
 /* A term of so many fields, label in label, around id. */

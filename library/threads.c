@@ -337,6 +337,84 @@ static void deep_derivations(struct tested *tested)
     expect(tested, "no goals", "", 0);
 }
 
+/* A text: a beginning so many times, then a middle, then an end as many times. */
+struct nest {
+    const char *name, *before;
+    size_t times;
+    const char *middle, *after;
+    uint32_t number;
+};
+
+static const struct nest NESTS[] = {
+    {"32,766 pairs of brackets", "(", 32766, "id", ")", 0},
+    {"65,535 opening brackets", "(", 65535, "", "", 36},
+    {"4,095 labels", "[65535]", 4095, "a65535", "", 0},
+    {"4,096 labels", "[1]", 4096, "id", "", 5},
+    {"4,095 labels, each in brackets", "([1]", 4095, "id", ")", 0},
+    {"1,365 labels in brackets, side by side", "([1]id) * ", 1365, "id", "", 0},
+    {"2,048 leaves in a sequence", "a65535 ; ", 2047, "a65535", "", 0},
+    {"2,048 leaves in an alternation", "a65535 | ", 2047, "a65535", "", 0},
+    {"2,048 leaves in a tensor", "a65535 * ", 2047, "a65535", "", 0},
+    {"2,047 sequences in brackets to the left", "(", 2047, "id", ";id)", 0},
+    {"2,047 tensors in brackets to the right", "id*(", 2047, "id", ")", 0},
+    {"682 times each sign, the tightest first", "id*id|id;", 682, "id", "", 0},
+    {"682 times each sign, the loosest first", "id;id|id*", 682, "id", "", 0},
+    {"65,533 blanks", " ", 65533, "id", "", 0},
+    {"65,534 zeros in a number", "", 65534, "a", "0", 0},
+};
+
+/* Deep and long texts, and the texts of deep terms. */
+static void deep_texts(struct tested *tested)
+{
+    for (size_t i = 0; i < sizeof NESTS / sizeof NESTS[0]; i++) {
+        const struct nest *nest = &NESTS[i];
+        other.length = 0;
+        text(&other, nest->before, nest->times);
+        text(&other, nest->middle, 1);
+        text(&other, nest->after, nest->times);
+        expect(tested, nest->name, " as text", nest->number);
+    }
+    for (size_t i = 0; i < SHAPE_COUNT; i++) {
+        other.length = 0;
+        term(&other, &SHAPES[i]);
+        size_t length = answer(WRITE_TEXT).length;
+        memcpy(other.at, out, length);
+        other.length = length;
+        expect(tested, SHAPES[i].name, " as text", 0);
+    }
+}
+
+/* Deep terms as files by themselves, and one label too many. */
+static void deep_term_files(struct tested *tested)
+{
+    for (size_t i = 0; i < SHAPE_COUNT; i++) {
+        other.length = 0;
+        term(&other, &SHAPES[i]);
+        expect(tested, SHAPES[i].name, " as a term file", 0);
+    }
+    other.length = 0;
+    labels(&other, HITAC_MOST_TERM_FIELDS + 1);
+    expect(tested, "4,096 labels", " as a term file", 5);
+}
+
+/* Every deep file that the entry takes. */
+static void deep_files(struct tested *tested)
+{
+    if (tested->call == READ_TEXT) {
+        deep_texts(tested);
+        return;
+    }
+    if (tested->call == WRITE_TEXT) {
+        deep_term_files(tested);
+        return;
+    }
+    deep_tables(tested);
+    if (takes_flat(tested->call))
+        deep_derivations(tested);
+    else
+        deep_terms(tested);
+}
+
 /* What the thread of an entry does, on a stack that it maps for the calls. */
 static void *test(void *argument)
 {
@@ -350,11 +428,7 @@ static void *test(void *argument)
         wrong(tested, "mmap", "", "no stack");
         return NULL;
     }
-    deep_tables(tested);
-    if (takes_flat(tested->call))
-        deep_derivations(tested);
-    else
-        deep_terms(tested);
+    deep_files(tested);
     munmap(guard, mapped);
     return NULL;
 }
@@ -367,6 +441,8 @@ int main(void)
         {FLATTEN, "flatten", HITAC_FLATTEN_STACK, 0, 0, 0},
         {CHECK_FLAT, "check_flat", HITAC_CHECK_FLAT_STACK, 0, 0, 0},
         {WRITE_PROOF, "write_proof", HITAC_WRITE_PROOF_STACK, 0, 0, 0},
+        {READ_TEXT, "read_text", HITAC_READ_TEXT_STACK, 0, 0, 0},
+        {WRITE_TEXT, "write_text", HITAC_WRITE_TEXT_STACK, 0, 0, 0},
     };
     unsigned failures = 0;
     struct sigaction action;

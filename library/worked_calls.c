@@ -4,7 +4,8 @@
 #include "hitac.h"
 
 static uint8_t table[HITAC_LONGEST_FILE], proof[HITAC_LONGEST_FILE], job[HITAC_LONGEST_FILE], flat[HITAC_LONGEST_FILE];
-static size_t table_length, proof_length, job_length, flat_length;
+static uint8_t text[HITAC_LONGEST_FILE], term[HITAC_LONGEST_FILE];
+static size_t table_length, proof_length, job_length, flat_length, text_length, term_length;
 
 static size_t load(const char *folder, const char *name, uint8_t *bytes)
 {
@@ -27,6 +28,8 @@ int main(int count, char **arguments)
     proof_length = load(folder, "proof.hip", proof);
     job_length = load(folder, "job.tac", job);
     flat_length = load(folder, "flat.der", flat);
+    text_length = load(folder, "tactic_3.txt", text);
+    term_length = load(folder, "tactic_3.trm", term);
     worked_calls();
     return 0;
 }

@@ -1,8 +1,10 @@
 //! What is measured: calls of every entry, each in four sizes that double, the
-//! last of them at a limit of document 01.
+//! last of them at a limit of document 01 or 02.
 
 use crate::files::{self, Files, Keys};
+use crate::texts::{self, Join};
 use boundary::compare::name_of;
+use second::generate::build;
 use second::generate::case::{Case, Entry};
 
 /// Calls that differ in size alone.
@@ -48,7 +50,16 @@ fn family(
 /// All of them, entry by entry.
 pub fn all() -> Vec<Family> {
     let mut list = Vec::new();
-    for entry in [Entry::Check, Entry::Flatten, Entry::CheckFlat, Entry::WriteProof, Entry::Run] {
+    let entries = [
+        Entry::Check,
+        Entry::Flatten,
+        Entry::CheckFlat,
+        Entry::WriteProof,
+        Entry::ReadText,
+        Entry::WriteText,
+        Entry::Run,
+    ];
+    for entry in entries {
         list.push(family(entry, "small", "document 01's first example", "file", 1, move |_| files::small(entry)));
         match entry {
             Entry::Check => list.extend([of_rules(entry), of_depth(entry), of_check()].into_iter().flatten()),
@@ -56,6 +67,8 @@ pub fn all() -> Vec<Family> {
             Entry::CheckFlat => list.extend([of_rules(entry), of_check_flat()].into_iter().flatten()),
             Entry::WriteProof => list.extend([of_rules(entry), of_write_proof()].into_iter().flatten()),
             Entry::Run => list.extend(of_run()),
+            Entry::ReadText => list.extend([of_chains(entry), of_labels(entry), of_read_text()].into_iter().flatten()),
+            Entry::WriteText => list.extend([of_chains(entry), of_labels(entry)].into_iter().flatten()),
         }
     }
     list
@@ -113,6 +126,50 @@ fn of_write_proof() -> Vec<Family> {
     vec![family(Entry::WriteProof, "entries", "a chain of uses written back", "entries", 2_048, files::flat_of_uses)]
 }
 
+/// Terms of each sign, leaning left, so that brackets are needed at every level, and right; and of all signs in turn.
+fn of_chains(entry: Entry) -> Vec<Family> {
+    let signs: [(&str, &'static str, &'static str, Join); 3] = [
+        ("sequences", "sequences to the left", "sequences to the right", build::sequence),
+        ("alternations", "alternations to the left", "alternations to the right", build::alternation),
+        ("tensors", "tensors to the left", "tensors to the right", build::tensor),
+    ];
+    let mut list = Vec::new();
+    for (word, left, right, join) in signs {
+        let make = move |leaves| texts::as_taken(entry, texts::to_the_left(join, leaves));
+        list.push(family(entry, &format!("{word}-left"), left, "leaves", 2_048, make));
+        let make = move |leaves| texts::as_taken(entry, texts::to_the_right(join, leaves));
+        list.push(family(entry, &format!("{word}-right"), right, "leaves", 2_048, make));
+    }
+    let make = move |sequences| texts::as_taken(entry, texts::all_signs(sequences));
+    list.push(family(entry, "signs", "all signs in turn", "sequences", 682, make));
+    list
+}
+
+/// Labels in each other and beside each other, with and without brackets.
+fn of_labels(entry: Entry) -> Vec<Family> {
+    type Term = fn(usize) -> Vec<u8>;
+    let sets: [(&str, &'static str, usize, Term); 4] = [
+        ("labels", "nested labels", 4_095, texts::labels),
+        ("labels-followed", "labels in brackets, side by side", 1_365, texts::followed_labels),
+        ("labels-left", "labels in brackets, nested", 1_365, texts::labels_to_the_left),
+        ("labels-right", "labels in sequences", 1_365, texts::labels_to_the_right),
+    ];
+    let family_of = |(word, title, most, term): (&str, &'static str, usize, Term)| {
+        family(entry, word, title, "labels", most, move |count| texts::as_taken(entry, term(count)))
+    };
+    sets.into_iter().map(family_of).collect()
+}
+
+/// Long texts of few fields.
+fn of_read_text() -> Vec<Family> {
+    let entry = Entry::ReadText;
+    vec![
+        family(entry, "brackets", "nested brackets", "pairs", 32_766, texts::brackets),
+        family(entry, "blanks", "blanks", "blanks", 65_533, texts::blanks),
+        family(entry, "zeros", "leading zeros", "digits", 65_534, texts::leading_zeros),
+    ]
+}
+
 fn of_run() -> Vec<Family> {
     let entry = Entry::Run;
     vec![
@@ -164,6 +221,40 @@ mod tests {
             assert_eq!(largest(&format!("check-{shape}")).0.fields, 4_095);
             assert_eq!(largest(&format!("flatten-{shape}")).1.other, largest(&format!("check-{shape}")).1.other);
         }
+    }
+
+    /// The longest text and the longest term file; 65,534 or 65,535 bytes of text; 2,048 leaves of five bytes and 2,047
+    /// signs of three; three fields for each of 1,365 labels, six for each of 682 sequences.
+    #[test]
+    fn families_of_texts_use_their_limits() {
+        assert_eq!(largest("read_text-labels").1.other.len(), 28_671);
+        assert_eq!(largest("read_text-labels").0.length, 20_480);
+        assert_eq!(largest("write_text-labels").0.length, 28_671);
+        assert_eq!(largest("read_text-brackets").1.other.len(), 65_534);
+        assert_eq!(largest("read_text-blanks").1.other.len(), 65_535);
+        assert_eq!(largest("read_text-zeros").1.other.len(), 65_535);
+        for shape in
+            ["sequences", "alternations", "tensors"].map(|word| [format!("{word}-left"), format!("{word}-right")])
+        {
+            assert!(shape.iter().all(|key| largest(&format!("read_text-{key}")).0.length == 5 * 2_048 + 3 * 2_047));
+        }
+        assert_eq!(largest("read_text-labels-followed").0.length, 3 + 11 * 1_365);
+        assert_eq!(largest("read_text-labels-left").0.length, 3 + 11 * 1_365);
+        assert_eq!(largest("read_text-labels-right").0.length, 3 + 11 * 1_365);
+        assert_eq!(largest("read_text-signs").0.length, 3 + 18 * 682);
+    }
+
+    /// Left parts of the same sign are in brackets, right parts are not; a label is where a sign follows it.
+    #[test]
+    fn texts_have_brackets_where_they_are_named_so() {
+        let brackets = |key: &str| largest(key).1.other.iter().filter(|&&byte| byte == b'(').count();
+        for word in ["sequences", "alternations", "tensors"] {
+            assert_eq!(brackets(&format!("read_text-{word}-left")), 2_046);
+            assert_eq!(brackets(&format!("read_text-{word}-right")), 0);
+        }
+        assert_eq!(brackets("read_text-labels-followed"), 1_365);
+        assert_eq!(brackets("read_text-labels-left"), 1_365);
+        assert_eq!(brackets("read_text-labels-right") + brackets("read_text-labels") + brackets("read_text-signs"), 0);
     }
 
     /// 4,096 rules of nine bytes; 2,048 atomics, 4,096 uses, or 2,047 uses and an open.

@@ -7,12 +7,22 @@ use second::generate::{examples, limit_files};
 /// A table, and the other file that the entry takes.
 pub type Files = (Vec<u8>, Vec<u8>);
 
+/// The term of document 01's first proof, as text and as a file.
+const FIRST_TERM: &str = "([1]a1 ; a2 * id) ; id ; [2]a3";
+
+fn first_term() -> Vec<u8> {
+    let first_box = label(1, &sequence(&atomic(1), &tensor(&atomic(2), &id())));
+    sequence(&first_box, &sequence(&id(), &label(2, &atomic(3))))
+}
+
 /// Document 01's first example, as the entry takes it.
 pub fn small(entry: Entry) -> Files {
     let other = match entry {
         Entry::Check | Entry::Flatten => examples::first_proof(),
         Entry::CheckFlat | Entry::WriteProof => examples::first_flat(),
         Entry::Run => job(&[10], &defined(3)),
+        Entry::ReadText => FIRST_TERM.as_bytes().to_vec(),
+        Entry::WriteText => first_term(),
     };
     (examples::table_a(), other)
 }

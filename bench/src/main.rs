@@ -5,6 +5,7 @@ mod files;
 mod measure;
 mod page;
 mod plot;
+mod texts;
 
 use boundary::library::Library;
 use boundary::options::Options;

@@ -79,6 +79,8 @@ impl<'a> Measured<'a> {
             Entry::Flatten => second::flatten(&case.table, &case.other, work, output),
             Entry::CheckFlat => second::check_flat(&case.table, &case.other, work),
             Entry::WriteProof => second::write_proof(&case.table, &case.other, work, output),
+            Entry::ReadText => second::read_text(&case.other, work, output),
+            Entry::WriteText => second::write_text(&case.other, work, output),
         }
     }
 }

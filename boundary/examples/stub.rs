@@ -1,5 +1,6 @@
-//! A library with the five C functions over the second engine. The environment
-//! variable HITAC_STUB_FAULT makes it wrong in one way; without it, it is right.
+//! A library with the C functions of include/hitac.h over the second engine. The
+//! environment variable HITAC_STUB_FAULT makes it wrong in one way; without it, it
+//! is right.
 
 use second::Answer;
 use std::slice::{from_raw_parts, from_raw_parts_mut};
@@ -88,6 +89,43 @@ checker!(hitac_check, second::check);
 checker!(hitac_check_flat, second::check_flat);
 writer!(hitac_flatten, second::flatten);
 writer!(hitac_write_proof, second::write_proof);
+
+macro_rules! text_function {
+    ($name:ident, $second:path) => {
+        /// # Safety
+        /// Every pointer is good for its length.
+        #[no_mangle]
+        pub unsafe extern "C" fn $name(
+            other: *const u8,
+            other_length: usize,
+            work: Space,
+            work_length: usize,
+            out: Space,
+            out_length: usize,
+        ) -> Answer {
+            look_at(work, work_length);
+            let spaces = (from_raw_parts_mut(work, work_length), from_raw_parts_mut(out, out_length));
+            let answer = $second(from_raw_parts(other, other_length), spaces.0, spaces.1);
+            spoil(answer, work, work_length, out, out_length)
+        }
+    };
+}
+
+text_function!(hitac_read_text, second::read_text);
+text_function!(hitac_write_text, second::write_text);
+
+/// A number that the header defines.
+fn number_of_header(name: &str) -> u32 {
+    let words = |line: &'static str| line.split_whitespace().collect::<Vec<_>>();
+    let lines = include_str!("../../include/hitac.h").lines().map(words);
+    let mut numbers = lines.filter(|words| words.len() > 2 && words[..2] == ["#define", name]);
+    numbers.next().and_then(|words| words[2].parse().ok()).expect("the header has the number")
+}
+
+#[no_mangle]
+pub extern "C" fn hitac_version() -> u32 {
+    number_of_header("HITAC_VERSION_MAJOR") * 65_536 + number_of_header("HITAC_VERSION_MINOR")
+}
 
 /// # Safety
 /// Every pointer is good for its length.

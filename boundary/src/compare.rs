@@ -110,5 +110,7 @@ pub fn name_of(entry: Entry) -> &'static str {
         Entry::Flatten => "flatten",
         Entry::CheckFlat => "check_flat",
         Entry::WriteProof => "write_proof",
+        Entry::ReadText => "read_text",
+        Entry::WriteText => "write_text",
     }
 }

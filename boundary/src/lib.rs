@@ -1,6 +1,6 @@
 //! The built engine, called through its C functions, beside the second engine.
 //!
-//! - `library`: the shared library and its five functions;
+//! - `library`: the shared library and its functions;
 //! - `lent`: lent spaces with guard bytes, poisoned before a call, inspected after;
 //! - `compare`: one case through both engines, and every difference in words;
 //! - `exact`: one case in heap blocks of exact size, for a memory checker;

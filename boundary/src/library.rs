@@ -1,4 +1,4 @@
-//! The shared library: its five C functions, loaded by path.
+//! The shared library: the C functions of its entries, loaded by path.
 
 use second::generate::case::Entry;
 use second::Answer;
@@ -18,7 +18,10 @@ pub type WriteFunction =
 pub type RunFunction =
     unsafe extern "C" fn(*const u8, usize, *const u8, usize, u32, *mut u8, usize, *mut u8, usize) -> Answer;
 
-/// The five functions. `Answer` of the second engine has the layout of the C
+/// Takes one file and no table, and writes.
+pub type TextFunction = unsafe extern "C" fn(*const u8, usize, *mut u8, usize, *mut u8, usize) -> Answer;
+
+/// The functions of the entries. `Answer` of the second engine has the layout of the C
 /// struct: eight u32 in the order of docs/ENTRIES.md.
 #[derive(Clone, Copy)]
 pub struct Library {
@@ -27,6 +30,8 @@ pub struct Library {
     pub flatten: WriteFunction,
     pub check_flat: CheckFunction,
     pub write_proof: WriteFunction,
+    pub read_text: TextFunction,
+    pub write_text: TextFunction,
 }
 
 /// What one call is given.
@@ -67,6 +72,8 @@ impl Library {
                 flatten: transmute::<*mut c_void, WriteFunction>(symbol(handle, c"hitac_flatten")?),
                 check_flat: transmute::<*mut c_void, CheckFunction>(symbol(handle, c"hitac_check_flat")?),
                 write_proof: transmute::<*mut c_void, WriteFunction>(symbol(handle, c"hitac_write_proof")?),
+                read_text: transmute::<*mut c_void, TextFunction>(symbol(handle, c"hitac_read_text")?),
+                write_text: transmute::<*mut c_void, TextFunction>(symbol(handle, c"hitac_write_text")?),
             })
         }
     }
@@ -84,6 +91,8 @@ impl Library {
             Entry::WriteProof => {
                 (self.write_proof)(table.0, table.1, other.0, other.1, work.0, work.1, output.0, output.1)
             }
+            Entry::ReadText => (self.read_text)(other.0, other.1, work.0, work.1, output.0, output.1),
+            Entry::WriteText => (self.write_text)(other.0, other.1, work.0, work.1, output.0, output.1),
             Entry::Run => (self.run)(table.0, table.1, other.0, other.1, budget, work.0, work.1, output.0, output.1),
         }
     }

@@ -5,6 +5,7 @@ use second::generate::case::{Case, Entry};
 use second::generate::damage::damage;
 use second::generate::random::Random;
 use second::generate::random_table::{RandomTable, Size};
+use second::generate::random_text::damage_text;
 use second::generate::{other_file, vary_lent_spaces, vector_set};
 
 /// How a case came about.
@@ -22,7 +23,8 @@ pub enum Kind {
     /// A table of another maker, or one that is nearly the right one; files of
     /// the wrong kind.
     Foreign,
-    /// A table with one to three faults for 6 to 9.
+    /// A table with one to three faults for 6 to 9; not of an entry that takes
+    /// no table.
     FaultyTable,
     /// A file of the fixed vectors that is near a limit.
     AtALimit,
@@ -56,13 +58,15 @@ impl Kind {
     }
 
     /// Large files cost a hundred times what small ones do, so they are few.
-    fn at_random(random: &mut Random) -> Kind {
+    /// Without a table the share of faulty ones goes to damage.
+    fn at_random(random: &mut Random, entry: Entry) -> Kind {
         match random.below(100) {
             0..=39 => Kind::Fitting,
             40..=42 => Kind::Large,
             43..=62 => Kind::Mutated,
             63..=74 => Kind::Torn,
             75..=84 => Kind::Foreign,
+            85..=89 if !entry.takes_table() => Kind::Mutated,
             85..=89 => Kind::FaultyTable,
             90..=93 => Kind::AtALimit,
             _ => Kind::Known,
@@ -92,12 +96,13 @@ impl Mix {
     pub fn case(&self, number: u64) -> (Kind, Case) {
         let random = &mut Random::new(self.seed.wrapping_mul(0xD134_2543_DE82_EF95).wrapping_add(number));
         let entry = *random.pick(&Entry::ALL);
-        let kind = Kind::at_random(random);
+        let kind = Kind::at_random(random, entry);
         let case = match kind {
             Kind::Fitting => fitting(entry, Size::Small, random).1,
             Kind::Large => fitting(entry, Size::Large, random).1,
             Kind::Mutated => mutated(entry, random),
             Kind::Torn => torn(entry, random),
+            Kind::Foreign if !entry.takes_table() => foreign_file(entry, random),
             Kind::Foreign => foreign(entry, random),
             Kind::FaultyTable => faulty_table(entry, random),
             Kind::AtALimit => random.pick(&self.at_limits).clone(),
@@ -107,11 +112,12 @@ impl Mix {
     }
 }
 
-/// A table and a case over it.
+/// A table and a case over it; the case has none of it if the entry takes none.
 fn fitting(entry: Entry, size: Size, random: &mut Random) -> (RandomTable, Case) {
     let table = RandomTable::make(random, size);
     let other = other_file(entry, random, &table);
-    let case = bare_case(entry, table.bytes(), other);
+    let bytes = if entry.takes_table() { table.bytes() } else { Vec::new() };
+    let case = bare_case(entry, bytes, other);
     (table, case)
 }
 
@@ -120,22 +126,19 @@ fn bare_case(entry: Entry, table: Vec<u8>, other: Vec<u8>) -> Case {
     Case { entry, table, other, budget: 0, work_length: entry.work_size(), output_length: 0 }
 }
 
-/// One of the two files of a case; the other file twice as often as the table.
-fn some_file<'a>(random: &mut Random, case: &'a mut Case) -> &'a mut Vec<u8> {
-    if random.chance(33) {
-        &mut case.table
-    } else {
-        &mut case.other
-    }
+/// Whether it is the table that is to be spoilt: the other file twice as often as
+/// the table, and always where no table is taken.
+fn spoils_table(entry: Entry, random: &mut Random) -> bool {
+    entry.takes_table() && random.chance(33)
 }
 
 fn mutated(entry: Entry, random: &mut Random) -> Case {
     let (_, mut case) = fitting(entry, Size::Small, random);
     let times = *random.pick(&[1, 1, 1, 2, 3]);
     let mut made = Random::new(random.number());
-    let file = some_file(random, &mut case);
+    let file = if spoils_table(entry, random) { &mut case.table } else { &mut case.other };
     for _ in 0..times {
-        *file = damage(&mut made, file);
+        *file = if entry == Entry::ReadText { damage_text(&mut made, file) } else { damage(&mut made, file) };
     }
     case
 }
@@ -145,8 +148,8 @@ fn torn(entry: Entry, random: &mut Random) -> Case {
     let (_, another) = fitting(entry, Size::Small, random);
     let way = random.below(4);
     let (first, second) = (random.number() as usize, random.number() as usize);
-    let is_table = random.chance(33);
-    let (file, stranger) = if is_table { (&mut case.table, another.table) } else { (&mut case.other, another.other) };
+    let of_table = spoils_table(entry, random);
+    let (file, stranger) = if of_table { (&mut case.table, another.table) } else { (&mut case.other, another.other) };
     // A cut may fall before the first byte and behind the last.
     let cut = first % (file.len() + 1);
     match way {
@@ -168,17 +171,34 @@ fn foreign(entry: Entry, random: &mut Random) -> Case {
         0 => case.table = stranger.bytes(),
         1 => case.table = std::mem::take(&mut case.other),
         2 => case.other = case.table.clone(),
-        3 => {
-            let kind_of_file = *random.pick(&Entry::ALL);
-            case.other = other_file(kind_of_file, random, &table);
-        }
-        4 => case.other = (0..random.below(40)).map(|_| random.byte() % 36).collect(),
+        3 => case.other = file_of_any_kind(random, &table),
+        4 => case.other = bytes_of_no_file(random),
         _ => {
             nearly_the_right_one(random, &mut table);
             case.table = table.bytes();
         }
     }
     case
+}
+
+/// For an entry that takes no table.
+fn foreign_file(entry: Entry, random: &mut Random) -> Case {
+    let table = RandomTable::make(random, Size::Small);
+    let other = match random.below(4) {
+        0 => table.bytes(),
+        1 => bytes_of_no_file(random),
+        _ => file_of_any_kind(random, &table),
+    };
+    bare_case(entry, Vec::new(), other)
+}
+
+fn file_of_any_kind(random: &mut Random, table: &RandomTable) -> Vec<u8> {
+    let kind_of_file = *random.pick(&Entry::ALL);
+    other_file(kind_of_file, random, table)
+}
+
+fn bytes_of_no_file(random: &mut Random) -> Vec<u8> {
+    (0..random.below(40)).map(|_| random.byte() % 36).collect()
 }
 
 /// The table of another release: one rule is missing, or has other premises or
@@ -213,6 +233,7 @@ fn faulty_table(entry: Entry, random: &mut Random) -> Case {
 #[cfg(test)]
 mod tests {
     use super::*;
+    use std::collections::BTreeSet;
 
     #[test]
     fn seed_and_number_determine_a_case() {
@@ -229,8 +250,30 @@ mod tests {
         let cases: Vec<(Kind, Case)> = (0..2_000).map(|number| mix.case(number)).collect();
         for kind in Kind::ALL {
             for entry in Entry::ALL {
-                assert!(cases.iter().any(|(its, case)| *its == kind && case.entry == entry), "{kind:?} {entry:?}");
+                let comes = cases.iter().any(|(its, case)| *its == kind && case.entry == entry);
+                assert_eq!(comes, kind != Kind::FaultyTable || entry.takes_table(), "{kind:?} {entry:?}");
             }
+        }
+    }
+
+    #[test]
+    fn what_takes_no_table_is_given_none() {
+        let mix = Mix::new(2);
+        let cases = (0..1_000).map(|number| mix.case(number).1);
+        assert!(cases.into_iter().all(|case| case.entry.takes_table() || case.table.is_empty()));
+    }
+
+    /// Damage of a text leaves most of it in the notation, so that 36, 37 and 5
+    /// come at many places.
+    #[test]
+    fn every_refusal_of_a_text_comes_at_several_places() {
+        let mix = Mix::new(3);
+        let cases = (0..6_000).map(|number| mix.case(number).1).filter(|case| case.entry == Entry::ReadText);
+        let answers: Vec<_> = cases.map(|case| case.outcome().answer).collect();
+        for number in [5, 36, 37] {
+            let places: BTreeSet<u32> =
+                answers.iter().filter(|answer| answer.number == number).map(|answer| answer.place).collect();
+            assert!(places.len() > 4, "{number} at {places:?}");
         }
     }
 }

@@ -65,7 +65,7 @@ impl Tally {
         for entry in Entry::ALL {
             let _ = write!(text, " {} |", name_of(entry));
         }
-        text.push_str("\n|---|---|---|---|---|---|\n");
+        let _ = writeln!(text, "\n|---|{}", "---|".repeat(Entry::ALL.len()));
         let numbers = std::iter::once(0).filter(|_| self.answered(0) > 0).chain(self.refusals());
         for number in numbers {
             self.line(&mut text, &number.to_string(), |its| its == number);
@@ -122,6 +122,6 @@ mod tests {
         tally.count(Entry::Run, Answer { number: 23, ..Answer::default() }, true);
         assert_eq!((tally.cases, tally.differences, tally.answered(0)), (2, 1, 1));
         assert_eq!(tally.refusals(), [23]);
-        assert!(tally.table().ends_with("| all | 1 | 1 | 0 | 0 | 0 |\n"));
+        assert!(tally.table().ends_with("| all | 1 | 1 | 0 | 0 | 0 | 0 | 0 |\n"));
     }
 }

@@ -29,7 +29,7 @@ fn generated(fault: &str, name: &str) -> Output {
     let folder = folder(name);
     let _ = std::fs::remove_dir_all(&folder);
     // The number of cases is such that every fault has its occasion.
-    replay(fault, &["--cases", "700", "--differences", folder.to_str().unwrap()])
+    replay(fault, &["--cases", "2300", "--differences", folder.to_str().unwrap()])
 }
 
 fn vector_files(fault: &str) -> Vec<PathBuf> {
@@ -42,7 +42,7 @@ fn a_right_library_has_no_difference() {
     let output = generated("", "right");
     let text = String::from_utf8_lossy(&output.stdout);
     assert_eq!(output.status.code(), Some(0), "{text}");
-    assert!(text.contains("700 cases, 0 differences"), "{text}");
+    assert!(text.contains("2,300 cases, 0 differences"), "{text}");
 }
 
 #[test]

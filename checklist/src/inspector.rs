@@ -165,9 +165,21 @@ mod tests {
         Answer::default()
     }
 
+    unsafe extern "C" fn no_text(_: *const u8, _: usize, _: *mut u8, _: usize, _: *mut u8, _: usize) -> Answer {
+        Answer::default()
+    }
+
     /// A library of which the tests call check alone.
     fn inspector(check: boundary::library::CheckFunction, folder: &str) -> Inspector {
-        let library = Library { check, run: no_run, flatten: no_write, check_flat: check, write_proof: no_write };
+        let library = Library {
+            check,
+            run: no_run,
+            flatten: no_write,
+            check_flat: check,
+            write_proof: no_write,
+            read_text: no_text,
+            write_text: no_text,
+        };
         Inspector::new(library, 1, &std::env::temp_dir().join(folder)).unwrap()
     }
 

@@ -5,14 +5,18 @@ use boundary::tally::with_commas;
 use second::generate::case::{Case, Entry};
 use second::generate::random::Random;
 use second::generate::random_table::{RandomTable, Size};
-use second::generate::{build, examples, limit_files, other_file, reading};
+use second::generate::{build, examples, limit_files, other_file, reading, texts};
 use second::Reason;
 
 pub fn inspect(inspector: &mut Inspector) -> Result<String, String> {
     for entry in Entry::ALL {
         damaged_files(inspector, entry);
         torn_files(inspector, entry);
-        foreign_tables(inspector, entry);
+        if entry.takes_table() {
+            foreign_tables(inspector, entry);
+        } else {
+            foreign_files(inspector, entry);
+        }
         lent_spaces(inspector, entry);
     }
     refusals_of_the_walk(inspector);
@@ -33,17 +37,25 @@ fn good_file(entry: Entry) -> Vec<u8> {
         Entry::Check | Entry::Flatten => reading::proof_with_every_term(),
         Entry::Run => reading::job_with_tactic_terms(),
         Entry::CheckFlat | Entry::WriteProof => reading::flat_with_every_entry(),
+        Entry::ReadText => texts::EVERY_MARK.as_bytes().to_vec(),
+        Entry::WriteText => texts::term_with_every_field(),
     }
 }
 
 /// Every truncation, every tag and many lengths in the place of every field's,
-/// in both files; the faults of 1 to 9 in their orders.
+/// in both files; the faults of 1 to 9 in their orders. Of a text, every
+/// truncation and many bytes in the place of every one.
 fn damaged_files(inspector: &mut Inspector, entry: Entry) {
     let (table, other) = (reading::table_with_every_field(), good_file(entry));
-    for changed in reading::systematic_damage(&table).iter().chain(&reading::refused_tables()) {
-        inspector.call_with_room(entry, changed, &other);
+    let tables = reading::systematic_damage(&table).into_iter().chain(reading::refused_tables());
+    for changed in tables.filter(|_| entry.takes_table()) {
+        inspector.call_with_room(entry, &changed, &other);
     }
-    for changed in reading::systematic_damage(&other).iter().chain(&reading::refused_others()) {
+    let damaged = match entry {
+        Entry::ReadText => texts::systematic_text_damage(texts::EVERY_MARK),
+        _ => reading::systematic_damage(&other),
+    };
+    for changed in damaged.iter().chain(&reading::refused_others()) {
         inspector.call_with_room(entry, &table, changed);
     }
 }
@@ -55,7 +67,7 @@ fn torn_files(inspector: &mut Inspector, entry: Entry) {
     for _ in 0..if entry == Entry::Run { 4 } else { 12 } {
         let table = RandomTable::make(random, Size::Small);
         let (bytes, other) = (table.bytes(), other_file(entry, random, &table));
-        for cut in 0..bytes.len() {
+        for cut in (0..bytes.len()).filter(|_| entry.takes_table()) {
             inspector.call_with_room(entry, &bytes[..cut], &other);
         }
         for cut in 0..other.len() {
@@ -83,6 +95,19 @@ fn foreign_tables(inspector: &mut Inspector, entry: Entry) {
     }
 }
 
+/// Files of every kind, tables among them, for an entry that takes no table.
+fn foreign_files(inspector: &mut Inspector, entry: Entry) {
+    let random = &mut Random::new(200 + u64::from(entry.code()));
+    for _ in 0..12 {
+        let table = RandomTable::make(random, Size::Small);
+        inspector.call_with_room(entry, &[], &table.bytes());
+        for kind in Entry::ALL {
+            let of_another_kind = other_file(kind, random, &table);
+            inspector.call_with_room(entry, &[], &of_another_kind);
+        }
+    }
+}
+
 /// 29, 25 and 26 with spaces and budgets around their borders.
 fn lent_spaces(inspector: &mut Inspector, entry: Entry) {
     let (table, other) = (reading::table_with_every_field(), good_file(entry));
@@ -103,7 +128,7 @@ fn lent_spaces(inspector: &mut Inspector, entry: Entry) {
     }
 }
 
-/// The refusals that only larger files bring about: 22 and 28.
+/// The refusals that only larger files bring about, 22 and 28, and those of texts.
 fn refusals_of_the_walk(inspector: &mut Inspector) {
     let eights = examples::table_of_eight();
     let side_by_side = |count: usize| build::tensor_of(&vec![build::atomic(4); count]);
@@ -119,6 +144,8 @@ fn refusals_of_the_walk(inspector: &mut Inspector) {
         (Entry::CheckFlat, limit_files::flats(), limit_files::chain_table()),
         (Entry::WriteProof, limit_files::flats(), limit_files::chain_table()),
         (Entry::Run, limit_files::jobs(), examples::table_a()),
+        (Entry::ReadText, texts::limit_texts(), Vec::new()),
+        (Entry::WriteText, texts::limit_terms(), Vec::new()),
     ] {
         for file in &files {
             inspector.call_with_room(entry, &table, file);

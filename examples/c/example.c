@@ -1,14 +1,5 @@
 /* Checks a proof, runs a tactic, flattens a proof, checks the derivation and writes it back, on the files of a folder. */
-#include <stdio.h>
-#include <stdlib.h>
-
-#include "hitac.h"
-
-/* A file, with room for one byte more than the engine takes: a longer file is then refused with HITAC_INPUT_TOO_LONG. */
-struct file {
-    uint8_t bytes[HITAC_LONGEST_FILE + 1];
-    size_t length;
-};
+#include "common.h"
 
 static struct file table, proof, job;
 
@@ -16,35 +7,6 @@ static struct file table, proof, job;
 static uint8_t work[HITAC_RUN_WORK];
 static uint8_t flat[HITAC_LONGEST_FLAT];
 static uint8_t written[HITAC_LONGEST_PROOF];
-
-static void load(struct file *file, const char *folder, const char *name)
-{
-    char path[1024];
-    snprintf(path, sizeof path, "%s/%s", folder, name);
-    FILE *stream = fopen(path, "rb");
-    if (stream == NULL) {
-        perror(path);
-        exit(EXIT_FAILURE);
-    }
-    file->length = fread(file->bytes, 1, sizeof file->bytes, stream);
-    fclose(stream);
-}
-
-static void print_bytes(const uint8_t *bytes, size_t length)
-{
-    for (size_t i = 0; i < length; i++)
-        printf("%s%02x", i == 0 ? "" : " ", bytes[i]);
-    printf("\n");
-}
-
-/* Whether the call succeeded; a refusal is printed. */
-static int succeeded(const char *call, struct hitac_answer answer)
-{
-    if (answer.number == HITAC_SUCCESS)
-        return 1;
-    printf("%s: refused %u file %u place %u steps %u\n", call, answer.number, answer.file, answer.place, answer.steps);
-    return 0;
-}
 
 static void check(void)
 {
@@ -100,6 +62,7 @@ int main(int count, char **arguments)
     load(&table, folder, "table.kit");
     load(&proof, folder, "proof.hip");
     load(&job, folder, "job.tac");
+    printf("version: %u.%u\n", hitac_version() / 65536, hitac_version() % 65536);
     check();
     run(HITAC_MOST_STEPS);
     run(18);

@@ -24,6 +24,7 @@ def main():
     table, proof, job = ((folder / name).read_bytes() for name in ("table.kit", "proof.hip", "job.tac"))
     engine = hitac.Engine()
 
+    print(f"version: {engine.version().major}.{engine.version().minor}")
     accepted = engine.check(table, proof)
     print(f"check: accepted fields {accepted.fields} uses {accepted.uses} open {accepted.open}")
     print(f"run: {run(engine, table, job, 4096)}")

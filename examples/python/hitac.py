@@ -9,11 +9,17 @@ import os
 import pathlib
 from typing import NamedTuple
 
+# The version of the header that this module follows.
+VERSION_MAJOR = 1
+VERSION_MINOR = 2
+
 CHECK_WORK = 65536
 RUN_WORK = 1290752
 FLATTEN_WORK = 200704
 CHECK_FLAT_WORK = 65536
 WRITE_PROOF_WORK = 65536
+READ_TEXT_WORK = 196608
+WRITE_TEXT_WORK = 36864
 
 # Machine stack that each call needs, in bytes, besides what Python takes: for threads with small stacks.
 CHECK_STACK = 1536
@@ -21,9 +27,13 @@ RUN_STACK = 200704
 FLATTEN_STACK = 1536
 CHECK_FLAT_STACK = 1536
 WRITE_PROOF_STACK = 172032
+READ_TEXT_STACK = 512
+WRITE_TEXT_STACK = 1024
 
 LONGEST_PROOF = 21510
 LONGEST_FLAT = 16131
+LONGEST_TERM = 20480
+LONGEST_TEXT = 28671
 
 
 class Cause(enum.IntEnum):
@@ -48,6 +58,8 @@ class Cause(enum.IntEnum):
     FLAT_WRONG = 27
     ENTRIES_TOO_MANY = 28
     WORK_TOO_SHORT = 29
+    TEXT_WRONG = 36
+    VALUE_TOO_LARGE = 37
 
 
 class Refusal(Exception):
@@ -59,6 +71,13 @@ class Refusal(Exception):
         self.place = answer.place
         self.steps = answer.steps
         super().__init__(f"refused {int(self.cause)} file {self.file} place {self.place} steps {self.steps}")
+
+
+class Version(NamedTuple):
+    """The minor number goes up with each new call, the major number when programs have to be compiled anew."""
+
+    major: int
+    minor: int
 
 
 class Accepted(NamedTuple):
@@ -98,12 +117,25 @@ _CALLS = {
     "hitac_flatten": _FILE + _FILE + _SPACE + _SPACE,
     "hitac_check_flat": _FILE + _FILE + _SPACE,
     "hitac_write_proof": _FILE + _FILE + _SPACE + _SPACE,
+    "hitac_read_text": _FILE + _SPACE + _SPACE,
+    "hitac_write_text": _FILE + _SPACE + _SPACE,
 }
+
+
+def _version_of(library):
+    # 1.0 had no call for its version.
+    if not hasattr(library, "hitac_version"):
+        return Version(1, 0)
+    library.hitac_version.restype = ctypes.c_uint32
+    return Version(*divmod(library.hitac_version(), 65536))
 
 
 def _load():
     built = pathlib.Path(__file__).resolve().parents[2] / "target" / "library" / "libhitac.so"
     library = ctypes.CDLL(os.environ.get("HITAC_LIBRARY", str(built)))
+    version = _version_of(library)
+    if version.major != VERSION_MAJOR or version.minor < VERSION_MINOR:
+        raise OSError(f"the library has version {version.major}.{version.minor}, not {VERSION_MAJOR}.{VERSION_MINOR}")
     for name, arguments in _CALLS.items():
         call = getattr(library, name)
         call.argtypes = arguments
@@ -117,7 +149,11 @@ class Engine:
     def __init__(self):
         self._library = _load()
         self._work = ctypes.create_string_buffer(RUN_WORK)
-        self._out = ctypes.create_string_buffer(max(LONGEST_PROOF, LONGEST_FLAT))
+        self._out = ctypes.create_string_buffer(max(LONGEST_PROOF, LONGEST_FLAT, LONGEST_TERM, LONGEST_TEXT))
+
+    def version(self):
+        """The version of the library that is loaded."""
+        return _version_of(self._library)
 
     def check(self, table, proof):
         """Whether the proof is accepted in the table."""
@@ -144,6 +180,15 @@ class Engine:
         """The proof file of a right derivation."""
         return self._result(self._writes("hitac_write_proof", WRITE_PROOF_WORK, table, flat))
 
+    def read_text(self, text):
+        """The term file of a text in the notation, given as str or as bytes; a refusal's place counts bytes."""
+        data = text.encode() if isinstance(text, str) else text
+        return self._result(self._converts("hitac_read_text", READ_TEXT_WORK, data))
+
+    def write_text(self, term):
+        """The text of a term file, as str."""
+        return self._result(self._converts("hitac_write_text", WRITE_TEXT_WORK, term)).decode("ascii")
+
     # A call is lent no more work space than it needs, because it clears all that it was lent.
     def _checks(self, name, size, table, other):
         call = getattr(self._library, name)
@@ -153,6 +198,10 @@ class Engine:
         call = getattr(self._library, name)
         spaces = (self._work, size, self._out, len(self._out))
         return _succeeded(call(table, len(table), other, len(other), *budget, *spaces))
+
+    def _converts(self, name, size, file):
+        call = getattr(self._library, name)
+        return _succeeded(call(file, len(file), self._work, size, self._out, len(self._out)))
 
     def _result(self, answer):
         return self._out[: answer.length]

@@ -6,7 +6,7 @@ import re
 OUTSIDE = {name: 64 for name in ("memset", "memcpy", "memmove", "memcmp")}
 
 # The most that an entry may take.
-LIMITS = {"check": 4096, "check_flat": 4096, "flatten": 4096}
+LIMITS = {"check": 4096, "check_flat": 4096, "flatten": 4096, "read_text": 4096, "write_text": 4096}
 
 
 def bounds_of(constants):
@@ -29,9 +29,9 @@ def bounds_of(constants):
 
 
 def header_of(text):
-    """The constants and the entries of a header."""
+    """The constants of a header, and its entries: the functions that answer with the struct, so not hitac_version."""
     constants = {name: int(number) for name, number in re.findall(r"^#define HITAC_(\w+) (\d+)", text, re.MULTILINE)}
-    return constants, re.findall(r"\bhitac_([a-z_]+)\(", text)
+    return constants, re.findall(r"^struct hitac_answer hitac_([a-z_]+)\(", text, re.MULTILINE)
 
 
 def with_commas(number):

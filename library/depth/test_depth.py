@@ -170,7 +170,8 @@ class Searching(unittest.TestCase):
 
 class Judging(unittest.TestCase):
     def test_the_header(self):
-        text = "/* hitac_run */\n#define HITAC_RUN_STACK 12 /* for hitac_run */\nstruct hitac_answer hitac_run(int a);\n"
+        text = "/* hitac_run */\n#define HITAC_RUN_STACK 12 /* for hitac_run */\nuint32_t hitac_version(void);\n"
+        text += "struct hitac_answer hitac_run(int a);\n"
         self.assertEqual(header_of(text), ({"RUN_STACK": 12}, ["run"]))
 
     def test_the_bounds(self):
@@ -181,7 +182,8 @@ class Judging(unittest.TestCase):
         self.assertEqual(judged("run", 5000, {"RUN_STACK": 5000}), ([], []))
         self.assertEqual(len(judged("run", 5001, {"RUN_STACK": 5000})[0]), 1)
         self.assertEqual(len(judged("run", 5000, {})[0]), 1)
-        self.assertEqual(len(judged("check", 5000, {"CHECK_STACK": 5000})[0]), 1)
+        for entry in ("check", "check_flat", "flatten", "read_text", "write_text"):
+            self.assertEqual(len(judged(entry, 5000, {f"{entry.upper()}_STACK": 5000})[0]), 1)
         self.assertEqual(judged("check", 2000, {"CHECK_STACK": 4096})[0], [])
         self.assertEqual(len(judged("check", 2000, {"CHECK_STACK": 4096})[1]), 1)
 

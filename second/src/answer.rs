@@ -9,7 +9,8 @@ pub struct Answer {
     pub number: u32,
     /// 1 the table, 2 the other file, 0 neither.
     pub file: u32,
-    /// Byte offset where the field's tag is or should be, else 0.
+    /// Byte offset where the field's tag is or should be, in a text that of the
+    /// byte the refusal names, else 0.
     pub place: u32,
     /// Terms begun; 0 outside runs.
     pub steps: u32,
@@ -23,7 +24,7 @@ pub struct Answer {
     pub open: u32,
 }
 
-/// Every reason to refuse, with the number document 01 gives it.
+/// Every reason to refuse, with the number that document 01 or 02 gives it.
 #[derive(Clone, Copy, PartialEq, Eq, Hash, PartialOrd, Ord, Debug)]
 #[repr(u32)]
 pub enum Reason {
@@ -46,6 +47,8 @@ pub enum Reason {
     FlatFileWrong = 27,
     TooManyEntries = 28,
     WorkSpaceTooShort = 29,
+    NotInNotation = 36,
+    ValueTooLarge = 37,
 }
 
 /// The file a refusal concerns.
@@ -67,7 +70,7 @@ pub struct Refusal {
 }
 
 impl Reason {
-    pub const ALL: [Reason; 19] = [
+    pub const ALL: [Reason; 21] = [
         Reason::InputTooLong,
         Reason::FieldTorn,
         Reason::TagNotAllowed,
@@ -87,6 +90,8 @@ impl Reason {
         Reason::FlatFileWrong,
         Reason::TooManyEntries,
         Reason::WorkSpaceTooShort,
+        Reason::NotInNotation,
+        Reason::ValueTooLarge,
     ];
 
     pub fn number(self) -> u32 {
@@ -119,6 +124,8 @@ impl Reason {
             Reason::FlatFileWrong => "this entry does not apply, or goals are pending at the file's end",
             Reason::TooManyEntries => "over 2,048 entries cannot be written back as a proof",
             Reason::WorkSpaceTooShort => "the work space is shorter than the size named for this entry",
+            Reason::NotInNotation => "no text of the notation goes on with this byte, or the text ends early",
+            Reason::ValueTooLarge => "a value is over 65,535",
         }
     }
 }

@@ -3,6 +3,8 @@
 //! Standard output has the answer in one line, a refusal in the words of the
 //! check program; standard error says in words what a refusal means.
 
+mod texts;
+
 use crate::answer::{Answer, Reason};
 use crate::limits;
 use crate::text::{show, FileKind};
@@ -18,13 +20,22 @@ second: the second Hitac engine
   second flatten TABLE PROOF OUT       write the proof's flat derivation to OUT
   second check-flat TABLE FLAT         is the flat derivation right?
   second write TABLE FLAT OUT          write a proof of the flat derivation to OUT
-  second show [--kind KIND] FILE       print a file as text; KIND is table, job,
-                                       proof or flat, recognised if not given
+  second read-text TEXT OUT            write the term of a text to OUT as a term file
+  second write-text TERM [OUT]         print the text of a term file, or write it to OUT
+  second job GOALS 'TERM' OUT          write a job file; GOALS is 10,20 or none
+  second define TABLE TACTIC 'TERM' OUT
+                                       write TABLE with one more definition at its end
+  second show [--kind KIND] FILE       print a file as text; KIND is table, job, proof,
+                                       flat or term, recognised if not given
   second generate-vectors DIR          write the fixed set of test vectors
   second generate-random SEED COUNT OUT
                                        write COUNT random test cases to a vector file
   second replay VECTORS...             compare this engine with vector files
   second --help                        print this text
+
+Terms in texts, 'TERM' and what show prints: a12 atomic, id, <> empty, [3]t label,
+?30 assert, T4 defined tactic; t * u tensor binds tightest, then t | u alternation,
+then t ; u sequence; round brackets, and blanks between the marks.
 
 Exit status: 0 success; 1 the engine refuses, or a replayed case differs;
 2 the command is not understood; 3 a file cannot be read or written.
@@ -64,6 +75,11 @@ fn perform(words: &[&str]) -> Outcome {
         ["flatten", table, proof, output] => flatten(table, proof, output),
         ["check-flat", table, flat] => check_flat(table, flat),
         ["write", table, flat, output] => write(table, flat, output),
+        ["read-text", text, output] => texts::read_text(text, output),
+        ["write-text", term] => texts::write_text(term, None),
+        ["write-text", term, output] => texts::write_text(term, Some(output)),
+        ["job", goals, term, output] => texts::job(goals, term, output),
+        ["define", table, tactic, term, output] => texts::define(table, tactic, term, output),
         ["show", file] => show_file(None, file),
         ["show", "--kind", kind, file] => show_file(Some(kind), file),
         ["generate-vectors", directory] => generate_vectors(directory),
@@ -119,7 +135,7 @@ fn show_file(kind: Option<&str>, file: &str) -> Outcome {
     let chosen = match kind {
         None => FileKind::recognise(&bytes),
         Some(name) => FileKind::of_name(name)
-            .ok_or_else(|| Trouble::NotUnderstood(format!("`{name}` is none of table, job, proof, flat")))?,
+            .ok_or_else(|| Trouble::NotUnderstood(format!("`{name}` is none of table, job, proof, flat, term")))?,
     };
     match show(chosen, &bytes) {
         Ok(text) => {

@@ -1,4 +1,4 @@
-//! The five public calls: answers, and every byte of the lent spaces.
+//! The seven public calls: answers, and every byte of the lent spaces.
 
 use crate::answer::{Answer, Reason, Refusal};
 use crate::engine;
@@ -46,6 +46,22 @@ pub fn write_proof(table: &[u8], flat: &[u8], work: &mut [u8], output: &mut [u8]
     with_work_space(work, limits::WRITE_PROOF_WORK, || {
         let proof = engine::write_proof(table, flat)?;
         hand_over(&proof, 0, output)
+    })
+}
+
+/// Reads a term written in the notation of P8; the term file is written to `output`.
+pub fn read_text(text: &[u8], work: &mut [u8], output: &mut [u8]) -> Answer {
+    with_work_space(work, limits::READ_TEXT_WORK, || {
+        let term = engine::read_text(text)?;
+        hand_over(&term, 0, output)
+    })
+}
+
+/// Writes the term of a term file to `output` in the notation of P8.
+pub fn write_text(term: &[u8], work: &mut [u8], output: &mut [u8]) -> Answer {
+    with_work_space(work, limits::WRITE_TEXT_WORK, || {
+        let text = engine::write_text(term)?;
+        hand_over(&text, 0, output)
     })
 }
 

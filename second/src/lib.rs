@@ -1,14 +1,16 @@
 //! The second Hitac engine.
 //!
-//! An independent implementation of document 01 (the scope), written from that
-//! document, the paper and the fixed readings alone. Comments quote the sentence
-//! of document 01 that a piece of code follows, or name the reading: READINGS A26
-//! is reading A26, which docs/DECISIONS.md records under the same number.
+//! An independent implementation of document 01 (the scope) and of P8 of document
+//! 02 (the change requests), written from these documents, the paper and the fixed
+//! readings alone. Comments quote the sentence that a piece of code follows, or
+//! name the reading: READINGS A26 is reading A26, which docs/DECISIONS.md records
+//! under the same number; B8.4 is a reading of P8.
 //!
-//! - `entries`: the five public calls, with lent work and output spaces;
-//! - `format`: the bytes of the four kinds of file;
-//! - `engine`: what the five calls do once the lent spaces are set aside;
-//! - `text`: the four kinds of file as text for people;
+//! - `entries`: the seven public calls, with lent work and output spaces;
+//! - `format`: the bytes of the five kinds of file;
+//! - `notation`: terms as text, the marks of P8;
+//! - `engine`: what the calls do once the lent spaces are set aside;
+//! - `text`: the five kinds of file as text for people;
 //! - `generate`: seeded test cases of all shapes and sizes;
 //! - `vectors`: the file format in which cases and answers are exchanged.
 
@@ -20,8 +22,9 @@ pub mod format;
 pub mod generate;
 pub mod limits;
 pub mod names;
+pub mod notation;
 pub mod text;
 pub mod vectors;
 
 pub use answer::{Answer, InputFile, Reason, Refusal};
-pub use entries::{check, check_flat, flatten, run, write_proof};
+pub use entries::{check, check_flat, flatten, read_text, run, write_proof, write_text};

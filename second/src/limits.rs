@@ -1,4 +1,5 @@
-//! Every number that document 01 or docs/ names as a limit, in one place.
+//! Every number that document 01, document 02 or docs/ names as a limit, in one
+//! place.
 
 /// "1: input over 65,535 bytes."
 pub const MOST_INPUT_BYTES: usize = 65_535;
@@ -30,3 +31,5 @@ pub const CHECK_FLAT_WORK: usize = 65_536;
 pub const WRITE_PROOF_WORK: usize = 65_536;
 pub const FLATTEN_WORK: usize = 200_704;
 pub const RUN_WORK: usize = 1_290_752;
+pub const READ_TEXT_WORK: usize = 196_608;
+pub const WRITE_TEXT_WORK: usize = 36_864;

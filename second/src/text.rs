@@ -1,5 +1,4 @@
-//! The four kinds of file as text for people; terms in the paper's notation, as
-//! document 01 prints them.
+//! The five kinds of file as text for people; terms in the notation of P8.
 
 use crate::answer::Refusal;
 use crate::format::flat::{Flat, FlatStep};
@@ -7,8 +6,10 @@ use crate::format::job::Job;
 use crate::format::proof::Proof;
 use crate::format::table::Table;
 use crate::format::tags::Tag;
-use crate::format::terms::{Term, TermNumber, Terms};
+use crate::format::term_file::TermFile;
+use crate::format::terms::{TermNumber, Terms};
 use crate::names::Goal;
+use crate::notation::write::text_of;
 use std::fmt::Write;
 
 #[derive(Clone, Copy, PartialEq, Eq, Debug)]
@@ -17,10 +18,11 @@ pub enum FileKind {
     Job,
     Proof,
     Flat,
+    Term,
 }
 
 impl FileKind {
-    pub const ALL: [FileKind; 4] = [FileKind::Table, FileKind::Job, FileKind::Proof, FileKind::Flat];
+    pub const ALL: [FileKind; 5] = [FileKind::Table, FileKind::Job, FileKind::Proof, FileKind::Flat, FileKind::Term];
 
     pub fn name(self) -> &'static str {
         match self {
@@ -28,6 +30,7 @@ impl FileKind {
             FileKind::Job => "job",
             FileKind::Proof => "proof",
             FileKind::Flat => "flat",
+            FileKind::Term => "term",
         }
     }
 
@@ -43,8 +46,10 @@ impl FileKind {
     }
 
     fn likeliest(bytes: &[u8]) -> FileKind {
-        if bytes.first() != Some(&Tag::GoalList.byte()) {
-            return FileKind::Table;
+        match bytes.first().copied().and_then(Tag::from_byte) {
+            Some(Tag::GoalList) => {}
+            Some(tag) if tag.is_tactic_term() => return FileKind::Term,
+            _ => return FileKind::Table,
         }
         let behind_goals = end_of_field(bytes, 0);
         match bytes.get(behind_goals).copied().map(Tag::from_byte) {
@@ -69,6 +74,7 @@ pub fn show(kind: FileKind, bytes: &[u8]) -> Result<String, Refusal> {
         FileKind::Job => show_job(bytes),
         FileKind::Proof => show_proof(bytes),
         FileKind::Flat => show_flat(bytes),
+        FileKind::Term => show_term(bytes),
     }
 }
 
@@ -115,6 +121,11 @@ fn show_flat(bytes: &[u8]) -> Result<String, Refusal> {
     Ok(text)
 }
 
+fn show_term(bytes: &[u8]) -> Result<String, Refusal> {
+    let file = TermFile::read(bytes)?;
+    Ok(format!("term: term fields {}\nterm {}\n", file.terms.count(), term_text(&file.terms, file.term)))
+}
+
 fn goals_text(goals: &[Goal]) -> String {
     if goals.is_empty() {
         return "none".to_string();
@@ -123,70 +134,7 @@ fn goals_text(goals: &[Goal]) -> String {
     numbers.join(", ")
 }
 
-/// Where a term stands in the term around it.
-#[derive(Clone, Copy, PartialEq, Eq)]
-enum Standing {
-    Whole,
-    InLabel,
-    Left,
-    Right,
-}
-
-/// What is still to be printed of a term.
-enum Piece {
-    Term(TermNumber, Standing),
-    Text(&'static str),
-}
-
-/// The term as document 01 prints it: `([1](1 ; (2 ⊗ id))) ; (id ; [2]3)`. Every
-/// inner sequence, tensor and alternation is in brackets, and so is a label that
-/// something follows, since a label reaches as far as possible.
-pub fn term_text(terms: &Terms, term: TermNumber) -> String {
-    let mut text = String::new();
-    // The piece to be printed next stands last.
-    let mut pieces = vec![Piece::Term(term, Standing::Whole)];
-    while let Some(piece) = pieces.pop() {
-        match piece {
-            Piece::Text(words) => text.push_str(words),
-            Piece::Term(number, standing) => {
-                let term = terms.get(number);
-                if needs_brackets(term, standing) {
-                    text.push('(');
-                    pieces.push(Piece::Text(")"));
-                }
-                print_term(term, &mut text, &mut pieces);
-            }
-        }
-    }
-    text
-}
-
-fn needs_brackets(term: Term, standing: Standing) -> bool {
-    match term {
-        Term::Sequence(_, _) | Term::Tensor(_, _) | Term::Alternation(_, _) => standing != Standing::Whole,
-        Term::Label(_, _) => standing == Standing::Left,
-        _ => false,
-    }
-}
-
-fn print_term(term: Term, text: &mut String, pieces: &mut Vec<Piece>) {
-    let mut two_parts = |left, sign, right| {
-        pieces.push(Piece::Term(right, Standing::Right));
-        pieces.push(Piece::Text(sign));
-        pieces.push(Piece::Term(left, Standing::Left));
-    };
-    match term {
-        Term::Sequence(left, right) => two_parts(left, " ; ", right),
-        Term::Tensor(left, right) => two_parts(left, " ⊗ ", right),
-        Term::Alternation(left, right) => two_parts(left, " | ", right),
-        Term::Label(label, inner) => {
-            text.push_str(&format!("[{}]", label.0));
-            pieces.push(Piece::Term(inner, Standing::InLabel));
-        }
-        Term::Atomic(name) => text.push_str(&name.0.to_string()),
-        Term::Assert(goal) => text.push_str(&format!("assert {}", goal.0)),
-        Term::DefinedTactic(tactic) => text.push_str(&format!("T{}", tactic.0)),
-        Term::Id => text.push_str("id"),
-        Term::Empty => text.push_str("empty"),
-    }
+/// The term in the notation of P8, which is ASCII.
+fn term_text(terms: &Terms, term: TermNumber) -> String {
+    text_of(terms, term).into_iter().map(char::from).collect()
 }

@@ -85,15 +85,19 @@ fn show_prints_each_kind() {
     folder.put("flat", &flat(&[10], &[use_entry(1, 10), open_entry(20), open_entry(30)]));
     folder.put("nothing", &[]);
     let table = "table: rules 3, definitions 4\nrule 1 on 10 gives 20, 30\nrule 2 on 20 gives none\n\
-        rule 3 on 30 gives none\nT1 is [1](1 ; (2 ⊗ id))\nT2 is [2]3\n\
-        T3 is (assert 30 ; T2) | (T1 ; T3)\nT4 is (id ⊗ T4) | empty\n";
+        rule 3 on 30 gives none\nT1 is [1]a1 ; a2 * id\nT2 is [2]a3\n\
+        T3 is (?30 ; T2) | (T1 ; T3)\nT4 is id * T4 | <>\n";
     assert_eq!(folder.says(&["show", "table"]).0, table);
-    assert_eq!(folder.says(&["show", "job"]).0, "job: term fields 5\ngoals 10, 20\nterm assert 30 | [4][5]empty\n");
-    let proof = "proof: term fields 11\ngoals 10\nterm ([1](1 ; (2 ⊗ id))) ; (id ; [2]3)\nremaining none\n";
+    assert_eq!(folder.says(&["show", "job"]).0, "job: term fields 5\ngoals 10, 20\nterm ?30 | [4][5]<>\n");
+    let proof = "proof: term fields 11\ngoals 10\nterm ([1]a1 ; a2 * id) ; id ; [2]a3\nremaining none\n";
     assert_eq!(folder.says(&["show", "proof"]).0, proof);
     assert_eq!(folder.says(&["show", "--kind", "proof", "proof"]).0, proof);
     assert_eq!(folder.says(&["show", "flat"]).0, "flat: uses 1, open 2\nroots 10\nuse 1 on 10\nopen 20\nopen 30\n");
     assert_eq!(folder.says(&["show", "nothing"]).0, "table: rules 0, definitions 0\n");
+    folder.put("term", &tensor(&sequence(&atomic(1), &id()), &empty()));
+    let term = "term: term fields 5\nterm (a1 ; id) * <>\n";
+    assert_eq!(folder.says(&["show", "term"]).0, term);
+    assert_eq!(folder.says(&["show", "--kind", "term", "term"]).0, term);
 }
 
 #[test]
@@ -109,6 +113,86 @@ fn files_that_do_not_read_are_explained() {
     assert!(words.contains("refusal 2 at byte 5: a field is missing or torn"), "{words}");
     let (words, _) = folder.complaint(&["show", "table"]);
     assert!(words.contains("refusal 4 at byte 0: the length is wrong"), "{words}");
+    folder.put("term", &[19, 0, 3, 17, 0, 0]);
+    let (words, _) = folder.complaint(&["show", "term"]);
+    assert!(words.contains("does not read as a term file"), "{words}");
+    assert!(words.contains("refusal 2 at byte 6: a field is missing or torn"), "{words}");
+}
+
+#[test]
+fn terms_are_read_from_text_and_written_as_text() {
+    let folder = Folder::new("texts");
+    let line = |text: &str| (text.to_string(), 0);
+    let term = sequence(&label(1, &atomic(1)), &tensor(&atomic(2), &id()));
+    folder.put("loose", b" ([01] a1);(a2*id) ");
+    assert_eq!(folder.says(&["read-text", "loose", "term"]), line("written 24 bytes\n"));
+    assert_eq!(folder.get("term"), term);
+    assert_eq!(folder.says(&["write-text", "term"]), line("([1]a1) ; a2 * id\n"));
+    assert_eq!(folder.says(&["write-text", "term", "text"]), line("written 17 bytes\n"));
+    assert_eq!(folder.get("text"), b"([1]a1) ; a2 * id");
+    folder.put("torn", &term[..9]);
+    assert_eq!(folder.says(&["write-text", "torn"]), ("refused 2 file 2 place 0\n".to_string(), 1));
+}
+
+/// From a table of rules alone to document 01's first proof.
+#[test]
+fn a_table_and_a_job_are_written_by_hand() {
+    let folder = Folder::new("by-hand");
+    folder.put("rules", &[rule(1, 10, &[20, 30]), rule(2, 20, &[]), rule(3, 30, &[])].concat());
+    let tactics = ["[1]a1 ; a2 * id", "[2]a3", "(?30 ; T2) | (T1 ; T3)", "id * T4 | <>"];
+    for (tactic, term) in ["1", "2", "3", "4"].into_iter().zip(tactics) {
+        assert_eq!(folder.says(&["define", "rules", tactic, term, "rules"]).1, 0);
+    }
+    assert_eq!(folder.get("rules"), table_a());
+    assert_eq!(folder.says(&["job", "10", "T3", "job"]), ("written 10 bytes\n".to_string(), 0));
+    assert_eq!(folder.get("job"), job(&[10], &defined(3)));
+    assert_eq!(folder.says(&["run", "rules", "job", "19", "proof"]).0, "written 51 bytes steps 19\n");
+    assert_eq!(folder.get("proof"), first_proof());
+    assert_eq!(folder.says(&["job", "none", "T4", "job"]).1, 0);
+    assert_eq!(folder.get("job"), job(&[], &defined(4)));
+    assert_eq!(folder.says(&["job", "10, 65535", "id*id", "job"]).1, 0);
+    assert_eq!(folder.get("job"), job(&[10, 65_535], &tensor(&id(), &id())));
+}
+
+#[test]
+fn refused_texts_are_shown_with_the_byte() {
+    let folder = Folder::new("refused-texts");
+    let refused = |text: &str| (text.to_string(), 1);
+    folder.put("line", b"a1 ; id\n");
+    assert_eq!(folder.says(&["read-text", "line", "out"]), refused("refused 36 file 2 place 7\n"));
+    let meaning = "no text of the notation goes on with this byte, or the text ends early";
+    let (words, _) = folder.complaint(&["read-text", "line", "out"]);
+    assert_eq!(words, format!("line, byte 7: {meaning}\na1 ; id.\n       ^\n"));
+    assert_eq!(folder.says(&["job", "10", "a1 ; a2x", "out"]), refused("refused 36 file 2 place 7\n"));
+    let (words, _) = folder.complaint(&["job", "10", "a1 ⊗ a2", "out"]);
+    assert_eq!(words, format!("the term, byte 3: {meaning}\na1 ... a2\n   ^\n"));
+    let (words, _) = folder.complaint(&["job", "10", "a1 ; a65536", "out"]);
+    assert_eq!(words, "the term, byte 6: a value is over 65,535\na1 ; a65536\n      ^\n");
+    let long = format!("{}x", "id ; ".repeat(30));
+    let (words, _) = folder.complaint(&["job", "10", &long, "out"]);
+    assert!(words.ends_with(&format!("\n{}x\n{}^\n", "id ; ".repeat(10), " ".repeat(50))), "{words}");
+    assert!(!folder.0.join("out").exists());
+}
+
+#[test]
+fn refused_jobs_and_definitions_are_not_written() {
+    let folder = Folder::new("refused-jobs");
+    let refused = |text: &str| (text.to_string(), 1);
+    folder.put("table", &table_a());
+    let length = table_a().len();
+    let twice = folder.says(&["define", "table", "3", "id", "table"]);
+    assert_eq!(twice, refused(&format!("refused 8 file 1 place {length}\n")));
+    let label = folder.says(&["define", "table", "5", "id * [2]id", "table"]);
+    assert_eq!(label, refused(&format!("refused 9 file 1 place {}\n", length + 5 + 3 + 3)));
+    assert_eq!(folder.says(&["define", "table", "5", "id *", "table"]), refused("refused 36 file 2 place 4\n"));
+    assert_eq!(folder.get("table"), table_a());
+    folder.put("torn", &table_a()[1..]);
+    assert_eq!(folder.says(&["define", "torn", "5", "x", "table"]), refused("refused 3 file 1 place 0\n"));
+    let many = vec!["10"; 257].join(",");
+    assert_eq!(folder.says(&["job", &many, "id", "job"]), refused("refused 5 file 2 place 0\n"));
+    assert_eq!(folder.complaint(&["job", "10;20", "id", "job"]).1, 2);
+    assert_eq!(folder.complaint(&["job", "65536", "id", "job"]).1, 2);
+    assert_eq!(folder.complaint(&["define", "table", "T5", "id", "job"]).1, 2);
 }
 
 #[test]

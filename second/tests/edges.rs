@@ -13,7 +13,7 @@ fn first_proof_takes_19_steps_and_51_bytes() {
     assert_eq!((answer.number, answer.steps, answer.length), (0, 19, 51));
     assert_eq!(bytes, first_proof());
     let text = show(FileKind::Proof, &bytes).unwrap();
-    assert!(text.contains("term ([1](1 ; (2 ⊗ id))) ; (id ; [2]3)\n"));
+    assert!(text.contains("term ([1]a1 ; a2 * id) ; id ; [2]a3\n"));
     assert!(text.contains("remaining none\n"));
 }
 

@@ -11,6 +11,8 @@ fn good_case(entry: Entry) -> Case {
         Entry::Check | Entry::Flatten => examples::first_proof(),
         Entry::Run => job(&[10], &defined(3)),
         Entry::CheckFlat | Entry::WriteProof => examples::first_flat(),
+        Entry::ReadText => b"[1]a1 ; a2 * id".to_vec(),
+        Entry::WriteText => label(1, &sequence(&atomic(1), &id())),
     };
     Case::new(entry, &examples::table_a(), &other)
 }
@@ -29,7 +31,7 @@ fn work_space_one_byte_short_is_29() {
 
 #[test]
 fn output_space_one_byte_short_is_26() {
-    for entry in [Entry::Run, Entry::Flatten, Entry::WriteProof] {
+    for entry in Entry::ALL.into_iter().filter(|entry| entry.has_output()) {
         let case = good_case(entry);
         let result = case.result().unwrap();
         let short = case.clone().with_output(result.len() - 1).outcome();
@@ -80,7 +82,7 @@ fn promises_hold_on_arbitrary_bytes() {
         (0..random.below(most)).map(|_| if small { random.byte() % 36 } else { random.byte() }).collect()
     };
     for number in 0..2_000 {
-        let entry = Entry::ALL[number % 5];
+        let entry = Entry::ALL[number % Entry::ALL.len()];
         let table = if number % 2 == 0 { bytes(12) } else { vec![] };
         let other = bytes(60);
         hold_promises(&Case::new(entry, &table, &other));

@@ -12,7 +12,8 @@ use lib.ListN.{length, length-append}
 use borrow.Author.Tests.{lt-ltb, le-ltb}
 use Rattle.io.specs.Digits.{Fewest}
 use Rattle.io.specs.Digits as io
-use Rattle.entries.specs.PrintedLine.{digits, decimal}
+use Rattle.notation.specs.Written.{digits}
+use Rattle.entries.specs.PrintedLine.{decimal}
 
 pub digits-length : (most n : ℕ) → length (digits most n) ≤ most
 unfolding digits

@@ -1,14 +1,24 @@
-// The five entries as C functions: nothing but calls. include/hitac.h declares them for C.
+// The entries as C functions: nothing but calls; and the version. include/hitac.h declares them for C.
 ghost use mathlib.Core.Path.{_≡_};
 ghost use Rattle.entries.specs.Check as entry;
 ghost use Rattle.entries.specs.CheckFlat.{checkFlat, writeProof};
 ghost use Rattle.entries.specs.Run.{runTactic};
+ghost use Rattle.entries.specs.Texts.{readText, writeText};
+ghost use Rattle.engine.specs.Version.{versionMajor, versionMinor};
+ghost use Prim.Native.Nat.{_+_, _*_};
 use answers::Answer;
 use checker::check::check;
 use derivation::check::check_flat;
 use flattener::flatten::flatten;
 use runner::entry::run;
+use text_reader::entry::read_text;
+use text_writer::entry::write_text;
 use writer::entry::write_proof;
+
+// The minor number goes up with each new call, the major number when programs must be compiled anew.
+const MAJOR: u32 = 1;
+
+const MINOR: u32 = 2;
 
 // Whether the proof is accepted in the table.
 #[no_mangle]
@@ -72,4 +82,32 @@ pub extern "C" fn hitac_write_proof(
     ensures out { λ _. ⌜ now (out .exit) ≡ writeProof (now (table .entry)) (now (flat .entry)) (now (work .entry)) (now (out .entry)) .out ⌝ }
 {
     write_proof(table, flat, work, out)
+}
+
+// Reads a text of the notation: a term file in the output space.
+#[no_mangle]
+pub extern "C" fn hitac_read_text(text: &[u8], work: &mut [u8], out: &mut [u8]) -> Answer
+    ensures answer { λ r. ⌜ r ≡ readText (now (text .entry)) (now (work .entry)) (now (out .entry)) .answer ⌝ }
+    ensures work { λ _. ⌜ now (work .exit) ≡ readText (now (text .entry)) (now (work .entry)) (now (out .entry)) .work ⌝ }
+    ensures out { λ _. ⌜ now (out .exit) ≡ readText (now (text .entry)) (now (work .entry)) (now (out .entry)) .out ⌝ }
+{
+    read_text(text, work, out)
+}
+
+// Writes the text of a term file into the output space.
+#[no_mangle]
+pub extern "C" fn hitac_write_text(term: &[u8], work: &mut [u8], out: &mut [u8]) -> Answer
+    ensures answer { λ r. ⌜ r ≡ writeText (now (term .entry)) (now (work .entry)) (now (out .entry)) .answer ⌝ }
+    ensures work { λ _. ⌜ now (work .exit) ≡ writeText (now (term .entry)) (now (work .entry)) (now (out .entry)) .work ⌝ }
+    ensures out { λ _. ⌜ now (out .exit) ≡ writeText (now (term .entry)) (now (work .entry)) (now (out .entry)) .out ⌝ }
+{
+    write_text(term, work, out)
+}
+
+// The version of the library: the major number times 65,536, and the minor number.
+#[no_mangle]
+pub extern "C" fn hitac_version() -> u32
+    ensures { λ r. ⌜ r ≡ versionMajor * 65536 + versionMinor ⌝ }
+{
+    MAJOR * 65536 + MINOR
 }

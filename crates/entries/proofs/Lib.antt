@@ -1,2 +1,3 @@
+pub mod LeftLaws
 pub mod Worked
 pub mod SameGoals

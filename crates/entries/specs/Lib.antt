@@ -3,6 +3,8 @@ pub mod LentSpace
 pub mod Check
 pub mod CheckFlat
 pub mod Run
+pub mod Texts
+pub mod Left
 pub mod PrintedLine
 pub mod Lines
 pub mod Worked

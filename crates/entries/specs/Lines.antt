@@ -12,6 +12,7 @@ use Rattle.entries.specs.LentSpace.{Counts, Checked, Written, writeOut}
 use Rattle.entries.specs.Check.{onProof, proofCounts, forestFile, check}
 use Rattle.entries.specs.CheckFlat.{checkFlatOutcome, writeOutcome, writtenFile}
 use Rattle.entries.specs.Run.{runOutcome, runTactic}
+use Rattle.entries.specs.Texts.{readTextOutcome, writeTextOutcome}
 use Rattle.entries.specs.PrintedLine.{printedLine}
 
 pub data Line : Type 0 where
@@ -26,6 +27,8 @@ pub data Line : Type 0 where
   runsWith : (table job : List ℕ) → (budget : ℕ) → (work out : List ℕ) → Written → Line
   checksWith : (table proof work : List ℕ) → Checked → Line
   prints : Answer → (line : List ℕ) → Line
+  readsText : (text : List ℕ) → Outcome (List ℕ) → Line
+  writesText : (term : List ℕ) → Outcome (List ℕ) → Line
 
 -- what the line says
 unfoldable pub Holds : Line → Type 0
@@ -41,6 +44,8 @@ Holds (runsInto t j b w o x) = writeOut w o (runOutcome t j b) ≡ x
 Holds (runsWith t j b w o x) = runTactic t j b w o ≡ x
 Holds (checksWith t p w x) = check t p w ≡ x
 Holds (prints a l) = printedLine a ≡ l
+Holds (readsText s o) = readTextOutcome s ≡ o
+Holds (writesText s o) = writeTextOutcome s ≡ o
 
 -- every line of a list holds
 infixr 5 _&_

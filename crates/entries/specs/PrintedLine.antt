@@ -1,14 +1,10 @@
 -- Document 01, "A table and its edges": the line that the check program prints, as bytes.
-use Prim.Native.Nat.{ℕ, zero, suc, _+_, _/_, _%_}
+use Prim.Native.Nat.{ℕ}
 use mathlib.Core.Bool.{cond}
 use mathlib.Core.List.{List, [], _∷_, _++_}
-use lib.Dec.{eqb, ltb}
+use lib.Dec.{eqb}
+use Rattle.notation.specs.Written.{digits}
 use Rattle.answers.specs.declared.Answer.{Answer}
-
--- a number in base ten, of at most so many digits; 48 is the digit 0
-unfoldable pub digits : (most : ℕ) → ℕ → List ℕ
-digits zero n = []
-digits (suc m) n = let front = digits m (n / 10) in cond (ltb n 10) ((48 + n) ∷ []) (front ++ ((48 + n % 10) ∷ []))
 
 -- the numbers of an answer have 32 bits, so ten digits at the most
 abbrev pub decimal : ℕ → List ℕ

@@ -2,7 +2,7 @@
 use Prim.Native.Nat.{ℕ, zero, suc}
 use mathlib.Core.List.{List, [], _∷_, _++_}
 use lib.ListN.{replicate}
-use Rattle.format.specs.Refusals.{inputTooLong, fieldTorn, tagNotAllowed, lengthWrong, limitPassed, ruleRepeated, premiseCountDiffers, tacticRedefined, labelRepeated, ruleMissing, goalCountWrong, goalsTooFew, remainingDiffer, joinedTooLong, tacticFailed, budgetSpent, budgetTooLarge, entryWrong, goalsPending, entriesTooMany}
+use Rattle.format.specs.Refusals.{inputTooLong, fieldTorn, tagNotAllowed, lengthWrong, limitPassed, ruleRepeated, premiseCountDiffers, tacticRedefined, labelRepeated, ruleMissing, goalCountWrong, goalsTooFew, remainingDiffer, joinedTooLong, tacticFailed, budgetSpent, budgetTooLarge, entryWrong, goalsPending, entriesTooMany, textWrong}
 use Rattle.format.specs.Results.{refused}
 use Rattle.format.specs.Values.{ruleName, goal}
 use Rattle.format.specs.Terms.{Term, atomic, id, tensor, alternation}
@@ -12,7 +12,7 @@ use Rattle.files.specs.Derivations.{openEntry}
 use Rattle.answers.specs.Answers as answer
 use Rattle.entries.specs.Outcomes.{success, refusal, done, tableFile, otherFile, noFile}
 use Rattle.entries.specs.LentSpace.{Counts}
-use Rattle.entries.specs.Lines.{Line, ofBytes, checks, flattens, checksFlat, writes, writesOf, runs, runsInto, runsWith, checksWith, prints}
+use Rattle.entries.specs.Lines.{Line, ofBytes, checks, flattens, checksFlat, writes, writesOf, runs, runsInto, runsWith, checksWith, prints, readsText, writesText}
 
 abbrev pub counts : (fields uses remaining : ℕ) → Counts
 counts t u o = record { fields = t; uses = u; remaining = o }
@@ -164,4 +164,25 @@ edgeLines =
     ∷ writes tableB (3 ∷ 0 ∷ 2 ∷ 0 ∷ 50 ∷ 32 ∷ 0 ∷ 4 ∷ 0 ∷ 5 ∷ 0 ∷ 50 ∷ 33 ∷ 0 ∷ 2 ∷ 0 ∷ 10 ∷ 33 ∷ 0 ∷ 2 ∷ 0 ∷ 20 ∷ 33 ∷ 0 ∷ 2 ∷ 0 ∷ 50 ∷ []) (done (3 ∷ 0 ∷ 2 ∷ 0 ∷ 50 ∷ 19 ∷ 0 ∷ 20 ∷ 16 ∷ 0 ∷ 2 ∷ 0 ∷ 5 ∷ 20 ∷ 0 ∷ 12 ∷ 17 ∷ 0 ∷ 0 ∷ 20 ∷ 0 ∷ 6 ∷ 17 ∷ 0 ∷ 0 ∷ 17 ∷ 0 ∷ 0 ∷ 3 ∷ 0 ∷ 6 ∷ 0 ∷ 10 ∷ 0 ∷ 20 ∷ 0 ∷ 50 ∷ []))
     -- no roots are written back as empty
     ∷ writes [] (3 ∷ 0 ∷ 0 ∷ []) (done (3 ∷ 0 ∷ 0 ∷ 21 ∷ 0 ∷ 0 ∷ 3 ∷ 0 ∷ 0 ∷ []))
+    ∷ []
+
+-- document 02, P8: the body of tactic 3 of table A as text and as a term file, and what is refused
+abbrev pub bodyT3 : List ℕ
+bodyT3 = 22 ∷ 0 ∷ 26 ∷ 19 ∷ 0 ∷ 10 ∷ 23 ∷ 0 ∷ 2 ∷ 0 ∷ 30 ∷ 24 ∷ 0 ∷ 2 ∷ 0 ∷ 2 ∷ 19 ∷ 0 ∷ 10 ∷ 24 ∷ 0 ∷ 2 ∷ 0 ∷ 1 ∷ 24 ∷ 0 ∷ 2 ∷ 0 ∷ 3 ∷ []
+
+-- `(?30 ; T2) | (T1 ; T3)`
+abbrev pub textT3 : List ℕ
+textT3 = 40 ∷ 63 ∷ 51 ∷ 48 ∷ 32 ∷ 59 ∷ 32 ∷ 84 ∷ 50 ∷ 41 ∷ 32 ∷ 124 ∷ 32 ∷ 40 ∷ 84 ∷ 49 ∷ 32 ∷ 59 ∷ 32 ∷ 84 ∷ 51 ∷ 41 ∷ []
+
+unfoldable pub textLines : List Line
+textLines =
+    readsText textT3 (done bodyT3)
+    ∷ writesText bodyT3 (done textT3)
+    -- no bytes: 36 at the end, 2 where the field must begin
+    ∷ readsText [] (refusal textWrong otherFile 0 0)
+    ∷ writesText [] (refusal fieldTorn otherFile 0 0)
+    -- a byte behind the term
+    ∷ writesText (17 ∷ 0 ∷ 0 ∷ 0 ∷ []) (refusal lengthWrong otherFile 3 0)
+    -- a goal list in front
+    ∷ writesText (3 ∷ 0 ∷ 0 ∷ 17 ∷ 0 ∷ 0 ∷ []) (refusal tagNotAllowed otherFile 0 0)
     ∷ []

@@ -6,16 +6,19 @@ use Prim.Native.Nat.{ℕ}
 use native.Mathlib.Omega.{arith}
 use Rattle.format.specs.Refusals.{Cause, number}
 use Rattle.format.specs.Results.{gives, refused}
+use Rattle.format.specs.Terms.{Term, fields}
 use Rattle.files.specs.declared.proofs.ProofParts.{ProofParts}
 use Rattle.files.specs.declared.proofs.ProofRead.the-variants as P
 use Rattle.files.specs.declared.jobs.JobParts.{JobParts}
 use Rattle.files.specs.declared.jobs.JobRead.the-variants as J
+use Rattle.files.specs.declared.terms.TermFileRead.the-variants as R
 use Rattle.files.specs.declared.flats.FlatParts.{FlatParts}
 use Rattle.files.specs.declared.flats.FlatRead.the-variants as F
 use Rattle.files.specs.Proofs.{Proof, readProof}
 use Rattle.files.specs.Jobs.{Job, readJob}
+use Rattle.files.specs.TermFiles.{readTermFile}
 use Rattle.files.specs.Derivations.{Derivation, readFlat}
-use Rattle.files.specs.Shapes.{partsOf, proofShape, jobPartsOf, jobShape, flatPartsOf, flatShape}
+use Rattle.files.specs.Shapes.{partsOf, proofShape, jobPartsOf, jobShape, termFileShape, flatPartsOf, flatShape}
 use Rattle.files.proofs.ToldLaws.{Tells, told-value, told-cause}
 
 proof-tells : Tells P.Refused P.Read
@@ -27,6 +30,13 @@ proof-tells = record {
 
 job-tells : Tells J.Refused J.Read
 job-tells = record {
+  apart = λ k p q e. let z : _≡_ {A = ℕ} 0 1 = cc in omega arith;
+  one-refusal = λ k p l r e. let a : k ≡ l = cc in let b : p ≡ r = cc in (a, b);
+  one-value = λ q r e. cc;
+}
+
+term-file-tells : Tells R.Refused R.Read
+term-file-tells = record {
   apart = λ k p q e. let z : _≡_ {A = ℕ} 0 1 = cc in omega arith;
   one-refusal = λ k p l r e. let a : k ≡ l = cc in let b : p ≡ r = cc in (a, b);
   one-value = λ q r e. cc;
@@ -55,6 +65,14 @@ module _ (s : List ℕ) where
   pub job-refused : (k p : ℕ) → jobShape (readJob s) ≡ J.Refused k p → (c : Cause) × (readJob s ≡ refused c p) × (number c ≡ k)
   unfolding jobShape
   job-refused k p e = told-cause job-tells jobPartsOf (readJob s) k p e
+
+  pub term-file-read : (n : ℕ) → termFileShape (readTermFile s) ≡ R.Read n → (t : Term) × (readTermFile s ≡ gives t) × (fields t ≡ n)
+  unfolding termFileShape
+  term-file-read n e = told-value term-file-tells fields (readTermFile s) n e
+
+  pub term-file-refused : (k p : ℕ) → termFileShape (readTermFile s) ≡ R.Refused k p → (c : Cause) × (readTermFile s ≡ refused c p) × (number c ≡ k)
+  unfolding termFileShape
+  term-file-refused k p e = told-cause term-file-tells fields (readTermFile s) k p e
 
   pub flat-read : (q : FlatParts) → flatShape (readFlat s) ≡ F.Read q → (d : Derivation) × (readFlat s ≡ gives d) × (flatPartsOf d ≡ q)
   unfolding flatShape

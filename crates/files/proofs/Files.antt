@@ -37,6 +37,16 @@ long-refused : (s : List ℕ) → mostBytes < length s → FileRefusal s inputTo
 unfolding number
 long-refused s h = record { least = omega arith; most = omega arith; within = omega arith; below = omega arith; too-long = λ q. (h, refl) }
 
+-- where a file is refused, if what follows the test of its length is refused within the file
+pub size-refused : {A : Type 0} (s : List ℕ) (x : Result A) → RefusedWithin 0 (length s) x → (c : Cause) (p : ℕ) → ofSize s x ≡ refused c p → FileRefusal s c p
+size-refused {A} s x w c p = go (ltb mostBytes (length s)) refl
+  where
+    go : (b : Bool) → ltb mostBytes (length s) ≡ b → cond b (refused inputTooLong 0) x ≡ refused c p → FileRefusal s c p
+    go true t e = subst (λ (q : ℕ). FileRefusal s c q) (same-place e) (subst (λ (d : Cause). FileRefusal s d 0) (same-cause e) (long-refused s (ltb-true mostBytes (length s) t)))
+    go false t e =
+        let r : Refusal 0 (length s) c p = unfold RefusedWithin in subst (RefusedWithin 0 (length s)) e w in
+        record { least = omega (arith, r .least); most = r .most; within = r .below; below = omega (arith, r .below, ltb-false mostBytes (length s) t); too-long = λ q. absurd (omega (arith, r .least, q)) }
+
 -- a goal list that was read stands at its place
 pub list-stands : (s : List ℕ) (at end : ℕ) (g : ParsedGoals) → GoalsStand s at end g → (i : ℕ) → at ≡ i → ListStands s i (g .goals)
 list-stands s at end g h i e = subst (λ (j : ℕ). ListStands s j (g .goals)) e (record { head = h .head; goals-are = h .goals-are; few = h .few })
@@ -65,10 +75,4 @@ module _ {A : Type 0} (s : List ℕ) (next : ParsedGoals → Result A) where
 
   -- where a file is refused, if what follows is refused within the file
   pub refused-at : ((g : ParsedGoals) → GoalsStand s 0 (length s) g → RefusedWithin 0 (length s) (next g)) → (c : Cause) (p : ℕ) → ofSize s (andThen (readGoals s 0 (length s)) next) ≡ refused c p → FileRefusal s c p
-  refused-at h c p = go (ltb mostBytes (length s)) refl (steps 0 (length s) _ next (further 0 0 (length s) 0 (omega arith) (omega arith) _ (goals-place s 0 (length s))) (λ g e. h g (goals-stand s 0 (length s) (omega arith) g e)))
-    where
-      go : (b : Bool) → ltb mostBytes (length s) ≡ b → RefusedWithin 0 (length s) (andThen (readGoals s 0 (length s)) next) → cond b (refused inputTooLong 0) (andThen (readGoals s 0 (length s)) next) ≡ refused c p → FileRefusal s c p
-      go true t w e = subst (λ (q : ℕ). FileRefusal s c q) (same-place e) (subst (λ (d : Cause). FileRefusal s d 0) (same-cause e) (long-refused s (ltb-true mostBytes (length s) t)))
-      go false t w e =
-          let r : Refusal 0 (length s) c p = unfold RefusedWithin in subst (RefusedWithin 0 (length s)) e w in
-          record { least = omega (arith, r .least); most = r .most; within = r .below; below = omega (arith, r .below, ltb-false mostBytes (length s) t); too-long = λ q. absurd (omega (arith, r .least, q)) }
+  refused-at h c p = size-refused s _ (steps 0 (length s) _ next (further 0 0 (length s) 0 (omega arith) (omega arith) _ (goals-place s 0 (length s))) (λ g e. h g (goals-stand s 0 (length s) (omega arith) g e))) c p

@@ -5,6 +5,8 @@ pub mod ProofLaws
 pub mod ProofSteps
 pub mod JobLaws
 pub mod JobSteps
+pub mod TermFileLaws
+pub mod TermFileSteps
 pub mod FlatLaws
 pub mod EntriesLaw
 pub mod FlatReading
@@ -15,6 +17,7 @@ pub mod WhatStands
 pub mod Sizes
 pub mod ReadsProof
 pub mod ReadsJob
+pub mod ReadsTermFile
 pub mod ReadsFlat
 pub mod RefusedFiles
 pub mod Answers

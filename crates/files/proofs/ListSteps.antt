@@ -27,7 +27,7 @@ use Rattle.format.specs.Reading.{Reading, headerOf, Step}
 use Rattle.format.proofs.GoalsLaws.{header-refused, header-read, many-goals, few-goals}
 use Rattle.format.proofs.AskLaws.{asks-list}
 use Rattle.format.proofs.StepCases.{field-step}
-use Rattle.format.proofs.StepLaws.{fresh-list, refused-reading}
+use Rattle.format.proofs.StepLaws.{fresh-list, fresh-term, refused-reading}
 
 -- what is told of the goal list at the beginning of a file
 abbrev pub stated : List ℕ → GoalsRead
@@ -88,20 +88,23 @@ module _ (s : List ℕ) (part : ℕ) where
       go false e = first (record { short = ltb-false mostBytes (length s) e; mode-is = refl; part-is = refl; at-start = refl; none-counted = (refl, refl, refl) })
 
   -- what `read_on` asks
-  module _ (w : List ℕ) (base : ℕ) (room : base + readingRoom ≤ length w) (o : part < 6) (i : part ≡ 1 → ⊥) (j : part ≡ 2 → ⊥) where
-    begun-reading : Reading s w base (begunFile s part)
-    unfolding begunFile blankState
-    begun-reading = go (ltb mostBytes (length s))
+  module _ (w : List ℕ) (base : ℕ) (room : base + readingRoom ≤ length w) where
+    begun-reading : Reading s w base (asking (blankState part) 1 part 0 (length s)) → (x : State) → x ≡ begunFile s part → Reading s w base x
+    unfolding begunFile
+    begun-reading asked x e = subst (Reading s w base) (sym e) (go (ltb mostBytes (length s)))
       where
-        asked : Reading s w base (asking (blankState part) 1 part 0 (length s))
-        asked = fresh-list s w base room (blankState part) 0 refl (omega arith) (omega arith) part o i j (omega arith) .0
-
         go : (b : Bool) → Reading s w base (cond b (refusing (asking (blankState part) 1 part 0 (length s)) (number inputTooLong) 0) (asking (blankState part) 1 part 0 (length s)))
         go true = refused-reading s w base _ _ _ asked
         go false = asked
 
-    pub start-reading : (x : State) → x ≡ begunFile s part → Reading s w base x
-    start-reading x e = subst (Reading s w base) (sym e) begun-reading
+    pub start-reading : part < 6 → (part ≡ 1 → ⊥) → (part ≡ 2 → ⊥) → (x : State) → x ≡ begunFile s part → Reading s w base x
+    unfolding blankState
+    start-reading o i j = begun-reading (fresh-list s w base room (blankState part) 0 refl (omega arith) (omega arith) part o i j (omega arith) .0)
+
+    -- of a file that is one term
+    pub start-term : 6 < part → (x : State) → x ≡ begunFile s part → Reading s w base x
+    unfolding blankState
+    start-term o = begun-reading (fresh-term s w base room (blankState part) 0 refl (omega arith) (omega arith) part (length s) (omega (arith, o)) (omega arith) (omega arith) (λ z. absurd (omega (arith, z, o))) .0)
 
 -- over the first list of a file
 module _ (s w : List ℕ) (base part : ℕ) (o : part < 6) (i : part ≡ 1 → ⊥) (j : part ≡ 2 → ⊥) where

@@ -27,12 +27,16 @@ use Rattle.files.proofs.TermSteps.{termAt, InTerm, Turn, goes-on, refus
 use Rattle.files.proofs.ProofLaws.{stated-refused, hiproof-refused, list-refused, bytes-left, proof-read}
 
 module _ (s : List ℕ) (base : ℕ) where
+  -- in front of the term stands the list of the stated goals
+  abbrev Front : (goals from : ℕ) → Type 0
+  Front n to = stated s ≡ G.Read n to
+
   -- by how far it was read
   data Known (w : List ℕ) (x : State) : Type 0 where
     is-refused : x .mode ≡ 0 → proofShape (readProof s) ≡ P.Refused (x .number) (x .place) → Known w x
     in-goals : First s 4 x → Known w x
-    in-hiproof : InTerm s 8 hiproofKind base w x → Known w x
-    in-remaining : x .mode ≡ 1 → x .part ≡ 5 → x .at ≡ x .rest → stated s ≡ G.Read (x .goals) (x .from) → termAt s 8 hiproofKind (x .from) ≡ T.Read (x .rest) (x .fields) → Known w x
+    in-hiproof : InTerm s 8 hiproofKind Front base w x → Known w x
+    in-remaining : x .mode ≡ 1 → x .part ≡ 5 → x .at ≡ x .rest → stated s ≡ G.Read (x .goals) (x .from) → termAt s 8 hiproofKind Front (x .from) ≡ T.Read (x .rest) (x .fields) → Known w x
     is-read : x .mode ≡ 2 → proofShape (readProof s) ≡ P.Read (proofParts (x .goals) (x .from) (x .fields) (x .rest) (x .second)) → Known w x
 
   module _ (w : List ℕ) (x : State) (h : Reading s w base x) (w′ : List ℕ) (r : State) where
@@ -40,18 +44,18 @@ module _ (s : List ℕ) (base : ℕ) where
     behind-goals f v (stops m e) = is-refused m (stated-refused s _ _ e)
     behind-goals f v (reads n close e q) =
         let p = f .part-is in
-        in-hiproof (rw (v, q, ne-eqb (x .part) 5 (λ z. omega (arith, p, z)), ne-eqb (x .part) 0 (λ z. omega (arith, p, z)), ne-eqb (x .part) 3 (λ z. omega (arith, p, z))) (term-begun s 8 hiproofKind base w x h 4 (omega arith) f n close e))
+        in-hiproof (rw (v, q, ne-eqb (x .part) 5 (λ z. omega (arith, p, z)), ne-eqb (x .part) 0 (λ z. omega (arith, p, z)), ne-eqb (x .part) 3 (λ z. omega (arith, p, z))) (term-begun s 8 hiproofKind Front base w x h 4 (omega arith) f n close e))
 
-    behind-hiproof : InTerm s 8 hiproofKind base w x → Turn s 8 hiproofKind base x w′ r → Known w′ r
+    behind-hiproof : InTerm s 8 hiproofKind Front base w x → Turn s 8 hiproofKind Front base x w′ r → Known w′ r
     unfolding behindTerm
     behind-hiproof t (goes-on u) = in-hiproof u
-    behind-hiproof t (refuses m e) = is-refused m (hiproof-refused s _ _ (t .list) _ _ e)
+    behind-hiproof t (refuses m e) = is-refused m (hiproof-refused s _ _ (t .front) _ _ e)
     behind-hiproof t (leaves y b q) =
         let p = b .part-is in
         rw (q, ne-eqb (y .part) 6 (λ z. omega (arith, p, z)), ne-eqb (y .part) 7 (λ z. omega (arith, p, z)))
-        (in-remaining refl refl refl (b .list) (b .term))
+        (in-remaining refl refl refl (b .front) (b .term))
 
-    behind-remaining : x .mode ≡ 1 → x .part ≡ 5 → x .at ≡ x .rest → stated s ≡ G.Read (x .goals) (x .from) → termAt s 8 hiproofKind (x .from) ≡ T.Read (x .rest) (x .fields) → ListStep s x (goalsShape (readGoals s (x .at) (length s))) r → Known w′ r
+    behind-remaining : x .mode ≡ 1 → x .part ≡ 5 → x .at ≡ x .rest → stated s ≡ G.Read (x .goals) (x .from) → termAt s 8 hiproofKind Front (x .from) ≡ T.Read (x .rest) (x .fields) → ListStep s x (goalsShape (readGoals s (x .at) (length s))) r → Known w′ r
     unfolding remainingTaken number
     behind-remaining m p a l t (stops z e) = is-refused z (list-refused s _ _ l _ _ t _ _ (rw a at e))
     behind-remaining m p a l t (reads n close e q) = rw (q, eq-eqb (x .part) 5 p) (go (eqb close (x .end)) refl)
@@ -71,7 +75,7 @@ module _ (s : List ℕ) (base : ℕ) where
   keeps w x w′ r h m step (in-goals f) =
       let l = first-step s w base 4 (omega arith) (λ z. absurd (omega arith)) (λ z. absurd (omega arith)) x h f w′ r step in
       behind-goals w x h w′ r f (l .0) (l .1)
-  keeps w x w′ r h m step (in-hiproof t) = behind-hiproof w x h w′ r t (term-turn s 8 hiproofKind base w x h (omega arith) high-of-proof t w′ r step)
+  keeps w x w′ r h m step (in-hiproof t) = behind-hiproof w x h w′ r t (term-turn s 8 hiproofKind Front base w x h (omega arith) high-of-proof t w′ r step)
   keeps w x w′ r h m step (in-remaining n p a l t) =
       behind-remaining w x h w′ r n p a l t (list-step s w base x h m (omega (arith, p)) (λ z. absurd (omega (arith, p, z))) (λ z. absurd (omega (arith, p, z))) w′ r step .1)
   keeps w x w′ r h m step (is-read z e) = absurd (omega (arith, m, z))

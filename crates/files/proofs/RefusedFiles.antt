@@ -15,10 +15,11 @@ use Rattle.format.proofs.GoalListBytes.{goals-stand}
 use Rattle.format.proofs.RefusedPlace.{RefusedWithin, steps, further, goals-place, term-place}
 use Rattle.files.specs.Proofs.{remainingOf, hiproofOf, proofOf, readProof}
 use Rattle.files.specs.Jobs.{lastTermOf, readLastTerm, jobOf, readJob}
+use Rattle.files.specs.TermFiles.{readTermFile}
 use Rattle.files.specs.Derivations.{derivationOf, readFlat}
 use Rattle.files.specs.RefusedFiles.{FileRefusal}
 use Rattle.files.proofs.EntriesLaw.{entries-place}
-use Rattle.files.proofs.Files.{refused-at}
+use Rattle.files.proofs.Files.{size-refused, refused-at}
 
 -- bytes left behind the last field, the first of them within the file
 left : {A : Type 0} (s : List ℕ) (b : Bool) (a : A) (next : ℕ) → next ≤ length s → RefusedWithin 0 (length s) (cond b (gives a) (refused lengthWrong next))
@@ -41,13 +42,20 @@ module _ (s : List ℕ) where
       steps 0 (length s) _ _ (further (t .next) (t .next) (length s) 0 (omega arith) (l .within) _ (goals-place s (t .next) (length s))) (λ r q.
       left s (eqb (r .next) (length s)) _ (r .next) (goals-stand s (t .next) (length s) (omega arith) r q .within))))
 
+  -- the term that ends a file
+  last-term-within : (at : ℕ) → at ≤ length s → RefusedWithin 0 (length s) (readLastTerm s tacticKind at)
+  unfolding readLastTerm lastTermOf
+  last-term-within at h =
+      steps 0 (length s) _ _ (further at (length s) (length s) 0 (omega arith) (omega arith) _ (term-place (length s + 1) s tacticKind (omega arith) at (length s) 0 h (omega arith))) (λ t e.
+      left s (eqb (t .next) (length s)) _ (t .next) (read-gives (length s + 1) s tacticKind (omega arith) at (length s) 0 (omega arith) t e .within))
+
   pub Job-refused : (c : Cause) (p : ℕ) → readJob s ≡ refused c p → FileRefusal s c p
-  unfolding readJob jobOf readLastTerm lastTermOf
-  Job-refused =
-      refused-at s (jobOf s) (λ g h.
-      steps 0 (length s) _ _ (steps 0 (length s) _ _ (further (g .next) (length s) (length s) 0 (omega arith) (omega arith) _ (term-place (length s + 1) s tacticKind (omega arith) (g .next) (length s) 0 (h .within) (omega arith))) (λ t e.
-      left s (eqb (t .next) (length s)) _ (t .next) (read-gives (length s + 1) s tacticKind (omega arith) (g .next) (length s) 0 (omega arith) t e .within))) (λ t e.
-      value s _))
+  unfolding readJob jobOf
+  Job-refused = refused-at s (jobOf s) (λ g h. steps 0 (length s) _ _ (last-term-within (g .next) (h .within)) (λ t e. value s _))
+
+  pub TermFile-refused : (c : Cause) (p : ℕ) → readTermFile s ≡ refused c p → FileRefusal s c p
+  unfolding readTermFile
+  TermFile-refused = size-refused s (readLastTerm s tacticKind 0) (last-term-within 0 (omega arith))
 
   pub Flat-refused : (c : Cause) (p : ℕ) → readFlat s ≡ refused c p → FileRefusal s c p
   unfolding readFlat derivationOf

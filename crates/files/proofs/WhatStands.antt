@@ -4,24 +4,26 @@ use mathlib.Core.Path.{_≡_, subst, _∙_}
 use mathlib.Core.List.{List}
 use Prim.Native.Nat.{ℕ, _+_, _*_}
 use native.Mathlib.Omega.{arith}
-use lib.Dec.{eqb}
+use lib.Dec.{eqb, ltb}
 use lib.ListN.{length}
-use borrow.Author.Tests.{eqb-true}
-use Rattle.format.specs.Refusals.{lengthWrong}
+use borrow.Author.Tests.{eqb-true, ltb-false}
+use Rattle.format.specs.Limits.{mostBytes}
+use Rattle.format.specs.Refusals.{inputTooLong, lengthWrong}
 use Rattle.format.specs.Results.{gives}
 use Rattle.format.specs.Tags.{hiproofKind, tacticKind}
-use Rattle.format.specs.Terms.{size}
+use Rattle.format.specs.Terms.{Term, size}
 use Rattle.format.specs.ReadTerms.{readTerm}
 use Rattle.format.specs.Goals.{readGoals}
 use Rattle.format.specs.Standing.{Stands}
-use Rattle.format.proofs.ResultLaws.{and-gives, kept, same-value}
+use Rattle.format.proofs.ResultLaws.{and-gives, passed, kept, same-value}
 use Rattle.format.proofs.ReadLaw.{read-gives}
 use Rattle.format.proofs.GoalListBytes.{goals-stand}
 use Rattle.files.specs.Proofs.{Proof, remainingOf, hiproofOf, proofOf, readProof, termPlace, remainingPlace}
 use Rattle.files.specs.Jobs.{Job, lastTermOf, readLastTerm, jobOf, readJob}
+use Rattle.files.specs.TermFiles.{readTermFile}
 use Rattle.files.specs.Derivations.{Derivation, readEntries, derivationOf, readFlat, entriesPlace}
 use Rattle.files.specs.Counts.{jobTermPlace}
-use Rattle.files.specs.Standing.{EntriesStand, ProofStands, JobStands, FlatStands}
+use Rattle.files.specs.Standing.{EntriesStand, ProofStands, JobStands, TermFileStands, FlatStands}
 use Rattle.files.proofs.EntriesLaw.{entries-found}
 use Rattle.files.proofs.Files.{list-stands, begun}
 
@@ -64,6 +66,20 @@ module _ (s : List ℕ) where
         term-stands = subst (λ (i : ℕ). Stands s i (t .0 .term)) at (l .stands);
         few-fields = omega (arith, l .count-is, l .room);
         end-is = omega (arith, at, l .next-is, eqb-true (t .0 .next) (length s) (k .0));
+      })
+
+  pub term-file-stands : (t : Term) → readTermFile s ≡ gives t → TermFileStands s t
+  unfolding readTermFile readLastTerm lastTermOf
+  term-file-stands t e =
+      let p = passed (ltb mostBytes (length s)) inputTooLong 0 _ e in
+      let u = and-gives (readTerm (length s + 1) s tacticKind 0 (length s) 0) (p .1) in
+      let l = read-gives (length s + 1) s tacticKind (omega arith) 0 (length s) 0 (omega arith) (u .0) (u .1) in
+      let k = kept (eqb (u .0 .next) (length s)) lengthWrong (u .0 .next) _ (u .2) in
+      subst (TermFileStands s) (same-value (k .1)) (record {
+        short = ltb-false mostBytes (length s) (p .0);
+        term-stands = l .stands;
+        few-fields = omega (arith, l .count-is, l .room);
+        end-is = omega (arith, l .next-is, eqb-true (u .0 .next) (length s) (k .0));
       })
 
   pub flat-stands : (d : Derivation) → readFlat s ≡ gives d → FlatStands s d

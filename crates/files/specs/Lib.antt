@@ -1,5 +1,6 @@
 pub mod Proofs
 pub mod Jobs
+pub mod TermFiles
 pub mod Derivations
 pub mod Counts
 pub mod Shapes

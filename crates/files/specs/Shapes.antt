@@ -6,13 +6,15 @@ use lib.ListN.{length}
 use Rattle.format.specs.declared.state.State.{State}
 use Rattle.format.specs.Results.{Result, told}
 use Rattle.format.specs.States.{modeRefused}
-use Rattle.format.specs.Terms.{fields}
+use Rattle.format.specs.Terms.{Term, fields}
 use Rattle.files.specs.declared.proofs.ProofParts.{ProofParts}
 use Rattle.files.specs.declared.proofs.ProofRead.{ProofRead}
 use Rattle.files.specs.declared.proofs.ProofRead.the-variants as P
 use Rattle.files.specs.declared.jobs.JobParts.{JobParts}
 use Rattle.files.specs.declared.jobs.JobRead.{JobRead}
 use Rattle.files.specs.declared.jobs.JobRead.the-variants as J
+use Rattle.files.specs.declared.terms.TermFileRead.{TermFileRead}
+use Rattle.files.specs.declared.terms.TermFileRead.the-variants as R
 use Rattle.files.specs.declared.flats.FlatParts.{FlatParts}
 use Rattle.files.specs.declared.flats.FlatRead.{FlatRead}
 use Rattle.files.specs.declared.flats.FlatRead.the-variants as F
@@ -48,6 +50,14 @@ jobShape x = told J.Refused (λ j. J.Read (jobPartsOf j)) x
 -- the same of a job
 unfoldable pub toldJob : State → JobRead
 toldJob x = cond (eqb (x .mode) modeRefused) (J.Refused (x .number) (x .place)) (J.Read (jobParts (x .goals) (x .from) (x .fields)))
+
+-- of a term file, its term fields
+unfoldable pub termFileShape : Result Term → TermFileRead
+termFileShape x = told R.Refused (λ t. R.Read (fields t)) x
+
+-- the same of a term file
+unfoldable pub toldTermFile : State → TermFileRead
+toldTermFile x = cond (eqb (x .mode) modeRefused) (R.Refused (x .number) (x .place)) (R.Read (x .fields))
 
 -- the parts of a flat file: the number of roots, the place of the first entry, and the numbers of use and open entries
 abbrev pub flatParts : (roots first uses opens : ℕ) → FlatParts

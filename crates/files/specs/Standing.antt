@@ -1,4 +1,4 @@
--- What it is for a proof, a job and a derivation to stand in a file, within the limits: how code that walks over bytes speaks of them.
+-- What it is for a proof, a job, a term by itself and a derivation to stand in a file, within the limits: how code that walks over bytes speaks of them.
 use Prim.Native.Nat.{ℕ, _+_, _*_, _≤_}
 use mathlib.Core.Path.{_≡_}
 use mathlib.Core.List.{List, [], _∷_}
@@ -6,7 +6,7 @@ use lib.ListN.{length}
 use Rattle.words.specs.Word.{word}
 use Rattle.format.specs.declared.values.Goal.{Goal}
 use Rattle.format.specs.Limits.{mostBytes, mostGoals, mostTermFields, mostUses, mostOpens}
-use Rattle.format.specs.Terms.{size, fields, Hiproof}
+use Rattle.format.specs.Terms.{Term, size, fields, Hiproof}
 use Rattle.format.specs.Goals.{goalsAt}
 use Rattle.format.specs.Standing.{Head, Stands}
 use Rattle.files.specs.Proofs.{Proof, termPlace, remainingPlace}
@@ -41,6 +41,12 @@ pub record JobStands (s : List ℕ) (j : Job) : Type 0 where
   pub term-stands : Stands s (jobTermPlace j) (j .term)
   pub few-fields : fields (j .term) ≤ mostTermFields
   pub end-is : jobTermPlace j + size (j .term) ≡ length s
+
+pub record TermFileStands (s : List ℕ) (t : Term) : Type 0 where
+  pub short : length s ≤ mostBytes
+  pub term-stands : Stands s 0 t
+  pub few-fields : fields t ≤ mostTermFields
+  pub end-is : size t ≡ length s
 
 pub record FlatStands (s : List ℕ) (d : Derivation) : Type 0 where
   pub short : length s ≤ mostBytes

@@ -1,9 +1,9 @@
--- Document 01, "Fields": the limits of a proof, of a job and of a derivation; "Values in contents are 16 bits wide".
+-- Document 01, "Fields": the limits of a proof, of a job, of a term by itself and of a derivation; "Values in contents are 16 bits wide".
 -- The numbers stand here once more: what is proved of reading then also holds the constants of the readers to the document.
 use Prim.Native.Nat.{_≤_, _<_}
 use mathlib.Core.List.{List, [], _∷_}
 use lib.ListN.{length}
-use Rattle.format.specs.Terms.{fields, Hiproof}
+use Rattle.format.specs.Terms.{Term, fields, Hiproof}
 use Rattle.format.specs.Encoding.{GoalValues, TermValues}
 use Rattle.files.specs.Proofs.{Proof}
 use Rattle.files.specs.Jobs.{Job}
@@ -24,6 +24,10 @@ pub record JobWithin (j : Job) : Type 0 where
   pub goal-values : GoalValues (j .goals)
   pub few-fields : fields (j .term) ≤ 4096
   pub term-values : TermValues (j .term)
+
+pub record TermFileWithin (t : Term) : Type 0 where
+  pub few-fields : fields t ≤ 4096
+  pub term-values : TermValues t
 
 unfoldable pub EntryValues : List Entry → Type 0
 EntryValues [] = Unit {0}

@@ -72,7 +72,7 @@ module _ (s w : List ℕ) (base : ℕ) (room : base + readingRoom ≤ length w) 
     pub fresh-list : (part : ℕ) → part < 6 → (part ≡ 1 → ⊥) → (part ≡ 2 → ⊥) → at ≤ length s → Fresh at (asking x 1 part at (length s))
     fresh-list part p i j l = fresh 1 part (length s) (omega arith) l (omega arith) (λ z. refl) (λ z. absurd (omega (arith, z, p))) (λ z. absurd (i z)) (λ z. absurd (j z))
 
-    fresh-term : (part end : ℕ) → 6 ≤ part → at ≤ end → end ≤ length s → (part ≡ 6 → (endOf s (x .field) ≤ length s) × (x .second < at)) → Fresh at (asking x 1 part at end)
+    pub fresh-term : (part end : ℕ) → 6 ≤ part → at ≤ end → end ≤ length s → (part ≡ 6 → (endOf s (x .field) ≤ length s) × (x .second < at)) → Fresh at (asking x 1 part at end)
     fresh-term part end p o e f = fresh 1 part end (omega arith) o e (λ z. absurd (omega (arith, z, p))) f (λ z. absurd (omega (arith, z, p))) (λ z. absurd (omega (arith, z, p)))
 
 -- a refusal

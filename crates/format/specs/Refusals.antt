@@ -24,6 +24,8 @@ pub data Cause : Type 0 where
   goalsPending : Cause
   entriesTooMany : Cause
   workTooShort : Cause
+  textWrong : Cause
+  valueTooLarge : Cause
 
 -- Three causes have the number 20, and two the number 27: a term that cannot take its goals, a flat file that is wrong.
 unfoldable pub number : Cause → ℕ
@@ -49,3 +51,5 @@ number entryWrong = 27
 number goalsPending = 27
 number entriesTooMany = 28
 number workTooShort = 29
+number textWrong = 36
+number valueTooLarge = 37

@@ -32,7 +32,7 @@ use crate::tags::TACTIC;
 use crate::tags::USE_TAG;
 use words::load16;
 
-const MOST_BYTES: usize = 65535;
+pub const MOST_BYTES: usize = 65535;
 
 const MOST_RULES: usize = 4096;
 

@@ -8,9 +8,12 @@ use mathlib.Core.List.{List, _++_}
 use lib.ListN.{length, drop, replicate}
 use borrow.Author.Tests.{lt-ltb, le-ltb}
 use Rattle.format.specs.Refusals.{Cause, number, outputTooShort}
+use Rattle.format.specs.Results.{Result, gives, refused}
 use Rattle.format.proofs.ResultLaws.{number-positive}
 use Rattle.answers.specs.Answers as answer
-use Rattle.entries.specs.Outcomes.{Outcome, success, refusal}
+use Rattle.entries.specs.Outcomes.{Outcome, success, refusal, inFile, done, otherFile}
+use Rattle.entries.specs.Left.{leftIn}
+use Rattle.entries.proofs.LeftLaws.{no-room, enough-room, too-short, long-enough}
 use Rattle.entries.specs.LentSpace.{Counts, countedAnswer, checkIn, Written, writeOut, writeIn}
 use Rattle.promises.specs.Ended as ended
 use Rattle.promises.specs.Ended.{Ended, ended-unstarted, EndsChecked, EndedWriting, ended-wrote, ended-output, EndsWritten}
@@ -111,3 +114,20 @@ module _ (table other work out : List ℕ) (Own : (number file place steps : ℕ
         by-space : Dec (length work < size) → E (writeIn size work out o)
         by-space (yes h) = subst E (sym (short h)) (record { answers = unstarted; refused = λ z. (refl, refl); succeeded = λ z. absurd (omega (arith, z)) })
         by-space (no h) = subst E (sym (long (omega arith))) (by-outcome o e)
+
+-- what is written from another file alone has no answer about a table
+pub other-file : {A : Type 0} (size : ℕ) (work out : List ℕ) (r : Result A) (bytes : A → List ℕ) → writeIn size work out (inFile otherFile r (λ a. done (bytes a))) .answer .file ≡ 1 → ⊥
+unfolding writeOut
+other-file {A} size work out r bytes e = by-work (decLt (length work) size)
+  where
+    by-result : (q : Result A) → leftIn out (inFile otherFile q (λ a. done (bytes a))) .answer .file ≡ 1 → ⊥
+    by-result (refused c p) f = omega (arith, f)
+    by-result (gives a) f = by-room (decLt (length out) (length (bytes a)))
+      where
+        by-room : Dec (length out < length (bytes a)) → ⊥
+        by-room (yes h) = let z = ap (λ (c : Written). c .answer .file) (no-room (bytes a) out h) in omega (arith, z, f)
+        by-room (no h) = let z = ap (λ (c : Written). c .answer .file) (enough-room (bytes a) out (omega arith)) in omega (arith, z, f)
+
+    by-work : Dec (length work < size) → ⊥
+    by-work (yes h) = let z = ap (λ (c : Written). c .answer .file) (too-short size work out (inFile otherFile r (λ a. done (bytes a))) h) in omega (arith, z, e)
+    by-work (no h) = by-result r (sym (ap (λ (c : Written). c .answer .file) (long-enough size work out (inFile otherFile r (λ a. done (bytes a))) (omega arith))) ∙ e)

@@ -9,3 +9,5 @@ pub mod FlattenPromises
 pub mod RunWithin
 pub mod RunPromises
 pub mod RunMeaning
+pub mod ReadTextPromises
+pub mod WriteTextPromises

@@ -7,3 +7,5 @@ pub mod WriteProofPromises
 pub mod FlattenPromises
 pub mod RunPromises
 pub mod RunMeaning
+pub mod ReadTextPromises
+pub mod WriteTextPromises

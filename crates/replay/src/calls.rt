@@ -5,6 +5,7 @@ ghost use lib.ListN.{length, replicate};
 ghost use Rattle.entries.specs.Check as entry;
 ghost use Rattle.entries.specs.CheckFlat as flat_entry;
 ghost use Rattle.entries.specs.Run as run_entry;
+ghost use Rattle.entries.specs.Texts as text_entry;
 use crate::lent::BLANK;
 use crate::lent::FILLED;
 use crate::lent::fill;
@@ -14,7 +15,9 @@ use crate::records::CHECK;
 use crate::records::CHECK_FLAT;
 use crate::records::Case;
 use crate::records::FLATTEN;
+use crate::records::READ_TEXT;
 use crate::records::RUN;
+use crate::records::WRITE_TEXT;
 use crate::tally::Verdict;
 use crate::tally::compared;
 use answers::Answer;
@@ -22,6 +25,8 @@ use checker::check::check;
 use derivation::check::check_flat;
 use flattener::flatten::flatten;
 use runner::entry::run;
+use text_reader::entry::read_text;
+use text_writer::entry::write_text;
 use writer::entry::write_proof;
 
 // Longer than any output space that a vector file of the fixed set lends.
@@ -146,7 +151,31 @@ fn run_agrees(
     wrote_as_told(answer, work, out, told, digest)
 }
 
-// The call of a case in spaces of the lengths that it lends. A case of another entry than the first four is one of write_proof: no other is replayed.
+fn read_text_agrees(text: &[u8], work: &mut [u8], out: &mut [u8], told: Answer, digest: u32) -> bool
+    ensures { λ r. ⌜ (r ≡ true → text_entry.readText (now (text .entry)) (replicate (length (now (work .entry))) 165) (replicate (length (now (out .entry))) 90) .answer ≡ told) ⌝ }
+{
+    fill(work, FILLED);
+    fill(out, BLANK);
+    let answer = read_text(text, work, out);
+    wrote_as_told(answer, work, out, told, digest)
+}
+
+fn write_text_agrees(
+    term: &[u8],
+    work: &mut [u8],
+    out: &mut [u8],
+    told: Answer,
+    digest: u32,
+) -> bool
+    ensures { λ r. ⌜ (r ≡ true → text_entry.writeText (now (term .entry)) (replicate (length (now (work .entry))) 165) (replicate (length (now (out .entry))) 90) .answer ≡ told) ⌝ }
+{
+    fill(work, FILLED);
+    fill(out, BLANK);
+    let answer = write_text(term, work, out);
+    wrote_as_told(answer, work, out, told, digest)
+}
+
+// The call of a case in spaces of the lengths that it lends. A case of none of the entries that are named is one of write_proof: no other is replayed.
 fn call_agrees(case: Case, table: &[u8], other: &[u8], work: &mut [u8], out: &mut [u8]) -> bool {
     let entry = case.entry;
     let told = case.told;
@@ -162,6 +191,12 @@ fn call_agrees(case: Case, table: &[u8], other: &[u8], work: &mut [u8], out: &mu
     }
     if entry == RUN {
         return run_agrees(table, other, case.budget, work, out, told, digest);
+    }
+    if entry == READ_TEXT {
+        return read_text_agrees(other, work, out, told, digest);
+    }
+    if entry == WRITE_TEXT {
+        return write_text_agrees(other, work, out, told, digest);
     }
     write_agrees(table, other, work, out, told, digest)
 }

@@ -103,6 +103,8 @@ pub fn run() {
     differences += replay_file(b"check-flat.vec");
     differences += replay_file(b"write-proof.vec");
     differences += replay_file(b"run.vec");
+    differences += replay_file(b"read-text.vec");
+    differences += replay_file(b"write-text.vec");
     print_count(b"all differences ", differences);
     io::write_all(STDOUT_FILENO, b"\n");
 }

@@ -1,7 +1,9 @@
 // How the files of a case read, compared with what its answer tells of them.
 use crate::records::CHECK_FLAT;
+use crate::records::READ_TEXT;
 use crate::records::RUN;
 use crate::records::WRITE_PROOF;
+use crate::records::WRITE_TEXT;
 use crate::tally::Verdict;
 use crate::tally::compared;
 use answers::Answer;
@@ -11,6 +13,8 @@ use files::jobs::JobRead;
 use files::jobs::read_job;
 use files::proofs::ProofRead;
 use files::proofs::read_proof;
+use files::terms::TermFileRead;
+use files::terms::read_term_file;
 use index::layout::READING_SCRATCH;
 use index::table::read_table;
 use tables::fields::TableRead;
@@ -68,6 +72,17 @@ fn flat_finding(s: &[u8], space: &mut [u8; SPACE]) -> Finding {
     }
 }
 
+fn term_finding(s: &[u8], space: &mut [u8; SPACE]) -> Finding {
+    let read = read_term_file(s, space, 0);
+    match read {
+        TermFileRead::Refused(number, place) => Finding { number, place },
+        TermFileRead::Read(_) => Finding {
+            number: 0,
+            place: 0,
+        },
+    }
+}
+
 // The other file, read as the entry reads it.
 fn other_finding(entry: u8, s: &[u8], space: &mut [u8; SPACE]) -> Finding {
     if entry == RUN {
@@ -78,6 +93,9 @@ fn other_finding(entry: u8, s: &[u8], space: &mut [u8; SPACE]) -> Finding {
     }
     if entry == WRITE_PROOF {
         return flat_finding(s, space);
+    }
+    if entry == WRITE_TEXT {
+        return term_finding(s, space);
     }
     proof_finding(s, space)
 }
@@ -104,12 +122,15 @@ fn reads_as_told(found: Finding, refused: bool, told: Answer) -> bool {
     found.number == 0
 }
 
-// The reading of a case. After 29 and 25 the answer tells nothing of the files; a refused table tells nothing of the other file.
+// The reading of a case. After 29 and 25 the answer tells nothing of the files; a refused table tells nothing of the other file; a text is no file of fields.
 pub fn replay_reading(entry: u8, table: &[u8], other: &[u8], told: Answer) -> Verdict {
     if told.number == 29 {
         return Verdict::Untold;
     }
     if told.number == 25 {
+        return Verdict::Untold;
+    }
+    if entry == READ_TEXT {
         return Verdict::Untold;
     }
     let table_refused = refuses(told, 1, 9);

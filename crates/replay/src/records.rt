@@ -37,6 +37,10 @@ pub const CHECK_FLAT: u8 = 4;
 
 pub const WRITE_PROOF: u8 = 5;
 
+pub const READ_TEXT: u8 = 6;
+
+pub const WRITE_TEXT: u8 = 7;
+
 // A case: the entry, what it lends, and the answer and digest that are told.
 pub struct Case {
     pub entry: u8,

@@ -11,7 +11,7 @@ use crate::records::END;
 use crate::records::HEADER;
 use crate::records::OTHER;
 use crate::records::TABLE;
-use crate::records::WRITE_PROOF;
+use crate::records::WRITE_TEXT;
 use crate::records::begins_right;
 use crate::records::expand;
 use crate::records::load_case;
@@ -102,7 +102,7 @@ fn step_case(
     if case.entry == 0 {
         return stopped(s, p, false);
     }
-    if WRITE_PROOF < case.entry {
+    if WRITE_TEXT < case.entry {
         return stopped(s, p, false);
     }
     let t = p.table;

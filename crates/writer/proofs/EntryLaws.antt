@@ -31,21 +31,10 @@ use Rattle.derivation.specs.CheckedEntries.{DerivationAt, checkedEntries}
 use Rattle.derivation.proofs.CheckLaws.{parts-hold}
 use Rattle.writer.specs.Sizes.{proofSize}
 use Rattle.writer.specs.Right.{Right, proofOf}
-use Rattle.writer.specs.Left.{leftIn, writtenEntries}
+use Rattle.entries.specs.Left.{leftIn}
+use Rattle.entries.proofs.LeftLaws.{kept}
+use Rattle.writer.specs.Left.{writtenEntries}
 use Rattle.writer.proofs.SizeLaws.{proof-size-is}
-
--- an answer with the output space after it
-abbrev pub kept : Answer → List ℕ → Written
-kept a out = record { answer = a; work = []; out = out }
-
--- 26
-pub no-room : (p out : List ℕ) → length out < length p → kept (refusal 26 noFile 0 0) out ≡ leftIn out (done p)
-unfolding writeOut number
-no-room p out h = rw (lt-ltb (length out) (length p) h)
-
-pub enough-room : (p out : List ℕ) → length p ≤ length out → kept (wrote (length p) 0) (p ++ drop (length p) out) ≡ leftIn out (done p)
-unfolding writeOut
-enough-room p out h = rw (le-ltb (length out) (length p) h)
 
 module _ (T : Table) (d : Derivation) (end : ℕ) (out : List ℕ) where
   abbrev walked : Result (List Goal)
@@ -121,13 +110,7 @@ module _ (table : List ℕ) (rules : ℕ) (flat : List ℕ) (parts : FlatParts) 
       pub ends-right : leftIn out (done (proofOf right-file)) ≡ writtenEntries T d (length flat) out
       ends-right = then-written T d (length flat) out (none-left T d (length flat) out r checked z) few-entries
 
--- of two ends, with some work space or with none
-either-way : (b : Bool) (x y : Answer) (u v w : List ℕ)
-    → _≡_ {A = Written} (cond b (record { answer = x; work = w; out = u }) (record { answer = y; work = w; out = v })) (record { answer = cond b (kept x u) (kept y v) .answer; work = w; out = cond b (kept x u) (kept y v) .out })
-either-way true x y u v w = refl
-either-way false x y u v w = refl
-
--- the two files, and 29
+-- the two files
 module _ (table flat out : List ℕ) where
   abbrev within : Written
   within = leftIn out (writeOutcome table flat)
@@ -144,17 +127,3 @@ module _ (table flat out : List ℕ) where
     pub both-read : (d : Derivation) → readFlat flat ≡ gives d → writtenEntries T d (length flat) out ≡ within
     unfolding writeOutcome writtenEntries
     both-read d e = rw (reads, e)
-
-  pub too-short : (work : List ℕ) → length work < writeProofWork → writeProof table flat work out ≡ record { answer = refusal 29 noFile 0 0; work = work; out = out }
-  unfolding writeProof writeIn number
-  too-short work l = rw (lt-ltb (length work) writeProofWork l)
-
-  -- the work space has no part in answer and output space
-  any-work : (work : List ℕ) (o : Outcome (List ℕ)) → writeOut work out o ≡ record { answer = leftIn out o .answer; work = cleared work; out = leftIn out o .out }
-  unfolding writeOut
-  any-work work (outcomes.refusal c f p k) = refl
-  any-work work (success bytes k) = either-way (ltb (length out) (length bytes)) _ _ out _ (cleared work)
-
-  pub long-enough : (work : List ℕ) → writeProofWork ≤ length work → writeProof table flat work out ≡ record { answer = within .answer; work = cleared work; out = within .out }
-  unfolding writeProof writeIn
-  long-enough work l = rw (le-ltb (length work) writeProofWork l) (any-work work (writeOutcome table flat))

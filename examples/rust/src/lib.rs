@@ -3,9 +3,35 @@
 mod raw;
 mod refusal;
 
+use std::fmt;
+
 /// Machine stack that each call needs, in bytes, besides what this wrapper takes: for threads with small stacks.
-pub use raw::{CHECK_FLAT_STACK, CHECK_STACK, FLATTEN_STACK, RUN_STACK, WRITE_PROOF_STACK};
+pub use raw::{
+    CHECK_FLAT_STACK, CHECK_STACK, FLATTEN_STACK, READ_TEXT_STACK, RUN_STACK, WRITE_PROOF_STACK, WRITE_TEXT_STACK,
+};
 pub use refusal::{Cause, File, Refusal};
+
+/// The version of the header that this wrapper follows.
+pub const VERSION: Version = Version { major: raw::VERSION_MAJOR, minor: raw::VERSION_MINOR };
+
+/// The minor number goes up with each new call, the major number when programs have to be compiled anew.
+#[derive(Clone, Copy, Debug, PartialEq, Eq)]
+pub struct Version {
+    pub major: u32,
+    pub minor: u32,
+}
+
+impl fmt::Display for Version {
+    fn fmt(&self, f: &mut fmt::Formatter<'_>) -> fmt::Result {
+        write!(f, "{}.{}", self.major, self.minor)
+    }
+}
+
+/// The version of the library that is linked.
+pub fn version() -> Version {
+    let number = raw::version();
+    Version { major: number / 65536, minor: number % 65536 }
+}
 
 /// What is counted in an accepted proof.
 #[derive(Clone, Copy, Debug, PartialEq, Eq)]
@@ -36,9 +62,16 @@ pub struct Engine {
 }
 
 impl Engine {
+    /// # Panics
+    /// If the library that is linked has another major version than this wrapper, or a smaller minor one.
     pub fn new() -> Engine {
-        let longest = raw::LONGEST_PROOF.max(raw::LONGEST_FLAT);
-        Engine { work: vec![0; raw::RUN_WORK], out: vec![0; longest] }
+        let Version { major, minor } = version();
+        assert!(
+            major == VERSION.major && minor >= VERSION.minor,
+            "the library has version {major}.{minor}, not {VERSION}"
+        );
+        let longest = [raw::LONGEST_PROOF, raw::LONGEST_FLAT, raw::LONGEST_TERM, raw::LONGEST_TEXT];
+        Engine { work: vec![0; raw::RUN_WORK], out: vec![0; longest.into_iter().fold(0, usize::max)] }
     }
 
     // Each call is lent no more work space than it needs, because it clears all that it was lent.
@@ -76,6 +109,20 @@ impl Engine {
         let work = &mut self.work[..raw::WRITE_PROOF_WORK];
         let answer = succeeded(raw::write_proof(table, flat, work, &mut self.out))?;
         Ok(self.result(answer))
+    }
+
+    /// The term file of a text in the notation.
+    pub fn read_text(&mut self, text: impl AsRef<[u8]>) -> Result<Vec<u8>, Refusal> {
+        let work = &mut self.work[..raw::READ_TEXT_WORK];
+        let answer = succeeded(raw::read_text(text.as_ref(), work, &mut self.out))?;
+        Ok(self.result(answer))
+    }
+
+    /// The text of a term file.
+    pub fn write_text(&mut self, term: &[u8]) -> Result<String, Refusal> {
+        let work = &mut self.work[..raw::WRITE_TEXT_WORK];
+        let answer = succeeded(raw::write_text(term, work, &mut self.out))?;
+        Ok(String::from_utf8(self.result(answer)).expect("the notation has bytes of ASCII only"))
     }
 
     fn result(&self, answer: raw::Answer) -> Vec<u8> {

@@ -9,6 +9,7 @@ fn main() -> Result<(), Box<dyn error::Error>> {
     let (table, proof, job) = (load("table.kit")?, load("proof.hip")?, load("job.tac")?);
     let mut engine = Engine::new();
 
+    println!("version: {}", hitac::version());
     let accepted = engine.check(&table, &proof)?;
     println!("check: accepted fields {} uses {} open {}", accepted.fields, accepted.uses, accepted.open);
     for budget in [4096, 18] {

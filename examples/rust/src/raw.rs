@@ -1,4 +1,8 @@
-//! What include/hitac.h declares, and the five calls on slices. Laid out by hand: a pointer stands beside its length.
+//! What include/hitac.h declares, and the calls on slices. Laid out by hand: a pointer stands beside its length.
+
+/// The version of the header that this file follows.
+pub const VERSION_MAJOR: u32 = 1;
+pub const VERSION_MINOR: u32 = 2;
 
 /// The answer of every call.
 #[repr(C)]
@@ -19,6 +23,8 @@ pub const RUN_WORK: usize = 1290752;
 pub const FLATTEN_WORK: usize = 200704;
 pub const CHECK_FLAT_WORK: usize = 65536;
 pub const WRITE_PROOF_WORK: usize = 65536;
+pub const READ_TEXT_WORK: usize = 196608;
+pub const WRITE_TEXT_WORK: usize = 36864;
 
 // Machine stack that each call needs, in bytes; include/hitac.h says what is counted.
 pub const CHECK_STACK: usize = 1536;
@@ -26,11 +32,17 @@ pub const RUN_STACK: usize = 200704;
 pub const FLATTEN_STACK: usize = 1536;
 pub const CHECK_FLAT_STACK: usize = 1536;
 pub const WRITE_PROOF_STACK: usize = 172032;
+pub const READ_TEXT_STACK: usize = 512;
+pub const WRITE_TEXT_STACK: usize = 1024;
 
 pub const LONGEST_PROOF: usize = 21510;
 pub const LONGEST_FLAT: usize = 16131;
+pub const LONGEST_TERM: usize = 20480;
+pub const LONGEST_TEXT: usize = 28671;
 
 extern "C" {
+    fn hitac_version() -> u32;
+
     fn hitac_check(
         table: *const u8, table_length: usize, proof: *const u8, proof_length: usize,
         work: *mut u8, work_length: usize,
@@ -55,6 +67,21 @@ extern "C" {
         table: *const u8, table_length: usize, flat: *const u8, flat_length: usize,
         work: *mut u8, work_length: usize, out: *mut u8, out_length: usize,
     ) -> Answer;
+
+    fn hitac_read_text(
+        text: *const u8, text_length: usize,
+        work: *mut u8, work_length: usize, out: *mut u8, out_length: usize,
+    ) -> Answer;
+
+    fn hitac_write_text(
+        term: *const u8, term_length: usize,
+        work: *mut u8, work_length: usize, out: *mut u8, out_length: usize,
+    ) -> Answer;
+}
+
+pub fn version() -> u32 {
+    // SAFETY: it takes nothing.
+    unsafe { hitac_version() }
 }
 
 // In each call below the pointers and lengths are those of slices, and a slice that is lent to be written overlaps no other.
@@ -104,6 +131,26 @@ pub fn write_proof(table: &[u8], flat: &[u8], work: &mut [u8], out: &mut [u8]) -
     unsafe {
         hitac_write_proof(
             table.as_ptr(), table.len(), flat.as_ptr(), flat.len(),
+            work.as_mut_ptr(), work.len(), out.as_mut_ptr(), out.len(),
+        )
+    }
+}
+
+pub fn read_text(text: &[u8], work: &mut [u8], out: &mut [u8]) -> Answer {
+    // SAFETY: as said above.
+    unsafe {
+        hitac_read_text(
+            text.as_ptr(), text.len(),
+            work.as_mut_ptr(), work.len(), out.as_mut_ptr(), out.len(),
+        )
+    }
+}
+
+pub fn write_text(term: &[u8], work: &mut [u8], out: &mut [u8]) -> Answer {
+    // SAFETY: as said above.
+    unsafe {
+        hitac_write_text(
+            term.as_ptr(), term.len(),
             work.as_mut_ptr(), work.len(), out.as_mut_ptr(), out.len(),
         )
     }

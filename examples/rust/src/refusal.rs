@@ -24,9 +24,11 @@ pub enum Cause {
     FlatWrong = 27,
     EntriesTooMany = 28,
     WorkTooShort = 29,
+    TextWrong = 36,
+    ValueTooLarge = 37,
 }
 
-const CAUSES: [Cause; 19] = [
+const CAUSES: [Cause; 21] = [
     Cause::InputTooLong,
     Cause::FieldTorn,
     Cause::TagNotAllowed,
@@ -46,6 +48,8 @@ const CAUSES: [Cause; 19] = [
     Cause::FlatWrong,
     Cause::EntriesTooMany,
     Cause::WorkTooShort,
+    Cause::TextWrong,
+    Cause::ValueTooLarge,
 ];
 
 /// The file that a refusal points into.
@@ -53,7 +57,7 @@ const CAUSES: [Cause; 19] = [
 pub enum File {
     Neither = 0,
     Table = 1,
-    /// The proof, job or flat file.
+    /// The proof, job or flat file, the text or the term file.
     Other = 2,
 }
 

@@ -1,4 +1,4 @@
-//! What the five entries do once the lent spaces are set aside.
+//! What the seven entries do once the lent spaces are set aside.
 
 pub mod arity;
 pub mod check_flat;
@@ -12,7 +12,9 @@ use crate::format::flat::Flat;
 use crate::format::job::Job;
 use crate::format::proof::Proof;
 use crate::format::table::Table;
+use crate::format::term_file::TermFile;
 use crate::limits::{MOST_BUDGET, MOST_ENTRIES_WRITTEN_BACK};
+use crate::notation;
 
 /// The counts of an accepted proof.
 pub struct AcceptedProof {
@@ -76,4 +78,15 @@ pub fn run(table: &[u8], job: &[u8], budget: u32) -> Result<SuccessfulRun, Refus
     let mut terms = std::mem::take(&mut table.terms);
     let job = Job::read(job, &mut terms)?;
     run::run_job(&table, &terms, &job, budget)
+}
+
+/// The term file of a text: "29, 1, then the first met of 36, 37, 5, then 26".
+pub fn read_text(text: &[u8]) -> Result<Vec<u8>, Refusal> {
+    notation::read::term_file_of(text)
+}
+
+/// The text of a term file: "29, file (1 to 5), 26".
+pub fn write_text(term: &[u8]) -> Result<Vec<u8>, Refusal> {
+    let file = TermFile::read(term)?;
+    Ok(notation::write::text_of(&file.terms, file.term))
 }

@@ -1,4 +1,4 @@
-//! The bytes of the four kinds of file: reading them and writing them.
+//! The bytes of the five kinds of file: reading them and writing them.
 
 pub mod fields;
 pub mod flat;
@@ -6,5 +6,6 @@ pub mod job;
 pub mod proof;
 pub mod table;
 pub mod tags;
+pub mod term_file;
 pub mod terms;
 pub mod write;

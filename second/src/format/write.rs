@@ -2,7 +2,7 @@
 //! bytes, whose length then matches them."
 
 use super::tags::Tag;
-use crate::names::{Goal, Label, RuleName};
+use crate::names::{Goal, Label, RuleName, TacticNo};
 
 /// A field of a hiproof to be written. A hiproof is a list of these in byte
 /// order: a field, then its inner terms, left first.
@@ -62,6 +62,13 @@ pub fn write_use(name: RuleName, goal: Goal, bytes: &mut Vec<u8>) {
 pub fn write_open(goal: Goal, bytes: &mut Vec<u8>) {
     write_header(Tag::Open, 2, bytes);
     bytes.extend(goal.0.to_be_bytes());
+}
+
+/// A definition of a term that is given as its bytes.
+pub fn write_definition(tactic: TacticNo, term: &[u8], bytes: &mut Vec<u8>) {
+    write_header(Tag::Definition, 2 + term.len(), bytes);
+    bytes.extend(tactic.0.to_be_bytes());
+    bytes.extend(term);
 }
 
 fn write_header(tag: Tag, length: usize, bytes: &mut Vec<u8>) {

@@ -16,10 +16,23 @@ pub enum Entry {
     Flatten,
     CheckFlat,
     WriteProof,
+    ReadText,
+    WriteText,
 }
 
 impl Entry {
-    pub const ALL: [Entry; 5] = [Entry::Check, Entry::Run, Entry::Flatten, Entry::CheckFlat, Entry::WriteProof];
+    pub const ALL: [Entry; 7] = [
+        Entry::Check,
+        Entry::Run,
+        Entry::Flatten,
+        Entry::CheckFlat,
+        Entry::WriteProof,
+        Entry::ReadText,
+        Entry::WriteText,
+    ];
+
+    /// The entries that take a table besides the other file.
+    pub const WITH_TABLE: [Entry; 5] = [Entry::Check, Entry::Run, Entry::Flatten, Entry::CheckFlat, Entry::WriteProof];
 
     /// The entry's number in vector files.
     pub fn code(self) -> u8 {
@@ -29,6 +42,8 @@ impl Entry {
             Entry::Flatten => 3,
             Entry::CheckFlat => 4,
             Entry::WriteProof => 5,
+            Entry::ReadText => 6,
+            Entry::WriteText => 7,
         }
     }
 
@@ -43,7 +58,13 @@ impl Entry {
             Entry::Flatten => limits::FLATTEN_WORK,
             Entry::CheckFlat => limits::CHECK_FLAT_WORK,
             Entry::WriteProof => limits::WRITE_PROOF_WORK,
+            Entry::ReadText => limits::READ_TEXT_WORK,
+            Entry::WriteText => limits::WRITE_TEXT_WORK,
         }
+    }
+
+    pub fn takes_table(self) -> bool {
+        Entry::WITH_TABLE.contains(&self)
     }
 
     pub fn has_output(self) -> bool {
@@ -51,8 +72,8 @@ impl Entry {
     }
 }
 
-/// One call. The budget counts only for a run; the output length is 0 where the
-/// entry has no output space.
+/// One call. The budget counts only for a run, the table only for the entries
+/// that take one; the output length is 0 where the entry has no output space.
 #[derive(Clone, PartialEq, Eq, Debug)]
 pub struct Case {
     pub entry: Entry,
@@ -74,11 +95,12 @@ pub struct Outcome {
 
 impl Case {
     /// A call with the largest budget, the named work space and an output space
-    /// a few bytes longer than the result.
+    /// a few bytes longer than the result. For an entry that takes no table it is
+    /// a file of no bytes, whatever is given.
     pub fn new(entry: Entry, table: &[u8], other: &[u8]) -> Case {
         let mut case = Case {
             entry,
-            table: table.to_vec(),
+            table: if entry.takes_table() { table.to_vec() } else { Vec::new() },
             other: other.to_vec(),
             budget: if entry == Entry::Run { limits::MOST_BUDGET } else { 0 },
             work_length: entry.work_size(),
@@ -119,6 +141,8 @@ impl Case {
             Entry::Run => engine::run(&self.table, &self.other, self.budget).ok().map(|run| run.proof),
             Entry::Flatten => engine::flatten(&self.table, &self.other).ok(),
             Entry::WriteProof => engine::write_proof(&self.table, &self.other).ok(),
+            Entry::ReadText => engine::read_text(&self.other).ok(),
+            Entry::WriteText => engine::write_text(&self.other).ok(),
         }
     }
 
@@ -133,6 +157,8 @@ impl Case {
             Entry::Flatten => crate::flatten(table, other, &mut work, &mut output),
             Entry::CheckFlat => crate::check_flat(table, other, &mut work),
             Entry::WriteProof => crate::write_proof(table, other, &mut work, &mut output),
+            Entry::ReadText => crate::read_text(other, &mut work, &mut output),
+            Entry::WriteText => crate::write_text(other, &mut work, &mut output),
         };
         let expected = if answer.number == 29 { WORK_FILL } else { 0 };
         Outcome { answer, output, work_space_as_promised: all_equal(&work, expected) }

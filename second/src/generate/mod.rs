@@ -13,7 +13,9 @@ pub mod positions;
 pub mod random;
 pub mod random_file;
 pub mod random_table;
+pub mod random_text;
 pub mod reading;
+pub mod texts;
 pub mod topics;
 
 pub use topics::vector_set;
@@ -37,6 +39,9 @@ pub fn random_case(random: &mut Random) -> Case {
 /// A case for that entry: files that fit, damaged ones and foreign ones, with
 /// lent spaces and budgets that mostly suffice.
 pub fn random_case_of(entry: Entry, size: Size, random: &mut Random) -> Case {
+    if !entry.takes_table() {
+        return random_case_without_table(entry, size, random);
+    }
     let mut table = RandomTable::make(random, size);
     if random.chance(5) {
         table.add_fault(random);
@@ -45,15 +50,34 @@ pub fn random_case_of(entry: Entry, size: Size, random: &mut Random) -> Case {
     spoil(random, case)
 }
 
-/// A case one of whose files is one of `limit_files`.
+/// A text or a term file, sometimes the one where the other belongs, sometimes a
+/// file of an entry that takes a table.
+fn random_case_without_table(entry: Entry, size: Size, random: &mut Random) -> Case {
+    let kind_of_file = if random.chance(5) { *random.pick(&Entry::ALL) } else { entry };
+    let other = if kind_of_file.takes_table() {
+        let table = RandomTable::make(random, Size::Small);
+        other_file(kind_of_file, random, &table)
+    } else {
+        other_file_without_table(kind_of_file, random, size)
+    };
+    let case = Case::new(entry, &[], &other);
+    vary_lent_spaces(random, case)
+}
+
+/// A case one of whose files is one of `limit_files` or `texts`.
 fn random_case_at_a_limit(entry: Entry, random: &mut Random) -> Case {
     let (table, others) = match entry {
         Entry::Check | Entry::Flatten => (examples::table_of_eight(), limit_files::proofs()),
         Entry::Run => (examples::table_a(), limit_files::jobs()),
         Entry::CheckFlat | Entry::WriteProof => (limit_files::chain_table(), limit_files::flats()),
+        Entry::ReadText => (Vec::new(), texts::limit_texts()),
+        Entry::WriteText => (Vec::new(), texts::limit_terms()),
     };
     let other: &Vec<u8> = random.pick(&others);
     let mut case = Case::new(entry, &table, other);
+    if !entry.takes_table() {
+        return vary_lent_spaces(random, case);
+    }
     if random.chance(30) {
         case.table = random.pick(&limit_files::tables()).clone();
     }
@@ -71,12 +95,22 @@ fn spoil(random: &mut Random, mut case: Case) -> Case {
     vary_lent_spaces(random, case)
 }
 
-/// A file of the kind the entry takes besides the table.
+/// A file of the kind the entry takes besides the table, or takes alone. Texts and
+/// term files do not depend on the table, only on its size, and some of them are
+/// damaged.
 pub fn other_file(entry: Entry, random: &mut Random, table: &RandomTable) -> Vec<u8> {
     match entry {
         Entry::Check | Entry::Flatten => random_file::random_proof(random, table),
         Entry::Run => random_file::random_job(random, table),
         Entry::CheckFlat | Entry::WriteProof => random_file::random_flat(random, table),
+        Entry::ReadText | Entry::WriteText => other_file_without_table(entry, random, table.size),
+    }
+}
+
+fn other_file_without_table(entry: Entry, random: &mut Random, size: Size) -> Vec<u8> {
+    match entry {
+        Entry::WriteText => random_text::random_term_file(random, size),
+        _ => random_text::random_text(random, size),
     }
 }
 
@@ -88,7 +122,7 @@ fn make_foreign(random: &mut Random, case: &mut Case) {
         1 => case.table = std::mem::take(&mut case.other),
         2 => case.other = case.table.clone(),
         3 => {
-            let entry = *random.pick(&Entry::ALL);
+            let entry = *random.pick(&Entry::WITH_TABLE);
             case.other = other_file(entry, random, &table);
         }
         _ => case.other = (0..random.below(40)).map(|_| random.byte() % 36).collect(),

@@ -4,7 +4,7 @@ use super::build::*;
 use super::case::{Case, Entry};
 use super::random::Random;
 use super::random_table::{RandomTable, Size};
-use super::{damage, examples, limit_files, other_file, positions, random_case_of, reading};
+use super::{damage, examples, limit_files, other_file, positions, random_case_of, reading, texts};
 use crate::limits::MOST_BUDGET;
 
 /// File names in the folder crates/replay_vectors/data, with their cases.
@@ -19,6 +19,8 @@ pub fn vector_set() -> Vec<(&'static str, Vec<Case>)> {
         ("check-flat.vec", check_flat()),
         ("write-proof.vec", write_proof()),
         ("run.vec", run()),
+        ("read-text.vec", read_text()),
+        ("write-text.vec", write_text()),
     ]
 }
 
@@ -273,4 +275,61 @@ fn runs_at_limits() -> Vec<Case> {
         run(&examples::table_a(), &[10], &labels_around(4_095, &id())).with_budget(4_095),
         run(&examples::table_a(), &[10], &labels_around(4_095, &empty())),
     ]
+}
+
+fn text_case(text: &[u8]) -> Case {
+    Case::new(Entry::ReadText, &[], text)
+}
+
+fn term_case(term: &[u8]) -> Case {
+    Case::new(Entry::WriteText, &[], term)
+}
+
+/// What both entries of P8 have to refuse alike, and in which order: 29, then 1,
+/// then what `wrong` is refused with, then 26.
+fn order_of_refusals(good: &Case, wrong: &Case) -> Vec<Case> {
+    let size = good.entry.work_size();
+    let too_long = Case::new(good.entry, &[], &[b'x'; 65_536]);
+    vec![
+        good.clone(),
+        good.clone().with_work(size - 1),
+        good.clone().with_work(0),
+        good.clone().with_work(size + 1),
+        good.clone().with_work(size - 1).with_output(0),
+        too_long.clone().with_work(size - 1),
+        too_long.clone(),
+        too_long.with_output(0),
+        wrong.clone().with_work(size - 1),
+        wrong.clone(),
+        wrong.clone().with_output(0),
+        good.clone().with_output(0),
+    ]
+}
+
+/// Texts to terms: P8's reader.
+fn read_text() -> Vec<Case> {
+    let every_mark = texts::EVERY_MARK.as_bytes();
+    let mut cases = order_of_refusals(&text_case(every_mark), &text_case(b"a65536x"));
+    let right = texts::TACTICS.iter().chain(&texts::LOOSE_TEXTS);
+    cases.extend(right.flat_map(|text| with_output_lengths(&text_case(text.as_bytes()))));
+    cases.extend(texts::REFUSED_TEXTS.iter().map(|text| text_case(text.as_bytes())));
+    cases.extend(texts::systematic_text_damage(texts::EVERY_MARK).iter().map(|text| text_case(text)));
+    cases.extend(texts::limit_texts().iter().flat_map(|text| with_output_lengths(&text_case(text))));
+    cases.extend(random_cases(Entry::ReadText, 11, 250));
+    cases
+}
+
+/// Terms to texts: P8's writer.
+fn write_text() -> Vec<Case> {
+    let every_field = texts::term_with_every_field();
+    let mut cases = order_of_refusals(&term_case(&every_field), &term_case(&[25, 0, 0]));
+    let tactics =
+        texts::TACTICS.iter().chain(&texts::LOOSE_TEXTS).filter_map(|text| text_case(text.as_bytes()).result());
+    cases.extend(tactics.flat_map(|term| with_output_lengths(&term_case(&term))));
+    cases.extend(texts::terms_two_deep().iter().map(|term| term_case(term)));
+    cases.extend(reading::systematic_damage(&every_field).iter().map(|term| term_case(term)));
+    cases.extend(texts::refused_terms().iter().map(|term| term_case(term)));
+    cases.extend(texts::limit_terms().iter().flat_map(|term| with_output_lengths(&term_case(term))));
+    cases.extend(random_cases(Entry::WriteText, 12, 200));
+    cases
 }

@@ -50,3 +50,11 @@ pub fn write_proof(table: &[u8], flat: &[u8]) -> (Answer, Vec<u8>) {
 pub fn run(table: &[u8], job: &[u8], budget: u32) -> (Answer, Vec<u8>) {
     result_of(Case::new(Entry::Run, table, job).with_budget(budget))
 }
+
+pub fn read_text(text: &[u8]) -> (Answer, Vec<u8>) {
+    call(Entry::ReadText, &[], text)
+}
+
+pub fn write_text(term: &[u8]) -> (Answer, Vec<u8>) {
+    call(Entry::WriteText, &[], term)
+}

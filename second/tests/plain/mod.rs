@@ -4,6 +4,8 @@
 
 use second::generate::build;
 
+pub mod notation;
+
 pub enum Term {
     Atomic(u16),
     Id,

@@ -18,7 +18,8 @@ use Rattle.derivation.specs.CheckedEntries.{DerivationAt, checkedEntries}
 use Rattle.derivation.proofs.CheckLaws.{PartsHold, parts-hold}
 use Rattle.derivation.proofs.RuleLaws.{indexed-still}
 use Rattle.writer.specs.Right.{Right, proofOf}
-use Rattle.writer.specs.Left.{leftIn, writtenEntries}
+use Rattle.entries.specs.Left.{leftIn}
+use Rattle.writer.specs.Left.{writtenEntries}
 use Rattle.writer.proofs.EntryLaws.{ends-28, ends-27, right-file, right-size, ends-right}
 use Rattle.writer.proofs.entry.write_entries.Statement.{statement}
 use Rattle.writer.proofs.entry.write_entries.Tie as tie

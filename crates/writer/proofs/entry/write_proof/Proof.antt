@@ -7,7 +7,8 @@ use denote.Ref.{now}
 use lib.ListN.{length, replicate}
 use borrow.Author.Needs.{needs}
 use Rattle.entries.specs.LentSpace.{Written}
-use Rattle.writer.proofs.EntryLaws.{too-short, long-enough}
+use Rattle.entries.specs.CheckFlat.{writeOutcome, writeProofWork, writeProof}
+use Rattle.entries.proofs.LeftLaws.{too-short, long-enough}
 use Rattle.writer.proofs.entry.write_proof.Statement.{statement}
 use Rattle.writer.proofs.entry.write_proof.Tie as tie
 
@@ -15,9 +16,10 @@ refusal-requires : tie.Need-refusal-requires
 refusal-requires c κs = search needs
 
 returns : tie.Need-returns
+unfolding writeProof
 returns c =
     let a = c .before .before .before .before .before .before .args in
-    let e = too-short (now (a .table)) (now (a .flat)) (now (a .out)) (now (a .work)) (omega (arith, c .before .if1 .taken)) in
+    let e = too-short writeProofWork (now (a .work)) (now (a .out)) (writeOutcome (now (a .table)) (now (a .flat))) (omega (arith, c .before .if1 .taken)) in
     (c .refusal .ensures ∙ sym (ap (λ (x : Written). x .answer) e), (sym (ap (λ (x : Written). x .work) e), sym (ap (λ (x : Written). x .out) e)))
 
 write-within-requires : tie.Need-write-within-requires
@@ -33,10 +35,11 @@ same-length-2 : tie.Need-same-length-2
 same-length-2 c = search needs
 
 returns-2 : tie.Need-returns-2
+unfolding writeProof
 returns-2 c =
     let a = c .before .before .before .before .before .before .before .before .before .before .before .before .before .before .before .before .args in
     let w = c .before .before .before .before .before .before .before .before .write-within in
-    let e = long-enough (now (a .table)) (now (a .flat)) (now (a .out)) (now (a .work)) (omega (arith, c .before .before .before .before .before .before .before .before .before .before .before .if1 .left)) in
+    let e = long-enough writeProofWork (now (a .work)) (now (a .out)) (writeOutcome (now (a .table)) (now (a .flat))) (omega (arith, c .before .before .before .before .before .before .before .before .before .before .before .if1 .left)) in
     let same : length (w .last .1 .1 .0) ≡ length (now (a .work)) = w .kept .1 .1 .0 in (
       w .ensures .0 ∙ sym (ap (λ (x : Written). x .answer) e),
       (

@@ -13,7 +13,7 @@ use Rattle.entries.specs.LentSpace.{Written}
 use Rattle.writer.specs.Right.{Right, proofOf, PlannedRight}
 use Rattle.writer.proofs.SizeLaws.{few-leaves, proof-length, term-small}
 use Rattle.writer.proofs.FileLaws.{few-roots, rest-of}
-use Rattle.writer.proofs.EntryLaws.{no-room, enough-room}
+use Rattle.entries.proofs.LeftLaws.{no-room, enough-room}
 use Rattle.writer.proofs.entry.write_right.Statement.{statement}
 use Rattle.writer.proofs.entry.write_right.Tie as tie
 

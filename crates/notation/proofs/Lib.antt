@@ -1,0 +1,13 @@
+pub mod FromRightLaws
+pub mod WrittenLaws
+pub mod TextLaws
+pub mod WrittenText
+pub mod SpacingLaws
+pub mod PassingLaws
+pub mod ScanLaws
+pub mod ViableLaws
+pub mod MeetLaws
+pub mod ReaderLaws
+pub mod ParseLaws
+pub mod RoundTrip
+pub mod Worked

@@ -1,0 +1,13 @@
+pub mod Letters
+pub mod Marks
+pub mod Grammar
+pub mod Written
+pub mod Spacing
+pub mod MarksIn
+pub mod FromRight
+pub mod Scans
+pub mod Passing
+pub mod Meets
+pub mod Parse
+pub mod Signs
+pub mod Worked

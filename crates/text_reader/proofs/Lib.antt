@@ -1,0 +1,9 @@
+pub mod ListLaws
+pub mod PassLaws
+pub mod MarkLaws
+pub mod PlaceLaws
+pub mod HeldLaws
+pub mod StoreLaws
+pub mod OnMarkLaws
+pub mod WholeLaws
+pub mod EntryLaws

@@ -1,0 +1,4 @@
+pub mod MarkList
+pub mod Shapes
+pub mod Places
+pub mod Held

@@ -1,0 +1,9 @@
+pub mod StoreLaws
+pub mod DigitLaws
+pub mod TextByTag
+pub mod StackLaws
+pub mod CodeLaws
+pub mod TurnLaws
+pub mod ResumeLaws
+pub mod WholeLaws
+pub mod EntryLaws

@@ -1,0 +1,51 @@
+/* What the programs share: loading a file, printing bytes, and telling a refusal. */
+#ifndef COMMON_H
+#define COMMON_H
+
+#include <stdio.h>
+#include <stdlib.h>
+
+#include "hitac.h"
+
+/* A file, with room for one byte more than the engine takes: a longer file is then refused with HITAC_INPUT_TOO_LONG. */
+struct file {
+    uint8_t bytes[HITAC_LONGEST_FILE + 1];
+    size_t length;
+};
+
+static inline FILE *opened(const char *folder, const char *name)
+{
+    char path[1024];
+    snprintf(path, sizeof path, "%s/%s", folder, name);
+    FILE *stream = fopen(path, "rb");
+    if (stream == NULL) {
+        perror(path);
+        exit(EXIT_FAILURE);
+    }
+    return stream;
+}
+
+static inline void load(struct file *file, const char *folder, const char *name)
+{
+    FILE *stream = opened(folder, name);
+    file->length = fread(file->bytes, 1, sizeof file->bytes, stream);
+    fclose(stream);
+}
+
+static inline void print_bytes(const uint8_t *bytes, size_t length)
+{
+    for (size_t i = 0; i < length; i++)
+        printf("%s%02x", i == 0 ? "" : " ", bytes[i]);
+    printf("\n");
+}
+
+/* Whether the call succeeded; a refusal is printed. */
+static inline int succeeded(const char *call, struct hitac_answer answer)
+{
+    if (answer.number == HITAC_SUCCESS)
+        return 1;
+    printf("%s: refused %u file %u place %u steps %u\n", call, answer.number, answer.file, answer.place, answer.steps);
+    return 0;
+}
+
+#endif
