@@ -223,14 +223,14 @@ mod tests {
         }
     }
 
-    /// The longest text and the longest term file; 65,534 or 65,535 bytes of text; 2,048 leaves of five bytes and 2,047
+    /// The longest text and the longest term file; 65,535 bytes of text; 2,048 leaves of five bytes and 2,047
     /// signs of three; three fields for each of 1,365 labels, six for each of 682 sequences.
     #[test]
     fn families_of_texts_use_their_limits() {
         assert_eq!(largest("read_text-labels").1.other.len(), 28_671);
         assert_eq!(largest("read_text-labels").0.length, 20_480);
         assert_eq!(largest("write_text-labels").0.length, 28_671);
-        assert_eq!(largest("read_text-brackets").1.other.len(), 65_534);
+        assert_eq!(largest("read_text-brackets").1.other.len(), 65_535);
         assert_eq!(largest("read_text-blanks").1.other.len(), 65_535);
         assert_eq!(largest("read_text-zeros").1.other.len(), 65_535);
         for shape in

@@ -60,7 +60,7 @@ pub fn all_signs(sequences: usize) -> Vec<u8> {
 }
 
 pub fn brackets(pairs: usize) -> Files {
-    (Vec::new(), ["(".repeat(pairs), "id".to_string(), ")".repeat(pairs)].concat().into_bytes())
+    (Vec::new(), ["(".repeat(pairs), "a10".to_string(), ")".repeat(pairs)].concat().into_bytes())
 }
 
 pub fn blanks(count: usize) -> Files {
