@@ -1,2 +1,1 @@
-pub mod MemoryLaws
 pub mod FrameLaws

@@ -1,9 +1,11 @@
-// The terms that wait, as frames of 14 bytes in work space, and headers of fields there.
+// The terms that wait, as frames of 14 bytes in work space.
 // Document 01, "Running a tactic": what waits while a term is run.
 ghost use mathlib.Core.Path.{_≡_};
 ghost use Prim.Native.Nat.{_+_, _<_};
 ghost use lib.ListN.{length};
-ghost use Rattle.frames.specs.Frames.{long, putLong, frameAt, putFrame, putHeader};
+ghost use Rattle.frames.specs.Frames.{frameAt, putFrame};
+use tactics::numbers::load32;
+use tactics::numbers::store32;
 use words::load16;
 use words::store16;
 
@@ -30,21 +32,6 @@ pub struct Frame {
     pub mark: u16,
 }
 
-fn load32(s: &[u8], at: usize) -> usize
-    requires { ⌜ at + 3 < length (now s) ⌝ }
-    ensures { λ r. ⌜ r ≡ long (now (s .entry)) at ⌝ }
-{
-    (load16(s, at) as usize) * 65536 + (load16(s, at + 2) as usize)
-}
-
-fn store32(s: &mut [u8], at: usize, v: usize)
-    requires { ⌜ (at + 3 < length (now s)) × (v < 4294967296) ⌝ }
-    ensures { λ _. ⌜ now (s .exit) ≡ putLong (now (s .entry)) at v ⌝ }
-{
-    store16(s, at, (v / 65536) as u16);
-    store16(s, at + 2, (v % 65536) as u16);
-}
-
 pub fn load_frame(work: &[u8], at: usize) -> Frame
     requires { ⌜ at + 13 < length (now work) ⌝ }
     ensures { λ r. ⌜ r ≡ frameAt (now (work .entry)) at ⌝ }
@@ -69,13 +56,4 @@ pub fn store_frame(work: &mut [u8], at: usize, f: Frame)
     store16(work, at + 6, f.count);
     store32(work, at + 8, f.start);
     store16(work, at + 12, f.mark);
-}
-
-// The header of a field.
-pub fn put_header(work: &mut [u8], at: usize, tag: u8, len: u16)
-    requires { ⌜ at + 2 < length (now work) ⌝ }
-    ensures { λ _. ⌜ now (work .exit) ≡ putHeader (now (work .entry)) at tag len ⌝ }
-{
-    store16(work, at + 1, len);
-    work[at] = tag;
 }

@@ -22,11 +22,13 @@ use Rattle.hitac.specs.Outcomes.{proved, onOne, oneGoal, noGoal, assertGives, f
 use Rattle.hitac.specs.Machine as M
 use Rattle.hitac.specs.Machine.{labelled, sequenceLeft, alternationLeft}
 use Rattle.arities.specs.Layout.{framesEnd}
+use Rattle.tactics.specs.Memory.{Only}
+use Rattle.tactics.specs.Numbers.{putHeader}
+use Rattle.tactics.proofs.MemoryLaws.{only-then, only-wider, only-word, same-word}
+use Rattle.tactics.proofs.NumberLaws.{only-header, header-tag, header-head}
 use Rattle.frames.specs.declared.Frame.{Frame}
-use Rattle.frames.specs.Memory.{Only}
-use Rattle.frames.specs.Frames.{frameAt, putFrame, putHeader}
-use Rattle.frames.proofs.MemoryLaws.{only-then, only-wider, only-word, same-word}
-use Rattle.frames.proofs.FrameLaws.{only-frame, frame-same, only-header, header-tag, header-head}
+use Rattle.frames.specs.Frames.{frameAt, putFrame}
+use Rattle.frames.proofs.FrameLaws.{only-frame, frame-same}
 use Rattle.machine.specs.declared.state.State.{State}
 use Rattle.machine.specs.Shows.{source, GoalsIs, FrameIs, FramesAt, frameAside, setAside, Sizes, Runs, Ends, Config, next, done, Holds}
 use Rattle.machine.specs.Begun.{enter, Room, Begins, failed, kept, entered, idNext, emptyNext, assertNext, sequenceNext, alternationNext, labelNext, sequenceFrame, alternationFrame, labelFrame}

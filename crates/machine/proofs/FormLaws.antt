@@ -31,10 +31,11 @@ use Rattle.hitac.specs.Outcomes.{splitAt, finished, foundPremises, ruleGives}
 use Rattle.hitac.specs.Machine.{tensorLeft}
 use Rattle.arities.specs.Layout.{outputEnd}
 use Rattle.arities.specs.Arities.{arityCode}
-use Rattle.frames.specs.Memory.{Same, Only}
-use Rattle.frames.specs.Frames.{putFrame, putHeader}
-use Rattle.frames.proofs.MemoryLaws.{only-then, only-wider, only-word, only-copy, same-word, same-head}
-use Rattle.frames.proofs.FrameLaws.{only-header, header-tag, header-head}
+use Rattle.tactics.specs.Memory.{Same, Only}
+use Rattle.tactics.specs.Numbers.{putHeader}
+use Rattle.tactics.proofs.MemoryLaws.{only-then, only-wider, only-word, only-copy, same-word, same-head}
+use Rattle.tactics.proofs.NumberLaws.{only-header, header-tag, header-head}
+use Rattle.frames.specs.Frames.{putFrame}
 use Rattle.machine.specs.declared.state.State.{State}
 use Rattle.machine.specs.Shows.{source, GoalsIs, FrameIs, Ends, Config, next, done, Holds}
 use Rattle.machine.specs.Begun.{enter, Room, Begins, BeginsIn, failed, entered, tensorNext, tensorFrame, atomicNext, ruleNext, used, definedNext, unfolded}

@@ -9,8 +9,8 @@ use lib.Seq.{paste}
 use Rattle.format.specs.declared.values.Goal.{Goal}
 use Rattle.format.specs.Goals.{goalsAt}
 use Rattle.format.proofs.GoalsAt.{goals-append, goals-paste}
-use Rattle.frames.specs.Memory.{Only}
-use Rattle.frames.proofs.MemoryLaws.{only-then, only-wider, only-copy, same-goals}
+use Rattle.tactics.specs.Memory.{Only}
+use Rattle.tactics.proofs.MemoryLaws.{only-then, only-wider, only-copy, same-goals}
 use Rattle.machine.specs.Popping.{Gathered}
 
 pub gathered : (w : List ℕ) (to first n second m : ℕ) → first + n * 2 ≤ to → second + m * 2 ≤ to → to + (n + m) * 2 ≤ length w

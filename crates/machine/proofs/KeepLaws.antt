@@ -10,10 +10,12 @@ use Rattle.format.specs.declared.values.Goal.{Goal}
 use Rattle.hitac.specs.Machine as M
 use Rattle.hitac.specs.Machine.{labelled, sequenceLeft, sequenceRight, tensorLeft, tensorRight, alternationLeft}
 use Rattle.arities.specs.Layout.{outputEnd, framesEnd}
+use Rattle.tactics.specs.Memory.{Same, Only}
+use Rattle.tactics.specs.Numbers.{long}
+use Rattle.tactics.proofs.MemoryLaws.{same-word, same-goals, same-term}
+use Rattle.tactics.proofs.NumberLaws.{same-long}
 use Rattle.frames.specs.declared.Frame.{Frame}
-use Rattle.frames.specs.Memory.{Same, Only}
-use Rattle.frames.specs.Frames.{long, frameAt}
-use Rattle.frames.proofs.MemoryLaws.{same-word, same-goals, same-term}
+use Rattle.frames.specs.Frames.{frameAt}
 use Rattle.machine.specs.Shows.{GoalsIs, FrameIs, FramesAt}
 
 -- what a write leaves: the output before o, the goals before arena, the frames from top on
@@ -51,17 +53,16 @@ kept-behind a b o arena top w v p h l t = record {
 
 module _ (w v : List ℕ) where
   pub frame-kept : (at : ℕ) → ((i : ℕ) → at ≤ i → getD v i 0 ≡ getD w i 0) → frameAt v at ≡ frameAt w at
-  unfolding frameAt long
+  unfolding frameAt
   frame-kept at h =
       let s : Same at (at + 14) w v = λ i l r. h i l in
       let e₁ : word v at ≡ word w at = same-word w v at (at + 14) at s (omega arith) (omega arith) in
       let e₂ : word v (at + 2) ≡ word w (at + 2) = same-word w v at (at + 14) (at + 2) s (omega arith) (omega arith) in
       let e₃ : word v (at + 4) ≡ word w (at + 4) = same-word w v at (at + 14) (at + 4) s (omega arith) (omega arith) in
       let e₄ : word v (at + 6) ≡ word w (at + 6) = same-word w v at (at + 14) (at + 6) s (omega arith) (omega arith) in
-      let e₅ : word v (at + 8) ≡ word w (at + 8) = same-word w v at (at + 14) (at + 8) s (omega arith) (omega arith) in
-      let e₆ : word v (at + 8 + 2) ≡ word w (at + 8 + 2) = same-word w v at (at + 14) (at + 8 + 2) s (omega arith) (omega arith) in
-      let e₇ : word v (at + 12) ≡ word w (at + 12) = same-word w v at (at + 14) (at + 12) s (omega arith) (omega arith) in
-      λ i. record { kind = e₁ i; file = e₂ i; at = e₃ i; count = e₄ i; start = e₅ i * 65536 + e₆ i; mark = e₇ i }
+      let e₅ : long v (at + 8) ≡ long w (at + 8) = same-long w v at (at + 14) (at + 8) s (omega arith) (omega arith) in
+      let e₆ : word v (at + 12) ≡ word w (at + 12) = same-word w v at (at + 14) (at + 12) s (omega arith) (omega arith) in
+      λ i. record { kind = e₁ i; file = e₂ i; at = e₃ i; count = e₄ i; start = e₅ i; mark = e₆ i }
 
   module _ (arena arena′ : ℕ) (more : arena ≤ arena′) where
     pub goals-kept : (start count : ℕ) (g : List Goal) → ((i : ℕ) → outputEnd ≤ i → i < arena → getD v i 0 ≡ getD w i 0)

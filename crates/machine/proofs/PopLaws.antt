@@ -15,10 +15,10 @@ use Rattle.format.specs.Standing.{Head, Stands}
 use Rattle.hitac.specs.Outcomes.{Ending, proved, failed, ended}
 use Rattle.hitac.specs.Machine as M
 use Rattle.hitac.specs.Machine.{labelled, sequenceLeft, sequenceRight, tensorLeft, tensorRight, alternationLeft, unwind}
+use Rattle.tactics.specs.Memory.{Same, Only}
+use Rattle.tactics.proofs.MemoryLaws.{only-word, same-word, same-term}
 use Rattle.frames.specs.declared.Frame.{Frame}
-use Rattle.frames.specs.Memory.{Same, Only}
 use Rattle.frames.specs.Frames.{frameAt}
-use Rattle.frames.proofs.MemoryLaws.{only-word, same-word, same-term}
 use Rattle.machine.specs.declared.state.State.{State}
 use Rattle.machine.specs.Shows.{GoalsIs, FrameIs, FramesAt, setAside, Proved, Lost, Ends, Config, done, Holds}
 use Rattle.machine.specs.Popping.{pop, settle, Fits, Smaller, Waiting, Popped, leave, resume}

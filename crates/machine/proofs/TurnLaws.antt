@@ -12,10 +12,10 @@ use Rattle.hitac.specs.Outcomes.{proved}
 use Rattle.hitac.specs.Machine as M
 use Rattle.hitac.specs.Machine.{sequenceRight, tensorRight}
 use Rattle.arities.specs.Layout.{goalsEnd}
+use Rattle.tactics.specs.Memory.{Only}
+use Rattle.tactics.proofs.MemoryLaws.{same-term}
 use Rattle.frames.specs.declared.Frame.{Frame}
-use Rattle.frames.specs.Memory.{Only}
 use Rattle.frames.specs.Frames.{frameAt, putFrame}
-use Rattle.frames.proofs.MemoryLaws.{same-term}
 use Rattle.frames.proofs.FrameLaws.{only-frame, frame-same}
 use Rattle.machine.specs.declared.state.State.{State}
 use Rattle.machine.specs.Shows.{GoalsIs, FrameIs, FramesAt, setAside, Proved, Ends, Holds}

@@ -14,7 +14,7 @@ ghost use Rattle.format.specs.Terms.{Term, atomic, id, label, sequence, tensor,
 ghost use Rattle.tables.specs.Tables.{Table};
 ghost use Rattle.tables.specs.Standing.{TableStands};
 ghost use Rattle.arities.specs.Arities.{arityCode};
-ghost use Rattle.frames.specs.Frames.{putHeader};
+ghost use Rattle.tactics.specs.Numbers.{putHeader};
 ghost use Rattle.machine.specs.Shows.{GoalsIs};
 ghost use Rattle.machine.specs.Begun.{Room, Begins, BeginsIn, idNext, emptyNext, assertNext, sequenceNext, alternationNext, labelNext, tensorNext, atomicNext, ruleNext, definedNext, failed, kept};
 ghost use Rattle.machine.specs.Step.{Given, BeginsAny, BeginsPair, Grown, PairStands};
@@ -37,12 +37,12 @@ use frames::Frame;
 use frames::LABELLED;
 use frames::SEQUENCE_LEFT;
 use frames::TENSOR_LEFT;
-use frames::put_header;
 use frames::store_frame;
 use tables::lookup::BodyFound;
 use tables::lookup::RuleFound;
 use tables::lookup::find_body;
 use tables::lookup::find_rule;
+use tactics::numbers::put_header;
 use words::copy_in;
 use words::store16;
 

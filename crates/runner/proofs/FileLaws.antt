@@ -21,7 +21,7 @@ use Rattle.files.specs.Proofs.{proofBytes}
 use Rattle.files.specs.Jobs.{Job}
 use Rattle.files.specs.Counts.{jobTermPlace}
 use Rattle.files.specs.Standing.{JobStands}
-use Rattle.frames.specs.Frames.{putHeader}
+use Rattle.tactics.specs.Numbers.{putHeader}
 use Rattle.machine.specs.declared.state.State.{State}
 use Rattle.machine.specs.Shows.{FramesAt, Proved}
 

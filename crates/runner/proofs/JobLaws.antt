@@ -34,9 +34,9 @@ use Rattle.entries.specs.Run.{runEnd, runResult}
 use Rattle.arities.specs.Layout.{outputEnd, framesEnd}
 use Rattle.arities.specs.Arities.{ArityTable, arities}
 use Rattle.arities.specs.Rounds.{FillGiven, Filled}
-use Rattle.frames.specs.Memory.{Only}
-use Rattle.frames.specs.Frames.{putHeader}
-use Rattle.frames.proofs.MemoryLaws.{only-copy}
+use Rattle.tactics.specs.Memory.{Only}
+use Rattle.tactics.specs.Numbers.{putHeader}
+use Rattle.tactics.proofs.MemoryLaws.{only-copy}
 use Rattle.machine.specs.declared.state.State.{State}
 use Rattle.machine.specs.Shows.{FramesAt, setAside, Proved}
 use Rattle.machine.proofs.WaitingLaws.{if-proved, if-failed, if-ended}

@@ -19,7 +19,7 @@ use Rattle.hitac.specs.Machine.{Control, running, stopped, after, stepFrom, ste
 use Rattle.hitac.proofs.RunLaws.{run-stopped}
 use Rattle.arities.specs.Layout.{framesEnd}
 use Rattle.arities.specs.Arities.{ArityTable, arities}
-use Rattle.frames.proofs.MemoryLaws.{same-word}
+use Rattle.tactics.proofs.MemoryLaws.{same-word}
 use Rattle.machine.specs.declared.state.State.{State}
 use Rattle.machine.specs.Shows.{source, Runs, Ends, Shows}
 use Rattle.machine.specs.Step.{Grown, Given, Stepped}

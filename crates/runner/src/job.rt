@@ -12,11 +12,11 @@ use arities::layout::FRAMES_END;
 use arities::layout::OUTPUT_END;
 use arities::rounds::fill_arities;
 use files::jobs::JobParts;
-use frames::put_header;
 use machine::state::FAILED;
 use machine::state::PROVED;
 use machine::state::RUNNING;
 use machine::state::State;
+use tactics::numbers::put_header;
 use words::copy_in;
 
 // The job's term on its goals, nothing begun.

@@ -1,5 +1,6 @@
 -- `load_frame` meets its contract: each value is loaded from its place.
 -- Assumes nothing.
+use Rattle.tactics.proofs.numbers.load32.Reads as load32-reads
 use Rattle.frames.specs.Frames.{frameAt}
 use native.Mathlib.Omega.{arith}
 use borrow.Author.Needs.{needs}
@@ -7,7 +8,6 @@ use Rattle.frames.proofs.load_frame.Statement.{statement}
 use Rattle.frames.proofs.load_frame.Tie as tie
 use Rattle.frames.proofs.load_frame.Reads as reads
 use Rattle.frames.proofs.load_frame.Lts as lts
-use Rattle.frames.proofs.load32.Reads as load32-reads
 use Rattle.words.proofs.load16.Reads as load16-reads
 
 load16-requires : tie.Need-load16-requires

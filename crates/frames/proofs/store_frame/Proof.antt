@@ -1,5 +1,6 @@
 -- `store_frame` meets its contract: each value is stored at its place.
 -- Assumes nothing.
+use Rattle.tactics.proofs.numbers.store32.Reads as store32-reads
 use Rattle.frames.specs.Frames.{putFrame}
 use native.Mathlib.Omega.{arith}
 use borrow.Author.Needs.{needs}
@@ -7,7 +8,6 @@ use Rattle.frames.proofs.store_frame.Statement.{statement}
 use Rattle.frames.proofs.store_frame.Tie as tie
 use Rattle.frames.proofs.store_frame.Reads as reads
 use Rattle.frames.proofs.store_frame.Lts as lts
-use Rattle.frames.proofs.store32.Reads as store32-reads
 use Rattle.words.proofs.store16.Reads as store16-reads
 
 store16-requires : tie.Need-store16-requires

@@ -2,13 +2,13 @@
 -- Assumes nothing.
 use mathlib.Core.Path.{_∙_}
 use native.Mathlib.Omega.{arith}
+use Rattle.tactics.proofs.numbers.put_header.Reads as put-header-reads
 use Rattle.runner.proofs.JobLaws.{finish-small, write-end}
 use borrow.Author.Needs.{needs}
 use Rattle.runner.proofs.job.write_file.Statement.{statement}
 use Rattle.runner.proofs.job.write_file.Tie as tie
 use Rattle.runner.proofs.job.write_file.Reads as reads
 use Rattle.runner.proofs.job.write_file.Lts as lts
-use Rattle.frames.proofs.put_header.Reads as put-header-reads
 use Rattle.words.proofs.copy_in.Reads as copy-in-reads
 
 add-behind : tie.Need-add-behind

@@ -4,6 +4,7 @@ use mathlib.Core.Path.{ap, _∙_}
 use mathlib.Core.List.{List}
 use Prim.Native.Nat.{ℕ, _+_, _-_}
 use Rattle.words.specs.Word.{putWord}
+use Rattle.tactics.proofs.numbers.put_header.Reads as put-header-reads
 use Rattle.frames.specs.Frames.{putFrame}
 use Rattle.machine.specs.Begun.{labelFrame}
 use Rattle.machine.proofs.BeginLaws.{label-fails, label-end}
@@ -13,7 +14,6 @@ use Rattle.machine.proofs.state.State.begin_label.Statement.{statement}
 use Rattle.machine.proofs.state.State.begin_label.Tie as tie
 use Rattle.machine.proofs.state.State.begin_label.Reads as reads
 use Rattle.machine.proofs.state.State.begin_label.Lts as lts
-use Rattle.frames.proofs.put_header.Reads as put-header-reads
 use Rattle.frames.proofs.store_frame.Reads as store-frame-reads
 use Rattle.machine.proofs.state.State.fail.Reads as fail-reads
 use Rattle.words.proofs.store16.Reads as store16-reads

@@ -1,13 +1,13 @@
 -- `use_rule` meets its contract: a header and the name, and the premises copied.
 -- Assumes nothing.
 use native.Mathlib.Omega.{arith}
+use Rattle.tactics.proofs.numbers.put_header.Reads as put-header-reads
 use Rattle.machine.proofs.FormLaws.{use-end}
 use borrow.Author.Needs.{needs}
 use Rattle.machine.proofs.state.State.use_rule.Statement.{statement}
 use Rattle.machine.proofs.state.State.use_rule.Tie as tie
 use Rattle.machine.proofs.state.State.use_rule.Reads as reads
 use Rattle.machine.proofs.state.State.use_rule.Lts as lts
-use Rattle.frames.proofs.put_header.Reads as put-header-reads
 use Rattle.words.proofs.copy_in.Reads as copy-in-reads
 use Rattle.words.proofs.store16.Reads as store16-reads
 

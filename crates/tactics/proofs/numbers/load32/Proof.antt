@@ -1,12 +1,12 @@
--- `load32` meets its contract: two values of 16 bits are one of 32.
+-- `numbers::load32` meets its contract: two values of 16 bits are one of 32.
 -- Assumes nothing.
-use Rattle.frames.specs.Frames.{long}
+use Rattle.tactics.specs.Numbers.{long}
 use native.Mathlib.Omega.{arith}
 use borrow.Author.Needs.{needs}
-use Rattle.frames.proofs.load32.Statement.{statement}
-use Rattle.frames.proofs.load32.Tie as tie
-use Rattle.frames.proofs.load32.Reads as reads
-use Rattle.frames.proofs.load32.Lts as lts
+use Rattle.tactics.proofs.numbers.load32.Statement.{statement}
+use Rattle.tactics.proofs.numbers.load32.Tie as tie
+use Rattle.tactics.proofs.numbers.load32.Reads as reads
+use Rattle.tactics.proofs.numbers.load32.Lts as lts
 use Rattle.words.proofs.load16.Reads as load16-reads
 
 load16-requires : tie.Need-load16-requires

@@ -1,12 +1,12 @@
--- `store32` meets its contract: the high and the low half are stored.
+-- `numbers::store32` meets its contract: the high and the low half are stored.
 -- Assumes nothing.
-use Rattle.frames.specs.Frames.{putLong}
+use Rattle.tactics.specs.Numbers.{putLong}
 use native.Mathlib.Omega.{arith}
 use borrow.Author.Needs.{needs}
-use Rattle.frames.proofs.store32.Statement.{statement}
-use Rattle.frames.proofs.store32.Tie as tie
-use Rattle.frames.proofs.store32.Reads as reads
-use Rattle.frames.proofs.store32.Lts as lts
+use Rattle.tactics.proofs.numbers.store32.Statement.{statement}
+use Rattle.tactics.proofs.numbers.store32.Tie as tie
+use Rattle.tactics.proofs.numbers.store32.Reads as reads
+use Rattle.tactics.proofs.numbers.store32.Lts as lts
 use Rattle.words.proofs.store16.Reads as store16-reads
 
 cast-store16 : tie.Need-cast-store16

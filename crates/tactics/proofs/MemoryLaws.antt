@@ -13,7 +13,7 @@ use Rattle.format.specs.Goals.{goalsAt}
 use Rattle.format.specs.Terms.{Term, atomic, id, label, sequence, tensor, empty, alternation, assert, defined, size}
 use Rattle.format.specs.Standing.{Head, Stands}
 use Rattle.format.proofs.GoalsAt.{goals-shift}
-use Rattle.frames.specs.Memory.{Same, Only}
+use Rattle.tactics.specs.Memory.{Same, Only}
 
 pub only-nothing : (a b : ℕ) (w : List ℕ) → Only a b w w
 only-nothing a b w = record { same-length = refl; kept = record { below = λ i h. refl; above = λ i h. refl } }

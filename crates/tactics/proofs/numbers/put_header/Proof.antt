@@ -1,12 +1,12 @@
--- `put_header` meets its contract: length, then tag.
+-- `numbers::put_header` meets its contract: length, then tag.
 -- Assumes nothing.
-use Rattle.frames.specs.Frames.{putHeader}
+use Rattle.tactics.specs.Numbers.{putHeader}
 use native.Mathlib.Omega.{arith}
 use borrow.Author.Needs.{needs}
-use Rattle.frames.proofs.put_header.Statement.{statement}
-use Rattle.frames.proofs.put_header.Tie as tie
-use Rattle.frames.proofs.put_header.Reads as reads
-use Rattle.frames.proofs.put_header.Lts as lts
+use Rattle.tactics.proofs.numbers.put_header.Statement.{statement}
+use Rattle.tactics.proofs.numbers.put_header.Tie as tie
+use Rattle.tactics.proofs.numbers.put_header.Reads as reads
+use Rattle.tactics.proofs.numbers.put_header.Lts as lts
 use Rattle.words.proofs.store16.Reads as store16-reads
 
 add-store16 : tie.Need-add-store16

@@ -1,0 +1,16 @@
+-- Values of 32 bits and headers of fields in work space.
+use Prim.Native.Nat.{ℕ, _+_, _*_, _/_, _%_}
+use mathlib.Core.List.{List}
+use lib.ListN.{set}
+use Rattle.words.specs.Word.{word, putWord}
+
+-- a value of 32 bits, high byte first
+unfoldable pub long : List ℕ → (at : ℕ) → ℕ
+long w at = word w at * 65536 + word w (at + 2)
+
+unfoldable pub putLong : List ℕ → (at value : ℕ) → List ℕ
+putLong w at v = putWord (putWord w at (v / 65536)) (at + 2) (v % 65536)
+
+-- a field's header
+unfoldable pub putHeader : List ℕ → (at tag len : ℕ) → List ℕ
+putHeader w at tag len = set (putWord w (at + 1) len) at tag
