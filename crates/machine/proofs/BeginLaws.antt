@@ -1,81 +1,38 @@
 -- One term begun: a law for each form but atomic terms, tensors and defined tactics. A form that fails writes nothing; one that ends leaves its field; one
 -- that enters an inner term lays a frame on the others.
 -- Assumes nothing.
-use Prim.Native.Nat.{ℕ, zero, suc, _+_, _-_, _≤_}
+use Prim.Native.Nat.{ℕ, _+_, _-_, _≤_}
 use mathlib.Core.Path.{_≡_, refl, sym, ap, subst, _∙_}
 use mathlib.Core.List.{List, _∷_}
-use mathlib.Core.Option.{Option, none, some}
+use mathlib.Core.Option.{Option, some}
 use native.Mathlib.Omega.{arith}
 use lib.ListN.{length, getD}
-use borrow.Author.Tests.{eq-eqb, ne-eqb}
 use Rattle.words.specs.Word.{word, putWord}
 use Rattle.words.proofs.WordLaws.{word-same}
 use Rattle.format.specs.declared.values.Goal.{Goal}
 use Rattle.format.specs.declared.values.Label.{Label}
-use Rattle.format.specs.Goals.{goalsAt}
 use Rattle.format.specs.Terms.{Term, id, label, sequence, empty, alternation, assert, size}
 use Rattle.format.specs.Standing.{Head, Stands}
 use Rattle.tables.specs.Tables.{Table}
-use Rattle.tables.specs.Lookup.{matches}
 use Rattle.hitac.specs.Outcomes as outcome
-use Rattle.hitac.specs.Outcomes.{proved, onOne, oneGoal, noGoal, assertGives, finished}
+use Rattle.hitac.specs.Outcomes.{proved, oneGoal, noGoal, assertGives, finished}
 use Rattle.hitac.specs.Machine as M
 use Rattle.hitac.specs.Machine.{labelled, sequenceLeft, alternationLeft}
 use Rattle.arities.specs.Layout.{framesEnd}
 use Rattle.tactics.specs.Memory.{Only}
 use Rattle.tactics.specs.Numbers.{putHeader}
 use Rattle.tactics.proofs.MemoryLaws.{only-then, only-wider, only-word, same-word}
+use Rattle.tactics.proofs.FormLaws.{not-one-at, same-one, none-at, not-none-at, assert-at, assert-not-at, by-none, by-same}
 use Rattle.tactics.proofs.NumberLaws.{only-header, header-tag, header-head}
+use Rattle.tactics.specs.Source.{source}
 use Rattle.frames.specs.declared.Frame.{Frame}
 use Rattle.frames.specs.Frames.{frameAt, putFrame}
 use Rattle.frames.proofs.FrameLaws.{only-frame, frame-same}
 use Rattle.machine.specs.declared.state.State.{State}
-use Rattle.machine.specs.Shows.{source, GoalsIs, FrameIs, FramesAt, frameAside, setAside, Sizes, Runs, Ends, Config, next, done, Holds}
+use Rattle.machine.specs.Shows.{GoalsIs, FrameIs, FramesAt, frameAside, setAside, Sizes, Runs, Ends, Config, next, done, Holds}
 use Rattle.machine.specs.Begun.{enter, Room, Begins, failed, kept, entered, idNext, emptyNext, assertNext, sequenceNext, alternationNext, labelNext, sequenceFrame, alternationFrame, labelFrame}
 use Rattle.machine.specs.Step.{Grown}
 use Rattle.machine.proofs.KeepLaws.{kept-output, kept-behind, goals-kept, frames-kept}
-
--- what the forms on one goal and on none give for the goals in bytes
-module _ (w : List ℕ) (at : ℕ) where
-  pub one-at : (f : Goal → Option (List Goal)) (γ : Goal) (n : ℕ) → n ≡ 1 → γ .0 ≡ word w at → onOne f (goalsAt w at n) ≡ f γ
-  unfolding goalsAt
-  one-at f γ zero e q = absurd (omega arith)
-  one-at f γ (suc zero) e q = ap f (λ i. record { 0 = sym q i })
-  one-at f γ (suc (suc n)) e q = absurd (omega arith)
-
-  pub not-one-at : (f : Goal → Option (List Goal)) (n : ℕ) → (n ≡ 1 → ⊥) → onOne f (goalsAt w at n) ≡ none
-  unfolding goalsAt
-  not-one-at f zero e = refl
-  not-one-at f (suc zero) e = absurd (e refl)
-  not-one-at f (suc (suc n)) e = refl
-
-  same-one : (n : ℕ) → n ≡ 1 → oneGoal (goalsAt w at n) ≡ some (goalsAt w at n)
-  unfolding goalsAt
-  same-one zero e = absurd (omega arith)
-  same-one (suc zero) e = refl
-  same-one (suc (suc n)) e = absurd (omega arith)
-
-  none-at : (n : ℕ) → n ≡ 0 → noGoal (goalsAt w at n) ≡ some (goalsAt w at n)
-  unfolding goalsAt
-  none-at zero e = refl
-  none-at (suc n) e = absurd (omega arith)
-
-  not-none-at : (n : ℕ) → (n ≡ 0 → ⊥) → noGoal (goalsAt w at n) ≡ none
-  unfolding goalsAt
-  not-none-at zero e = absurd (e refl)
-  not-none-at (suc n) e = refl
-
-  assert-at : (T : Table) (γ : Goal) (n : ℕ) → n ≡ 1 → word w at ≡ γ .0 → assertGives T γ (goalsAt w at n) ≡ some (goalsAt w at n)
-  unfolding goalsAt matches
-  assert-at T γ zero e q = absurd (omega arith)
-  assert-at T γ (suc zero) e q = rw (eq-eqb (γ .0) (word w at) (sym q))
-  assert-at T γ (suc (suc n)) e q = absurd (omega arith)
-
-  assert-not-at : (T : Table) (γ : Goal) (n : ℕ) → (word w at ≡ γ .0 → ⊥) → assertGives T γ (goalsAt w at n) ≡ none
-  unfolding goalsAt matches
-  assert-not-at T γ zero q = refl
-  assert-not-at T γ (suc zero) q = rw (ne-eqb (γ .0) (word w at) (λ e. q (sym e)))
-  assert-not-at T γ (suc (suc n)) q = refl
 
 -- a frame laid on the others
 pushed : (table job w : List ℕ) (arena top o o′ : ℕ) (f : Frame) (x : M.Frame) (k : List M.Frame)
@@ -169,48 +126,39 @@ module _ (w : List ℕ) (s : State) (room : Room w s) where
   unfolding size
   three-empty = refl
 
-  -- what a form gives, by the goals in bytes
-  by-goals : (p : Term) (o : List Goal → Option (List Goal)) (k : List M.Frame) (g : List Goal) → GoalsIs w (s .arena) (s .start) (s .count) g
-      → o (goalsAt w (s .start) (s .count)) ≡ some (goalsAt w (s .start) (s .count)) → done (finished p (o g)) k ≡ done (proved p g) k
-  by-goals p o k g h e = ap (λ (x : Option (List Goal)). done (finished p x) k) (subst (λ (x : List Goal). o x ≡ some x) (h .are) e)
-
-  pub by-none : {A : Type 0} (o : List Goal → Option A) (f : Option A → Config) (g : List Goal) → GoalsIs w (s .arena) (s .start) (s .count) g
-      → o (goalsAt w (s .start) (s .count)) ≡ none → f (o g) ≡ f none
-  by-none o f g h e = ap f (subst (λ (x : List Goal). o x ≡ none) (h .are) e)
-
   pub id-fails : (r : State) → (s .count ≡ 1 → ⊥) → r ≡ failed s → Begins w s w r id idNext × Grown w s w r
-  id-fails r n q = (fail-begins id idNext (λ g k h. by-none oneGoal (λ o. done (finished id o) k) g h (not-one-at w (s .start) _ (s .count) n)) r q, fail-grown r q)
+  id-fails r n q = (fail-begins id idNext (λ g k h. by-none w (s .start) (s .count) oneGoal (λ o. done (finished id o) k) g (h .are) (not-one-at w (s .start) _ (s .count) n)) r q, fail-grown r q)
 
   pub id-keeps : (v : List ℕ) (r : State) → s .count ≡ 1 → v ≡ putHeader w (s .out) 17 0 → r ≡ kept s → Begins w s v r id idNext × Grown w s v r
   id-keeps v r n q₁ q₂ =
-      (keep-begins 17 id id idNext stands-id three-id (λ g k h. by-goals id oneGoal k g h (same-one w (s .start) (s .count) n)) v r q₁ q₂, keep-grown 17 v r q₁ q₂)
+      (keep-begins 17 id id idNext stands-id three-id (λ g k h. by-same w (s .start) (s .count) oneGoal (λ o. done (finished id o) k) g (h .are) (same-one w (s .start) (s .count) n)) v r q₁ q₂, keep-grown 17 v r q₁ q₂)
 
   pub empty-fails : (r : State) → (s .count ≡ 0 → ⊥) → r ≡ failed s → Begins w s w r empty emptyNext × Grown w s w r
-  empty-fails r n q = (fail-begins empty emptyNext (λ g k h. by-none noGoal (λ o. done (finished empty o) k) g h (not-none-at w (s .start) (s .count) n)) r q, fail-grown r q)
+  empty-fails r n q = (fail-begins empty emptyNext (λ g k h. by-none w (s .start) (s .count) noGoal (λ o. done (finished empty o) k) g (h .are) (not-none-at w (s .start) (s .count) n)) r q, fail-grown r q)
 
   pub empty-keeps : (v : List ℕ) (r : State) → s .count ≡ 0 → v ≡ putHeader w (s .out) 21 0 → r ≡ kept s → Begins w s v r empty emptyNext × Grown w s v r
   empty-keeps v r n q₁ q₂ =
-      (keep-begins 21 empty empty emptyNext stands-empty three-empty (λ g k h. by-goals empty noGoal k g h (none-at w (s .start) (s .count) n)) v r q₁ q₂, keep-grown 21 v r q₁ q₂)
+      (keep-begins 21 empty empty emptyNext stands-empty three-empty (λ g k h. by-same w (s .start) (s .count) noGoal (λ o. done (finished empty o) k) g (h .are) (none-at w (s .start) (s .count) n)) v r q₁ q₂, keep-grown 21 v r q₁ q₂)
 
   abbrev Asserts : ℕ → List ℕ → State → Type 0
   Asserts value v r = ((T : Table) (γ : Goal) → value ≡ γ .0 → Begins w s v r (assert γ) (assertNext T γ)) × Grown w s v r
 
   pub assert-many-end : (value : ℕ) (r : State) → (s .count ≡ 1 → ⊥) → r ≡ failed s → Asserts value w r
   assert-many-end value r n q = (
-    λ T γ e. fail-begins (assert γ) (assertNext T γ) (λ g k h. by-none (assertGives T γ) (λ o. done (finished id o) k) g h (not-one-at w (s .start) _ (s .count) n)) r q,
+    λ T γ e. fail-begins (assert γ) (assertNext T γ) (λ g k h. by-none w (s .start) (s .count) (assertGives T γ) (λ o. done (finished id o) k) g (h .are) (not-one-at w (s .start) _ (s .count) n)) r q,
     fail-grown r q,
   )
 
   pub assert-other-end : (value : ℕ) (r : State) → (word w (s .start) ≡ value → ⊥) → r ≡ failed s → Asserts value w r
   assert-other-end value r n q = (
     λ T γ e. fail-begins (assert γ) (assertNext T γ)
-        (λ g k h. by-none (assertGives T γ) (λ o. done (finished id o) k) g h (assert-not-at w (s .start) T γ (s .count) (λ i. n (i ∙ sym e)))) r q,
+        (λ g k h. by-none w (s .start) (s .count) (assertGives T γ) (λ o. done (finished id o) k) g (h .are) (assert-not-at w (s .start) T γ (s .count) (λ i. n (i ∙ sym e)))) r q,
     fail-grown r q,
   )
 
   pub assert-end : (value : ℕ) (v : List ℕ) (r : State) → s .count ≡ 1 → word w (s .start) ≡ value → v ≡ putHeader w (s .out) 17 0 → r ≡ kept s → Asserts value v r
   assert-end value v r n i q₁ q₂ = (
-    λ T γ e. keep-begins 17 id (assert γ) (assertNext T γ) stands-id three-id (λ g k h. by-goals id (assertGives T γ) k g h (assert-at w (s .start) T γ (s .count) n (i ∙ e))) v r q₁ q₂,
+    λ T γ e. keep-begins 17 id (assert γ) (assertNext T γ) stands-id three-id (λ g k h. by-same w (s .start) (s .count) (assertGives T γ) (λ o. done (finished id o) k) g (h .are) (assert-at w (s .start) T γ (s .count) n (i ∙ e))) v r q₁ q₂,
     keep-grown 17 v r q₁ q₂,
   )
 
@@ -298,7 +246,7 @@ module _ (w : List ℕ) (s : State) (room : Room w s) where
   pub label-fails : (value : ℕ) (r : State) → (s .count ≡ 1 → ⊥) → r ≡ failed s → Labels value w r
   label-fails value r n q = (
     λ l t e. fail-begins (label l t) (labelNext l t)
-        (λ g k h. by-none oneGoal (λ o. enter o k (λ x. next t x (labelled l ∷ k))) g h (not-one-at w (s .start) _ (s .count) n)) r q,
+        (λ g k h. by-none w (s .start) (s .count) oneGoal (λ o. enter o k (λ x. next t x (labelled l ∷ k))) g (h .are) (not-one-at w (s .start) _ (s .count) n)) r q,
     fail-grown r q,
   )
 

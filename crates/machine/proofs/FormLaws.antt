@@ -24,9 +24,8 @@ use Rattle.tables.specs.declared.lookup.RuleFound.the-variants as R
 use Rattle.tables.specs.declared.lookup.BodyFound.{BodyFound}
 use Rattle.tables.specs.declared.lookup.BodyFound.the-variants as B
 use Rattle.tables.specs.Tables.{Table}
-use Rattle.tables.specs.Lookup.{findRule, findBody}
 use Rattle.tables.specs.Standing.{TableStands}
-use Rattle.tables.specs.Found.{ruleFound, FindsRule, FoundInside, BodyStands, FindsBody}
+use Rattle.tables.specs.Found.{ruleFound, FindsRule, BodyStands, FindsBody}
 use Rattle.hitac.specs.Outcomes.{splitAt, finished, foundPremises, ruleGives}
 use Rattle.hitac.specs.Machine.{tensorLeft}
 use Rattle.arities.specs.Layout.{outputEnd}
@@ -34,14 +33,17 @@ use Rattle.arities.specs.Arities.{arityCode}
 use Rattle.tactics.specs.Memory.{Same, Only}
 use Rattle.tactics.specs.Numbers.{putHeader}
 use Rattle.tactics.proofs.MemoryLaws.{only-then, only-wider, only-word, only-copy, same-word, same-head}
+use Rattle.tactics.proofs.FormLaws.{not-one-at, by-none}
+use Rattle.tactics.proofs.FoundLaws.{rule-gives, body-stands}
 use Rattle.tactics.proofs.NumberLaws.{only-header, header-tag, header-head}
+use Rattle.tactics.specs.Source.{source}
 use Rattle.frames.specs.Frames.{putFrame}
 use Rattle.machine.specs.declared.state.State.{State}
-use Rattle.machine.specs.Shows.{source, GoalsIs, FrameIs, Ends, Config, next, done, Holds}
+use Rattle.machine.specs.Shows.{GoalsIs, FrameIs, Ends, Config, next, done, Holds}
 use Rattle.machine.specs.Begun.{enter, Room, Begins, BeginsIn, failed, entered, tensorNext, tensorFrame, atomicNext, ruleNext, used, definedNext, unfolded}
 use Rattle.machine.specs.Step.{Grown}
 use Rattle.machine.proofs.KeepLaws.{kept-behind, frames-kept}
-use Rattle.machine.proofs.BeginLaws.{one-at, not-one-at, fail-holds, fail-begins, fail-grown, by-none, goals-stay, frames-stay, beyond-output, only-push, goals-under, push-here, enter-grown, enter-sizes}
+use Rattle.machine.proofs.BeginLaws.{fail-holds, fail-begins, fail-grown, goals-stay, frames-stay, beyond-output, only-push, goals-under, push-here, enter-grown, enter-sizes}
 
 -- the number that stands for an arity
 code-none : (o : Option ℕ) (n : ℕ) → n ≡ arityCode o → n ≡ 0 → o ≡ none
@@ -165,38 +167,25 @@ module _ (w : List ℕ) (s : State) (room : Room w s) where
 
     pub rule-fails : (r : State) → (s .count ≡ 1 → ⊥) → r ≡ failed s → UsesRule w r
     rule-fails r c q = (
-      λ T a st e. fail-begins w s room (atomic a) (ruleNext T a) (λ g k h. by-none w s room (ruleGives T a) (λ o. done (finished (atomic a) o) k) g h (not-one-at w (s .start) _ (s .count) c)) r q,
+      λ T a st e. fail-begins w s room (atomic a) (ruleNext T a) (λ g k h. by-none w (s .start) (s .count) (ruleGives T a) (λ o. done (finished (atomic a) o) k) g (h .are) (not-one-at w (s .start) _ (s .count) c)) r q,
       fail-grown w s room r q,
     )
 
     module _ (goal : Goal) (o : RuleFound) (c : s .count ≡ 1) (e : goal .0 ≡ word w (s .start)) (f : FindsRule bytes first name goal o) where
-      -- what the look-up found is what the rule gives
-      gives-found : (T : Table) (a : RuleName) (g : List Goal) → TableStands bytes first T → name .0 ≡ a .0 → GoalsIs w (s .arena) (s .start) (s .count) g
-          → ruleGives T a g ≡ foundPremises (ruleFound bytes o)
-      gives-found T a g st i h =
-          let same : name ≡ a = λ j. record { 0 = i j } in
-          subst (λ (x : List Goal). ruleGives T a x ≡ foundPremises (ruleFound bytes o)) (h .are)
-          (one-at w (s .start) (λ γ. foundPremises (findRule T a γ)) goal (s .count) c e
-          ∙ subst (λ (x : RuleName). foundPremises (findRule T x goal) ≡ foundPremises (ruleFound bytes o)) same (ap foundPremises (f .found T st)))
-
       pub rule-missing : (r : State) → o ≡ R.Missing → r ≡ failed s → UsesRule w r
       unfolding ruleFound
       rule-missing r m q = (
         λ T a st i. fail-begins w s room (atomic a) (ruleNext T a)
-            (λ g k h. ap (λ (x : Option (List Goal)). done (finished (atomic a) x) k) (gives-found T a g st i h ∙ ap (λ (x : RuleFound). foundPremises (ruleFound bytes x)) m)) r q,
+            (λ g k h. ap (λ (x : Option (List Goal)). done (finished (atomic a) x) k) (rule-gives bytes first name goal o f w (s .start) (s .count) c e T a g st i (h .are) ∙ ap (λ (x : RuleFound). foundPremises (ruleFound bytes x)) m)) r q,
         fail-grown w s room r q,
       )
 
       module _ (place n : ℕ) (m : o ≡ R.Premises place n) where
-        pub rule-inside : (n ≤ 8) × (place + n * 2 ≤ length bytes)
-        unfolding FoundInside
-        rule-inside = subst (λ (x : RuleFound). FoundInside bytes x) m (f .inside)
-
         pub rule-used : (v : List ℕ) (r : State) → ((a : RuleName) → name .0 ≡ a .0 → Begins w s v r (atomic a) (atomicNext a (some (goalsAt bytes place n)))) → Grown w s v r → UsesRule v r
         unfolding ruleFound
         rule-used v r b gr = (
           λ T a st i table job g k h. subst (λ (x : Option (List Goal)). Holds table job v r (done (finished (atomic a) x) k))
-              (sym (gives-found T a g st i (h .goals) ∙ ap (λ (x : RuleFound). foundPremises (ruleFound bytes x)) m)) (b a i table job g k h),
+              (sym (rule-gives bytes first name goal o f w (s .start) (s .count) c e T a g st i (h .goals .are) ∙ ap (λ (x : RuleFound). foundPremises (ruleFound bytes x)) m)) (b a i table job g k h),
           gr,
         )
 
@@ -205,15 +194,10 @@ module _ (w : List ℕ) (s : State) (room : Room w s) where
     abbrev Unfolds : State → Type 0
     Unfolds r = ((T : Table) (d : TacticNo) (job : List ℕ) → TableStands bytes first T → number .0 ≡ d .0 → BeginsIn bytes job w s w r (defined d) (definedNext T d)) × Grown w s w r
 
-    body-of : (T : Table) (d : TacticNo) (x : BodyFound) → TableStands bytes first T → number .0 ≡ d .0 → o ≡ x → BodyStands bytes x (findBody T d)
-    body-of T d x st i m =
-        let same : number ≡ d = λ j. record { 0 = i j } in
-        subst (λ (y : BodyFound). BodyStands bytes y (findBody T d)) m (subst (λ (y : TacticNo). BodyStands bytes o (findBody T y)) same (f T st))
-
     pub body-missing : (r : State) → o ≡ B.Missing → r ≡ failed s → Unfolds r
     unfolding BodyStands
     body-missing r m q = (
-      λ T d job st i g k h. subst (λ (x : Option Term). Holds bytes job w r (enter x k (λ t. next t g k))) (sym (body-of T d B.Missing st i m)) (fail-holds w s room bytes job (defined d) g k r q h),
+      λ T d job st i g k h. subst (λ (x : Option Term). Holds bytes job w r (enter x k (λ t. next t g k))) (sym (body-stands bytes first number o f T d B.Missing st i m)) (fail-holds w s room bytes job (defined d) g k r q h),
       fail-grown w s room r q,
     )
 
@@ -221,7 +205,7 @@ module _ (w : List ℕ) (s : State) (room : Room w s) where
     unfolding BodyStands Holds
     body-found place m = (
       λ T d job st i g k h.
-          let b = body-of T d (B.At place) st i m in
+          let b = body-stands bytes first number o f T d (B.At place) st i m in
           subst (λ (x : Option Term). Holds bytes job w (unfolded s place) (enter x k (λ t. next t g k))) (sym (b .1))
           (record {
             mode-is = refl;

@@ -19,12 +19,13 @@ use Rattle.hitac.specs.Machine as M
 use Rattle.hitac.specs.Machine.{tensorRight}
 use Rattle.arities.specs.Layout.{outputEnd, goalsEnd, framesEnd}
 use Rattle.tactics.specs.Memory.{Only}
+use Rattle.tactics.specs.Goals.{Gathered}
 use Rattle.tactics.proofs.MemoryLaws.{only-word, same-term, same-goals}
 use Rattle.frames.specs.declared.Frame.{Frame}
 use Rattle.frames.specs.Frames.{frameAt}
 use Rattle.machine.specs.declared.state.State.{State}
 use Rattle.machine.specs.Shows.{GoalsIs, FrameIs, FramesAt, setAside, Proved, Ends, Holds}
-use Rattle.machine.specs.Popping.{pop, Fits, Smaller, Waiting, Popped, joined, overflowed, Gathered}
+use Rattle.machine.specs.Popping.{pop, Fits, Smaller, Waiting, Popped, joined, overflowed}
 use Rattle.machine.proofs.KeepLaws.{kept-output, kept-behind, frames-kept}
 use Rattle.machine.proofs.WaitingLaws.{by-kind, if-proved, waiting-fits, innermost}
 

@@ -2,7 +2,6 @@ pub mod KeepLaws
 pub mod WaitingLaws
 pub mod PopLaws
 pub mod TurnLaws
-pub mod GatherLaws
 pub mod JoinLaws
 pub mod UnwindLaws
 pub mod BeginLaws

@@ -1,13 +1,11 @@
 -- A step: the term that stands there is begun as its form asks, by its tag, and then the frames are unwound.
 -- Assumes nothing.
 use Prim.Native.Nat.{ℕ, _+_, _≤_, _<_}
-use mathlib.Core.Path.{_≡_, refl, sym, ap, subst, _∙_}
-use mathlib.Core.Bool.{Bool, cond}
+use mathlib.Core.Path.{_≡_, refl, sym, subst, _∙_}
 use mathlib.Core.List.{List}
 use mathlib.Core.Option.{Option, none, some}
 use native.Mathlib.Omega.{arith}
 use lib.ListN.{length, getD}
-use borrow.Author.Tests.{eq-eqb, ne-eqb}
 use Rattle.words.specs.Word.{word}
 use Rattle.format.specs.declared.values.RuleName.{RuleName}
 use Rattle.format.specs.declared.values.Goal.{Goal}
@@ -26,8 +24,10 @@ use Rattle.hitac.specs.Machine as M
 use Rattle.hitac.specs.Machine.{enterOrFail}
 use Rattle.arities.specs.Arities.{arityCode, ArityTable, arities, Pair}
 use Rattle.arities.proofs.ArityLaws.{Inner, pair-of}
+use Rattle.tactics.specs.Source.{source}
+use Rattle.tactics.proofs.SourceLaws.{in-file}
 use Rattle.machine.specs.declared.state.State.{State}
-use Rattle.machine.specs.Shows.{source, GoalsIs, Runs, Config, Holds, Shows}
+use Rattle.machine.specs.Shows.{GoalsIs, Runs, Config, Holds, Shows}
 use Rattle.machine.specs.Popping.{settle, Fewer, Unwinding, Unwound}
 use Rattle.machine.specs.Begun.{enter, begun, Room, Begins, BeginsIn, idNext, emptyNext, assertNext, sequenceNext, alternationNext, labelNext, tensorNext, ruleNext, definedNext}
 use Rattle.machine.specs.Step.{Grown, Given, BeginsAny, PairStands, BeginsPair, Stepped}
@@ -51,34 +51,6 @@ settle-begun T empty g k = refl
 settle-begun T (alternation t u) g k = refl
 settle-begun T (assert γ) g k = refl
 settle-begun T (defined d) g k = settle-enter (findBody T d) k _
-
--- a term that is neither id nor empty has five bytes
-five : (t : Term) (src : List ℕ) (at : ℕ) → Stands src at t → (tagOf t ≡ 17 → ⊥) → (tagOf t ≡ 21 → ⊥) → 5 ≤ size t
-unfolding size tagOf Stands
-five (atomic a) src at st x y = omega arith
-five id src at st x y = absurd (x refl)
-five (label l t) src at st x y = omega arith
-five (sequence t u) src at st x y = omega (arith, known src (at + 3) t (st .1) .three)
-five (tensor t u) src at st x y = omega (arith, known src (at + 3) t (st .1) .three)
-five empty src at st x y = absurd (y refl)
-five (alternation t u) src at st x y = omega (arith, known src (at + 3) t (st .1) .three)
-five (assert γ) src at st x y = omega arith
-five (defined d) src at st x y = omega arith
-
-pub value-room : (src : List ℕ) (at : ℕ) (t : Term) → Stands src at t → (getD src at 0 ≡ 17 → ⊥) → (getD src at 0 ≡ 21 → ⊥) → at + 5 ≤ length src
-value-room src at t st a b =
-    let k = known src at t st in
-    omega (arith, k .inside, five t src at st (λ e. a (k .tag-is ∙ e)) (λ e. b (k .tag-is ∙ e)))
-
--- the file that a term stands in
-in-file : (bytes job src : List ℕ) (file at : ℕ) (t : Term) → source bytes job file ≡ src → Stands (source bytes job file) at t → Stands src at t
-in-file bytes job src file at t so st = subst (λ (b : List ℕ). Stands b at t) so st
-
-pub from-table : (bytes job : List ℕ) (file : ℕ) → file ≡ 0 → source bytes job file ≡ bytes
-from-table bytes job file e = ap (λ (b : Bool). cond b bytes job) (eq-eqb file 0 e)
-
-pub from-job : (bytes job : List ℕ) (file : ℕ) → (file ≡ 0 → ⊥) → source bytes job file ≡ job
-from-job bytes job file e = ap (λ (b : Bool). cond b bytes job) (ne-eqb file 0 e)
 
 module _ (bytes : List ℕ) (first : ℕ) (src w : List ℕ) (s : State) where
   -- what is given

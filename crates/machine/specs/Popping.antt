@@ -1,15 +1,13 @@
 -- One frame taken off, and frames taken off until a term is to begin or none waits: what hitac's machine does, and what the code does.
 use Prim.Native.Nat.{ℕ, _+_, _*_, _≤_, _<_}
 use mathlib.Core.Path.{_≡_}
-use mathlib.Core.List.{List, _∷_, _++_}
+use mathlib.Core.List.{List, _∷_}
 use lib.ListN.{length, getD}
 use Rattle.format.specs.Limits.{mostSteps}
-use Rattle.format.specs.Goals.{goalsAt}
 use Rattle.hitac.specs.Outcomes.{Ending, proved, failed, ended, inLabel, afterLeft, besideLeft}
 use Rattle.hitac.specs.Machine as M
 use Rattle.hitac.specs.Machine.{labelled, sequenceLeft, sequenceRight, tensorLeft, tensorRight, alternationLeft, running, unwind}
 use Rattle.arities.specs.Layout.{outputEnd, goalsEnd, framesEnd, spaceEnd}
-use Rattle.tactics.specs.Memory.{Only}
 use Rattle.frames.specs.declared.Frame.{Frame}
 use Rattle.machine.specs.declared.state.State.{State}
 use Rattle.machine.specs.Shows.{Config, next, done, Ends, Holds, Shows}
@@ -109,8 +107,3 @@ joined s f = record { mode = 1; file = s .file; at = s .at; start = s .arena; co
 -- too many goals
 abbrev pub overflowed : State → State
 overflowed s = record { mode = 3; file = s .file; at = s .at; start = s .start; count = s .count; top = s .top + 14; arena = s .arena; out = s .out; steps = s .steps }
-
--- the goals of two lists lie behind one another, and nothing else was written
-pub record Gathered (w v : List ℕ) (to from₁ n₁ from₂ n₂ : ℕ) : Type 0 where
-  pub only : Only to (to + (n₁ + n₂) * 2) w v
-  pub goals : goalsAt v to (n₁ + n₂) ≡ goalsAt w from₁ n₁ ++ goalsAt w from₂ n₂

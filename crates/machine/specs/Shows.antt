@@ -1,9 +1,7 @@
 -- What the code's state and its work space stand for: a state of hitac's machine.
 use Prim.Native.Nat.{ℕ, _+_, _*_, _≤_}
 use mathlib.Core.Path.{_≡_}
-use mathlib.Core.Bool.{cond}
 use mathlib.Core.List.{List, [], _∷_}
-use lib.Dec.{eqb}
 use lib.ListN.{getD}
 use Rattle.words.specs.Word.{word}
 use Rattle.format.specs.declared.values.Goal.{Goal}
@@ -15,13 +13,10 @@ use Rattle.hitac.specs.Outcomes.{Ending, proved, failed, ended}
 use Rattle.hitac.specs.Machine as M
 use Rattle.hitac.specs.Machine.{labelled, sequenceLeft, sequenceRight, tensorLeft, tensorRight, alternationLeft, running, stopped}
 use Rattle.arities.specs.Layout.{outputEnd, framesEnd}
+use Rattle.tactics.specs.Source.{source}
 use Rattle.frames.specs.declared.Frame.{Frame}
 use Rattle.frames.specs.Frames.{frameAt}
 use Rattle.machine.specs.declared.state.State.{State}
-
--- the file that a term stands in
-abbrev pub source : (table job : List ℕ) → (file : ℕ) → List ℕ
-source table job file = cond (eqb file 0) table job
 
 -- a list of goals lies in the part of the goals that is in use
 pub record GoalsIs (w : List ℕ) (arena start count : ℕ) (g : List Goal) : Type 0 where

@@ -11,8 +11,9 @@ use Rattle.tables.specs.Standing.{TableStands}
 use Rattle.hitac.specs.Machine as M
 use Rattle.arities.specs.Layout.{framesEnd, spaceEnd}
 use Rattle.arities.specs.Arities.{ArityTable, arities}
+use Rattle.tactics.specs.Source.{source}
 use Rattle.machine.specs.declared.state.State.{State}
-use Rattle.machine.specs.Shows.{source, Runs, Holds, Shows}
+use Rattle.machine.specs.Shows.{Runs, Holds, Shows}
 use Rattle.machine.specs.Begun.{begun, Room}
 
 -- after a term was begun: the arities are the same, and one step was counted

@@ -1,7 +1,7 @@
 // The machine's control state, and its step.
 ghost use mathlib.Core.Path.{_≡_};
 ghost use Prim.Native.Nat.{_+_};
-ghost use Rattle.machine.specs.Shows.{source};
+ghost use Rattle.tactics.specs.Source.{source};
 ghost use Rattle.machine.specs.Step.{Given, Stepped, Grown};
 
 // How a state stands: a term is to begin; or the last one ended with a proof, failed, or ended the run (22).

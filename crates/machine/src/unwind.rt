@@ -1,10 +1,9 @@
 // From the end of a term to the next term to begin, or to the end of the run: one function for each kind of term that waits.
 ghost use mathlib.Core.Path.{_≡_};
-ghost use Prim.Native.Nat.{_+_, _*_, _≤_};
-ghost use lib.ListN.{length};
-ghost use Rattle.arities.specs.Layout.{goalsEnd, framesEnd};
+ghost use Prim.Native.Nat.{_+_, _≤_};
+ghost use Rattle.arities.specs.Layout.{framesEnd};
 ghost use Rattle.frames.specs.Frames.{frameAt};
-ghost use Rattle.machine.specs.Popping.{Gathered, Waiting, Popped, Smaller, Unwinding, Unwound, Fewer, leave, overflowed};
+ghost use Rattle.machine.specs.Popping.{Waiting, Popped, Smaller, Unwinding, Unwound, Fewer, leave, overflowed};
 use crate::state::ENDED;
 use crate::state::FAILED;
 use crate::state::PROVED;
@@ -19,17 +18,8 @@ use frames::TENSOR_LEFT;
 use frames::TENSOR_RIGHT;
 use frames::load_frame;
 use frames::store_frame;
-use words::move_up;
+use tactics::goals::gather;
 use words::store16;
-
-// Two lists of goals copied behind one another.
-fn gather(work: &mut [u8], to: usize, first: usize, n: usize, second: usize, m: usize)
-    requires { ⌜ (first + n * 2 ≤ to) × (second + m * 2 ≤ to) × (n + m ≤ 256) × (to + (n + m) * 2 ≤ length (now work)) × (to ≤ goalsEnd) ⌝ }
-    ensures { λ _. ⌜ Gathered (now (work .entry)) (now (work .exit)) to first n second m ⌝ }
-{
-    move_up(work, first, to, n * 2);
-    move_up(work, second, to + n * 2, m * 2);
-}
 
 impl State {
     // The same without its first frame.

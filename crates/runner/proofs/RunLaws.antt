@@ -20,8 +20,9 @@ use Rattle.hitac.proofs.RunLaws.{run-stopped}
 use Rattle.arities.specs.Layout.{framesEnd}
 use Rattle.arities.specs.Arities.{ArityTable, arities}
 use Rattle.tactics.proofs.MemoryLaws.{same-word}
+use Rattle.tactics.specs.Source.{source}
 use Rattle.machine.specs.declared.state.State.{State}
-use Rattle.machine.specs.Shows.{source, Runs, Ends, Shows}
+use Rattle.machine.specs.Shows.{Runs, Ends, Shows}
 use Rattle.machine.specs.Step.{Grown, Given, Stepped}
 use Rattle.machine.proofs.UnwindLaws.{not-running}
 use Rattle.runner.specs.Run.{ShowsState, Started, Ran}

@@ -1,2 +1,6 @@
 pub mod MemoryLaws
 pub mod NumberLaws
+pub mod GoalLaws
+pub mod FormLaws
+pub mod FoundLaws
+pub mod SourceLaws

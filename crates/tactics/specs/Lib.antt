@@ -1,2 +1,4 @@
 pub mod Memory
 pub mod Numbers
+pub mod Goals
+pub mod Source

@@ -2,7 +2,8 @@
 -- Assumes nothing.
 use mathlib.Core.Path.{refl}
 use native.Mathlib.Omega.{arith}
-use Rattle.machine.proofs.StepLaws.{value-room, given-stands, given-at, given-room, given-goals, given-pair, id-any, empty-any, atomic-any, label-any, assert-any, defined-any, pair-any}
+use Rattle.tactics.proofs.SourceLaws.{value-room}
+use Rattle.machine.proofs.StepLaws.{given-stands, given-at, given-room, given-goals, given-pair, id-any, empty-any, atomic-any, label-any, assert-any, defined-any, pair-any}
 use borrow.Author.Needs.{needs}
 use Rattle.machine.proofs.state.State.begin.Statement.{statement}
 use Rattle.machine.proofs.state.State.begin.Tie as tie

@@ -1,6 +1,7 @@
 -- `begin_atomic` meets its contract: by the number of goals, then by what the look-up found.
 -- Assumes nothing.
-use Rattle.machine.proofs.FormLaws.{rule-fails, rule-missing, rule-inside, rule-used}
+use Rattle.tactics.proofs.FoundLaws.{rule-inside}
+use Rattle.machine.proofs.FormLaws.{rule-fails, rule-missing, rule-used}
 use borrow.Author.Needs.{needs}
 use Rattle.machine.proofs.state.State.begin_atomic.Statement.{statement}
 use Rattle.machine.proofs.state.State.begin_atomic.Tie as tie
@@ -39,7 +40,7 @@ use-rule-requires : tie.Need-use-rule-requires
 use-rule-requires c κs =
     let a = c .before .before .before .before .before .before .before .before .before .before .before .args in
     let p = c .before .before .before .before .before .before .before .before .before .before .before .pre in
-    let i = rule-inside (a .work .now) (a .self) (p .0) (a .table .now) (a .first) (a .name) (c .before .before .before .before .before .goal-at .result) (c .before .before .before .before .find-rule .result) (c .before .before .before .before .before .before .before .if1 .left) (c .before .before .before .before .before .goal-at .ensures) (c .before .before .before .before .find-rule .ensures) _ _ (c .before .before .found .given .1) in
+    let i = rule-inside (a .table .now) (a .first) (a .name) (c .before .before .before .before .before .goal-at .result) (c .before .before .before .before .find-rule .result) (c .before .before .before .before .find-rule .ensures) _ _ (c .before .before .found .given .1) in
     (p .0, i .0, i .1, p .2)
 
 same-length : tie.Need-same-length

@@ -1,6 +1,7 @@
 -- `join` meets its contract: by the number of goals, joined or too many.
 -- Assumes nothing.
 use native.Mathlib.Omega.{arith}
+use Rattle.tactics.proofs.goals.gather.Reads as gather-reads
 use Rattle.machine.proofs.WaitingLaws.{waiting-top}
 use Rattle.machine.proofs.JoinLaws.{joins, fits, overflow-end, join-end}
 use borrow.Author.Needs.{needs}
@@ -9,7 +10,6 @@ use Rattle.machine.proofs.state.State.join.Tie as tie
 use Rattle.machine.proofs.state.State.join.Reads as reads
 use Rattle.machine.proofs.state.State.join.Lts as lts
 use Rattle.machine.proofs.state.State.overflow.Reads as overflow-reads
-use Rattle.machine.proofs.unwind.gather.Reads as gather-reads
 use Rattle.words.proofs.store16.Reads as store16-reads
 
 cast-left : tie.Need-cast-left
@@ -46,7 +46,7 @@ gather-requires c κs =
     let p = c .before .before .before .before .before .pre in
     let j = joins (a .work .now) (a .self) (p .3) (p .0) (a .f) (p .2) (p .1) in
     let f = fits (a .work .now) (a .self) (p .3) (p .0) (a .f) (p .2) (p .1) in
-    (j .left-high, j .right-high, c .before .if1 .left, omega (arith, j .room, c .before .if1 .left, f .space), omega (arith, j .room))
+    (j .left-high, j .right-high, c .before .if1 .left, omega (arith, j .room, c .before .if1 .left, f .space))
 
 add-store16 : tie.Need-add-store16
 add-store16 c = omega (arith, c .before .before .before .before .before .before .before .before .before .pre)

@@ -3,8 +3,9 @@
 use mathlib.Core.Path.{subst}
 use mathlib.Core.List.{List}
 use Prim.Native.Nat.{ℕ}
+use Rattle.tactics.proofs.SourceLaws.{from-table, from-job}
 use Rattle.machine.specs.Step.{Given}
-use Rattle.machine.proofs.StepLaws.{from-table, from-job, in-source}
+use Rattle.machine.proofs.StepLaws.{in-source}
 use Rattle.machine.proofs.state.State.step.Statement.{statement}
 use Rattle.machine.proofs.state.State.step.Tie as tie
 use Rattle.machine.proofs.state.State.step.Reads as reads

@@ -1,12 +1,12 @@
--- `unwind::gather` meets its contract: two moves, the second behind the first.
+-- `goals::gather` meets its contract: two moves, the second behind the first.
 -- Assumes nothing.
-use Rattle.machine.proofs.GatherLaws.{gathered}
+use Rattle.tactics.proofs.GoalLaws.{gathered}
 use native.Mathlib.Omega.{arith}
 use borrow.Author.Needs.{needs}
-use Rattle.machine.proofs.unwind.gather.Statement.{statement}
-use Rattle.machine.proofs.unwind.gather.Tie as tie
-use Rattle.machine.proofs.unwind.gather.Reads as reads
-use Rattle.machine.proofs.unwind.gather.Lts as lts
+use Rattle.tactics.proofs.goals.gather.Statement.{statement}
+use Rattle.tactics.proofs.goals.gather.Tie as tie
+use Rattle.tactics.proofs.goals.gather.Reads as reads
+use Rattle.tactics.proofs.goals.gather.Lts as lts
 use Rattle.words.proofs.move_up.Reads as move-up-reads
 
 mul-move-up : tie.Need-mul-move-up

@@ -9,9 +9,9 @@ use lib.Seq.{paste}
 use Rattle.format.specs.declared.values.Goal.{Goal}
 use Rattle.format.specs.Goals.{goalsAt}
 use Rattle.format.proofs.GoalsAt.{goals-append, goals-paste}
 use Rattle.tactics.specs.Memory.{Only}
 use Rattle.tactics.proofs.MemoryLaws.{only-then, only-wider, only-copy, same-goals}
-use Rattle.machine.specs.Popping.{Gathered}
+use Rattle.tactics.specs.Goals.{Gathered}
 
 pub gathered : (w : List ℕ) (to first n second m : ℕ) → first + n * 2 ≤ to → second + m * 2 ≤ to → to + (n + m) * 2 ≤ length w
     → (y v : List ℕ) → y ≡ paste w to (drop first w) (n * 2) → v ≡ paste y (to + n * 2) (drop second y) (m * 2) → Gathered w v to first n second m
