@@ -11,11 +11,8 @@ use lib.Seq.{paste}
 use borrow.Author.Tests.{lt-ltb, le-ltb}
 use Rattle.format.specs.declared.values.Goal.{Goal}
 use Rattle.format.specs.Refusals.{Cause, number, tacticFailed, budgetSpent}
-use Rattle.format.specs.Goals.{goalsAt}
 use Rattle.format.specs.Terms.{Term, size}
 use Rattle.format.specs.Standing.{Stands}
-use Rattle.format.specs.Encoding.{Bytes}
-use Rattle.format.proofs.GoalsAt.{goals-paste}
 use Rattle.tables.specs.Tables.{Table, UniqueDefinitions}
 use Rattle.tables.specs.Standing.{TableStands}
 use Rattle.files.specs.declared.jobs.JobParts.{JobParts}
@@ -35,38 +32,23 @@ use Rattle.arities.specs.Layout.{outputEnd, framesEnd}
 use Rattle.arities.specs.Arities.{ArityTable, arities}
 use Rattle.arities.specs.Rounds.{FillGiven, Filled}
 use Rattle.tactics.specs.Memory.{Only}
-use Rattle.tactics.specs.Numbers.{putHeader}
+use Rattle.tactics.specs.File.{fileSize, FileGiven, FileWritten}
 use Rattle.tactics.proofs.MemoryLaws.{only-copy}
+use Rattle.tactics.proofs.FileLaws.{file-size}
+use Rattle.tactics.proofs.JobLaws.{same-place, place-small, goals-few, goals-inside, term-place, term-stands, goals-copied}
 use Rattle.machine.specs.declared.state.State.{State}
 use Rattle.machine.specs.Shows.{FramesAt, setAside, Proved}
 use Rattle.machine.proofs.WaitingLaws.{if-proved, if-failed, if-ended}
 use Rattle.runner.specs.Run.{ShowsState, Started, Ran}
-use Rattle.runner.specs.Jobs.{StartGiven, Starts, FileGiven, FileWritten, FinishGiven, Leaves, Finishes, JobGiven, JobRan}
+use Rattle.runner.specs.Jobs.{StartGiven, Starts, FinishGiven, Leaves, Finishes, JobGiven, JobRan}
 use Rattle.runner.proofs.RunLaws.{known-same, if-running, if-stopped}
-use Rattle.runner.proofs.FileLaws.{file-size, file-written}
-
--- the parts of a job
-module _ (job : List ℕ) (j : Job) (parts : JobParts) (st : JobStands job j) (e : jobPartsOf j ≡ parts) where
-  goals-count : length (j .goals) ≡ parts .goals
-  unfolding jobPartsOf
-  goals-count = ap (λ (q : JobParts). q .goals) e
-
-  term-place : jobTermPlace j ≡ parts .term
-  unfolding jobPartsOf
-  term-place = ap (λ (q : JobParts). q .term) e
-
-  goals-few : parts .goals ≤ 256
-  goals-few = omega (arith, goals-count, st .goals-stand .few)
-
-  goals-inside : 3 + parts .goals * 2 ≤ length job
-  goals-inside = omega (arith, goals-count, st .goals-stand .head)
 
 -- the first state
 abbrev startState : JobParts → State
 startState parts = record { mode = 0; file = 1; at = parts .term; start = outputEnd; count = parts .goals; top = framesEnd; arena = outputEnd + parts .goals * 2; out = 0; steps = 0 }
 
 pub start-few : (job : List ℕ) (parts : JobParts) (w : List ℕ) → StartGiven job parts w → (parts .goals ≤ 256) × (3 + parts .goals * 2 ≤ length job)
-start-few job parts w q = (goals-few job (q .the-job) parts (q .job-stands) (q .parts-are), goals-inside job (q .the-job) parts (q .job-stands) (q .parts-are))
+start-few job parts w q = (goals-few job (q .the-job) (q .job-stands) parts (q .parts-are), goals-inside job (q .the-job) (q .job-stands) parts (q .parts-are))
 
 pub start-end : (job : List ℕ) (parts : JobParts) (w v : List ℕ) → StartGiven job parts w → v ≡ paste w outputEnd (drop 3 job) (parts .goals * 2) → Starts job parts w v (startState parts)
 unfolding FramesAt setAside
@@ -78,22 +60,13 @@ start-end job parts w v q e =
       same-length = only .same-length;
       beyond = λ i b. only .kept .above i (omega (arith, few, b));
       no-steps = refl;
-      runs = λ table j st p.
-          let n = goals-count job j parts st p in
-          let there : goalsAt v outputEnd (parts .goals) ≡ goalsAt job 3 (parts .goals) =
-          ap (λ (x : List ℕ). goalsAt x outputEnd (parts .goals)) e ∙ goals-paste w job outputEnd 3 (parts .goals) (omega (arith, few, q .space)) (few .1) in
-          record {
-            mode-is = refl;
-            stands = subst (λ (i : ℕ). Stands job i (j .term)) (term-place job j parts st p) (st .term-stands);
-            goals = record {
-              low = omega arith;
-              high = omega arith;
-              few = few .0;
-              are = there ∙ ap (goalsAt job 3) (sym n) ∙ sym (st .goals-stand .goals-are);
-            };
-            frames = (refl, refl);
-            sizes = record { output-fits = omega arith; goals-fit = omega (arith, few .0); frames-fit = omega arith };
-          };
+      runs = λ table j st p. record {
+        mode-is = refl;
+        stands = term-stands job j st parts p;
+        goals = record { low = omega arith; high = omega arith; few = few .0; are = goals-copied job j st parts p w v outputEnd e (omega (arith, few, q .space)) };
+        frames = (refl, refl);
+        sizes = record { output-fits = omega arith; goals-fit = omega (arith, few .0); frames-fit = omega arith };
+      };
     }
 
 -- a refusal leaves the output space
@@ -151,13 +124,13 @@ module _ (job : List ℕ) (term : ℕ) (w : List ℕ) (s : State) (m : s .mode �
 
   -- its numbers are small
   pub finish-small : (term ≤ 515) × (term ≤ length job) × (s .out ≤ outputEnd) × (s .count ≤ 256) × (s .start + s .count * 2 ≤ s .arena) × (s .arena ≤ length w)
-  unfolding jobTermPlace setAside
+  unfolding setAside
   finish-small =
-      let st = q .job-stands in
+      let place = place-small job (q .the-job) (q .job-stands) term (q .term-is) in
       if-stopped (q .table) job w s (λ x. Small) not-running
       (λ e i. if-proved (q .table) job w s [] (λ y. Small) m (λ p g a. (
-        omega (arith, q .term-is, st .goals-stand .few),
-        omega (arith, q .term-is, st .goals-stand .head),
+        place .0,
+        place .1,
         omega (arith, q .few-steps, a .sizes .output-fits),
         a .goals .few,
         a .goals .high,
@@ -171,42 +144,41 @@ module _ (job : List ℕ) (term : ℕ) (w : List ℕ) (s : State) (m : s .mode �
     -- what is said of every last state that the code may stand for
     if-success : (v : List ℕ) → ((table : List ℕ) (j : Job) (p : Term) (g : List Goal) → JobStands job j → Proved table job w s p g [] → jobTermPlace j ≡ term
         → Leaves (success (proofBytes (record { goals = j .goals; term = p; remaining = g })) (s .steps)) o r v)
-        → ((j : Job) → JobStands job j → jobTermPlace j ≡ term) → Finishes job w s o r v
+        → Finishes job w s o r v
     unfolding runEnd
-    if-success v f place table j κ st h =
+    if-success v f table j κ st h =
         if-stopped table job w s (λ x. Leaves (runEnd j (s .steps) x) o r v) not-running
-        (λ e i. if-proved table job w s [] (λ y. Leaves (runEnd j (s .steps) (stopped y)) o r v) m (λ p g a. f table j p g st a (place j st)) e i) κ h
+        (λ e i. if-proved table job w s [] (λ y. Leaves (runEnd j (s .steps) (stopped y)) o r v) m (λ p g a. f table j p g st a (same-place job (q .the-job) (q .job-stands) term (q .term-is) j st)) e i) κ h
 
-  -- every job that stands in the file has its term at the same place
-  same-place : (j : Job) → JobStands job j → jobTermPlace j ≡ term
-  unfolding jobTermPlace
-  same-place j st = omega (arith, q .term-is, st .goals-stand .head .length-is, q .job-stands .goals-stand .head .length-is)
+  pub file-given : (o : List ℕ) → fileSize term (s .out) (s .count) ≤ length o → FileGiven job term w 0 (s .out) (s .start) (s .count) o
+  file-given o h =
+      let z = finish-small in
+      record { list-inside = z .1; term-inside = omega (arith, z .2, q .space); few = z .3; goals-inside = omega (arith, z .4, z .5); fits = h }
 
-  pub file-given : (o : List ℕ) → term + s .out + 3 + s .count * 2 ≤ length o → FileGiven job term w s o
-  file-given o h = record { mode-is = m; finish = q; fits = h }
+  -- the hiproof is all that stands in the output's region
+  module _ (table : List ℕ) (p : Term) (g : List Goal) (a : Proved table job w s p g []) where
+    size-is : size p ≡ s .out
+    unfolding FramesAt
+    size-is = omega (arith, a .out-is, a .frames .1)
+
+    from-start : Stands w 0 p
+    unfolding FramesAt
+    from-start = subst (λ (i : ℕ). Stands w i p) (a .frames .1) (a .stands)
+
+    total-is : (j : Job) → jobTermPlace j ≡ term → length (proofBytes (record { goals = j .goals; term = p; remaining = g })) ≡ fileSize term (s .out) (s .count)
+    total-is j place =
+        subst (λ (i : ℕ). length (proofBytes (record { goals = j .goals; term = p; remaining = g })) ≡ fileSize i (s .out) (s .count)) place
+        (file-size w (s .out) (s .start) (s .count) j p g size-is (a .goals .are))
 
   module _ (o : List ℕ) (r : Answer) where
-    abbrev total : ℕ
-    total = term + s .out + 3 + s .count * 2
-
-    pub short-end : length o < total → r ≡ said.refusal 26 0 0 (s .steps) → Finishes job w s o r o
+    pub short-end : length o < fileSize term (s .out) (s .count) → r ≡ said.refusal 26 0 0 (s .steps) → Finishes job w s o r o
     short-end h e = if-success o r o (λ table j p g st a place.
-        short-leaves (proofBytes (record { goals = j .goals; term = p; remaining = g })) total (s .steps) o r
-        (subst (λ (i : ℕ). length (proofBytes (record { goals = j .goals; term = p; remaining = g })) ≡ i + s .out + 3 + s .count * 2) place (file-size job w s table j p g a)) h e) same-place
+        short-leaves (proofBytes (record { goals = j .goals; term = p; remaining = g })) (fileSize term (s .out) (s .count)) (s .steps) o r (total-is table p g a j place) h e)
 
-    pub success-end : (v : List ℕ) → total ≤ length o → FileWritten job term w s o v → r ≡ said.wrote total (s .steps) → Finishes job w s o r v
+    pub success-end : (v : List ℕ) → fileSize term (s .out) (s .count) ≤ length o → FileWritten job term w 0 (s .out) (s .start) (s .count) o v → r ≡ said.wrote (fileSize term (s .out) (s .count)) (s .steps) → Finishes job w s o r v
     success-end v h f e = if-success o r v (λ table j p g st a place.
-        success-leaves (proofBytes (record { goals = j .goals; term = p; remaining = g })) total (s .steps) o v r
-        (subst (λ (i : ℕ). length (proofBytes (record { goals = j .goals; term = p; remaining = g })) ≡ i + s .out + 3 + s .count * 2) place (file-size job w s table j p g a)) h e (f table j p g st place a)) same-place
-
--- the file written by the code
-pub write-end : (job : List ℕ) (term : ℕ) (w : List ℕ) (s : State) (o : List ℕ) → FileGiven job term w s o → Bytes job → Bytes w → s .arena ≤ length w → (v₁ v₂ v₃ v : List ℕ)
-    → v₁ ≡ paste o 0 (drop 0 job) term → v₂ ≡ paste v₁ term (drop 0 w) (s .out) → v₃ ≡ putHeader v₂ (term + s .out) 3 (s .count * 2)
-    → v ≡ paste v₃ (term + s .out + 3) (drop (s .start) w) (s .count * 2) → FileWritten job term w s o v
-write-end job term w s o q jb wb inside v₁ v₂ v₃ v e₁ e₂ e₃ e₄ table j p g st place a =
-    subst (λ (i : ℕ). i + s .out + 3 + s .count * 2 ≤ length o → v₁ ≡ paste o 0 (drop 0 job) i → v₂ ≡ paste v₁ i (drop 0 w) (s .out) → v₃ ≡ putHeader v₂ (i + s .out) 3 (s .count * 2)
-    → v ≡ paste v₃ (i + s .out + 3) (drop (s .start) w) (s .count * 2) → v ≡ proofBytes (record { goals = j .goals; term = p; remaining = g }) ++ drop (i + s .out + 3 + s .count * 2) o) place
-    (λ f. file-written job w s table j p g a o jb wb st inside f v₁ v₂ v₃ v) (q .fits) e₁ e₂ e₃ e₄
+        success-leaves (proofBytes (record { goals = j .goals; term = p; remaining = g })) (fileSize term (s .out) (s .count)) (s .steps) o v r (total-is table p g a j place) h e
+        (f j p g st place (from-start table p g a) (size-is table p g a) (a .goals .are)))
 
 -- the whole job
 module _ (bytes : List ℕ) (first definitions : ℕ) (job : List ℕ) (parts : JobParts) (budget : ℕ) (w : List ℕ) (q : JobGiven bytes first definitions job parts budget w) where
@@ -253,7 +225,7 @@ module _ (bytes : List ℕ) (first definitions : ℕ) (job : List ℕ) (parts : 
               space = omega (arith, q .space, f .same-length, b .same-length, a .same-length);
               the-job = q .the-job;
               job-stands = q .job-stands;
-              term-is = term-place job (q .the-job) parts (q .job-stands) (q .parts-are);
+              term-is = term-place job (q .the-job) (q .job-stands) parts (q .parts-are);
               table = bytes;
               control = M.run (q .table) budget (M.start (q .the-job .term) (q .the-job .goals)) .control;
               shows = l .shows;

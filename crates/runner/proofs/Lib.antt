@@ -1,4 +1,3 @@
 pub mod RunLaws
-pub mod FileLaws
 pub mod JobLaws
 pub mod EntryLaws

@@ -1,15 +1,12 @@
 -- A job run in a table that stands: what the code is given, and the answer and the output space that entries define.
-use Prim.Native.Nat.{ℕ, _+_, _*_, _≤_, _<_}
+use Prim.Native.Nat.{ℕ, _≤_, _<_}
 use mathlib.Core.Path.{_≡_}
-use mathlib.Core.List.{List, [], _++_}
-use lib.ListN.{length, getD, drop}
-use Rattle.format.specs.declared.values.Goal.{Goal}
+use mathlib.Core.List.{List, []}
+use lib.ListN.{length, getD}
 use Rattle.format.specs.Limits.{mostSteps}
-use Rattle.format.specs.Terms.{Term}
 use Rattle.tables.specs.Tables.{Table, UniqueDefinitions}
 use Rattle.tables.specs.Standing.{TableStands}
 use Rattle.files.specs.declared.jobs.JobParts.{JobParts}
-use Rattle.files.specs.Proofs.{proofBytes}
 use Rattle.files.specs.Jobs.{Job}
 use Rattle.files.specs.Counts.{jobTermPlace}
 use Rattle.files.specs.Standing.{JobStands}
@@ -21,7 +18,7 @@ use Rattle.entries.specs.LentSpace.{writeOut}
 use Rattle.entries.specs.Run.{runEnd, runResult}
 use Rattle.arities.specs.Layout.{framesEnd, spaceEnd}
 use Rattle.machine.specs.declared.state.State.{State}
-use Rattle.machine.specs.Shows.{Runs, Proved, Shows}
+use Rattle.machine.specs.Shows.{Runs, Shows}
 
 -- the first state
 pub record StartGiven (job : List ℕ) (parts : JobParts) (w : List ℕ) : Type 0 where
@@ -46,17 +43,6 @@ pub record FinishGiven (job : List ℕ) (term : ℕ) (w : List ℕ) (s : State) 
   pub table : List ℕ
   pub control : M.Control
   pub shows : Shows table job w s control
-
--- the proof file, at the end of a run that proved, in an output space that is long enough
-pub record FileGiven (job : List ℕ) (term : ℕ) (w : List ℕ) (s : State) (o : List ℕ) : Type 0 where
-  pub mode-is : s .mode ≡ 1
-  pub finish : FinishGiven job term w s
-  pub fits : term + s .out + 3 + s .count * 2 ≤ length o
-
-abbrev pub FileWritten : (job : List ℕ) → (term : ℕ) → List ℕ → State → List ℕ → List ℕ → Type 0
-FileWritten job term w s o v =
-    (table : List ℕ) (j : Job) (p : Term) (g : List Goal) → JobStands job j → jobTermPlace j ≡ term → Proved table job w s p g []
-    → v ≡ proofBytes (record { goals = j .goals; term = p; remaining = g }) ++ drop (term + s .out + 3 + s .count * 2) o
 
 -- the answer and the output space are those of an outcome, whatever the work space was
 pub record Leaves (outcome : Outcome (List ℕ)) (o : List ℕ) (r : Answer) (v : List ℕ) : Type 0 where

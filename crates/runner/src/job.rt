@@ -1,9 +1,7 @@
 // A job run in a table that stands: its first state, its steps, and what its last state leaves in the output space.
 ghost use mathlib.Core.Path.{_≡_};
-ghost use mathlib.Core.List.{List};
-ghost use Prim.Native.Nat.{ℕ, _+_, _*_, _≤_};
-ghost use lib.ListN.{length};
-ghost use Rattle.runner.specs.Jobs.{StartGiven, Starts, FileGiven, FileWritten, FinishGiven, Finishes, JobGiven, JobRan};
+ghost use Prim.Native.Nat.{_+_, _*_};
+ghost use Rattle.runner.specs.Jobs.{StartGiven, Starts, FinishGiven, Finishes, JobGiven, JobRan};
 use crate::run::run_steps;
 use answers::Answer;
 use answers::refusal;
@@ -16,7 +14,7 @@ use machine::state::FAILED;
 use machine::state::PROVED;
 use machine::state::RUNNING;
 use machine::state::State;
-use tactics::numbers::put_header;
+use tactics::file::write_file;
 use words::copy_in;
 
 // The job's term on its goals, nothing begun.
@@ -38,18 +36,6 @@ fn start(job: &[u8], parts: JobParts, work: &mut [u8]) -> State
     }
 }
 
-// The proof file of a run that succeeded: the job's goal list, the hiproof, the list of the goals that remain.
-fn write_file(s: State, job: &[u8], term: usize, work: &[u8], out: &mut [u8])
-    requires { ⌜ FileGiven (now job) term (now work) s (now out) ⌝ }
-    ensures { λ _. ⌜ FileWritten (now (job .entry)) term (now (work .entry)) s (now (out .entry)) (now (out .exit)) ⌝ }
-{
-    let behind = term + s.out;
-    copy_in(out, 0, job, 0, term);
-    copy_in(out, term, work, 0, s.out);
-    put_header(out, behind, 3, (s.count * 2) as u16);
-    copy_in(out, behind + 3, work, s.start, s.count * 2);
-}
-
 // The answer of a run that succeeded: 26, or the proof file written.
 fn finish_proved(s: State, job: &[u8], term: usize, work: &[u8], out: &mut [u8]) -> Answer
     requires { ⌜ (s .mode ≡ 1) × FinishGiven (now job) term (now work) s ⌝ }
@@ -59,7 +45,7 @@ fn finish_proved(s: State, job: &[u8], term: usize, work: &[u8], out: &mut [u8])
     if out.len() < size {
         return refusal(26, 0, 0, s.steps);
     }
-    write_file(s, job, term, work, out);
+    write_file(job, term, work, 0, s.out, s.start, s.count, out);
     wrote(size, s.steps)
 }
 

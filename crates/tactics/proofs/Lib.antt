@@ -4,3 +4,5 @@ pub mod GoalLaws
 pub mod FormLaws
 pub mod FoundLaws
 pub mod SourceLaws
+pub mod FileLaws
+pub mod JobLaws

@@ -2,3 +2,4 @@ pub mod Memory
 pub mod Numbers
 pub mod Goals
 pub mod Source
+pub mod File

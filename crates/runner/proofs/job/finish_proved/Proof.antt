@@ -1,6 +1,7 @@
 -- `job::finish_proved` meets its contract: by the length of the output space.
 -- Assumes nothing.
 use native.Mathlib.Omega.{arith}
+use Rattle.tactics.proofs.file.write_file.Reads as write-file-reads
 use Rattle.runner.proofs.JobLaws.{finish-small, file-given, short-end, success-end}
 use borrow.Author.Needs.{needs}
 use Rattle.runner.proofs.job.finish_proved.Statement.{statement}
@@ -9,7 +10,6 @@ use Rattle.runner.proofs.job.finish_proved.Reads as reads
 use Rattle.runner.proofs.job.finish_proved.Lts as lts
 use Rattle.answers.proofs.refusal.Reads as refusal-reads
 use Rattle.answers.proofs.wrote.Reads as wrote-reads
-use Rattle.runner.proofs.job.write_file.Reads as write-file-reads
 
 add-size : tie.Need-add-size
 add-size c =

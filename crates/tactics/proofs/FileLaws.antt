@@ -1,11 +1,11 @@
--- The proof file of a run that succeeded: each copy and the header put a block behind what was written before, and the blocks are the encodings of what
+-- The proof file of a result: each copy and the header put a block behind what was written before, and the blocks are the encodings of what
 -- stands in the job's file and in work space.
 -- Assumes nothing.
 use Prim.Native.Nat.{ℕ, suc, _+_, _*_, _-_, _/_, _%_, _≤_}
 use mathlib.Core.Path.{_≡_, refl, sym, ap, ap₂, subst, _∙_}
 use mathlib.Core.List.{List, [], _∷_, _++_, append-assoc}
 use native.Mathlib.Omega.{arith}
-use lib.ListN.{length, getD, set, take, drop, length-drop, length-append}
+use lib.ListN.{length, getD, set, take, drop, length-append}
 use lib.Seq.{paste, take-at, drop-at, drop-drop, drop-cons}
 use Rattle.words.specs.Word.{putWord}
 use Rattle.format.specs.declared.values.Goal.{Goal}
@@ -21,9 +21,8 @@ use Rattle.files.specs.Proofs.{proofBytes}
 use Rattle.files.specs.Jobs.{Job}
 use Rattle.files.specs.Counts.{jobTermPlace}
 use Rattle.files.specs.Standing.{JobStands}
 use Rattle.tactics.specs.Numbers.{putHeader}
-use Rattle.machine.specs.declared.state.State.{State}
-use Rattle.machine.specs.Shows.{FramesAt, Proved}
+use Rattle.tactics.specs.File.{fileSize, FileGiven, FileWritten}
 
 -- so much has been written at the beginning of a list
 pub record Written (o x v : List ℕ) : Type 0 where
@@ -32,11 +31,6 @@ pub record Written (o x v : List ℕ) : Type 0 where
 
 pub nothing-written : (o : List ℕ) → Written o [] o
 nothing-written o = record { all = refl; room = omega arith }
-
-written-length : (o x v : List ℕ) → Written o x v → length v ≡ length o
-written-length o x v h =
-    let d : length (drop (length x) o) ≡ length o - length x = length-drop (length x) o in
-    ap length (h .all) ∙ length-append x (drop (length x) o) ∙ omega (arith, d, h .room)
 
 -- a block copied behind it
 pub block-written : (o x v s y : List ℕ) (at n : ℕ) → Written o x v → length x ≡ at → length y ≡ n → take n s ≡ y → at + n ≤ length o → Written o (x ++ y) (paste v at s n)
@@ -85,8 +79,8 @@ list-block s bytes j st =
     let n : length (goalListBytes (j .goals)) ≡ 3 + length (j .goals) * 2 = omega (arith, length-goalBytes (j .goals)) in
     ap (take (3 + length (j .goals) * 2)) e ∙ take-at (goalListBytes (j .goals)) _ (3 + length (j .goals) * 2) n
 
-term-block : (w : List ℕ) → Bytes w → (p : Term) → Stands w 0 p → take (size p) w ≡ termBytes p
-term-block w bytes p st = ap (take (size p)) (term-bytes w bytes p 0 st) ∙ take-at (termBytes p) _ (size p) (length-termBytes p)
+term-block : (w : List ℕ) → Bytes w → (p : Term) (at : ℕ) → Stands w at p → take (size p) (drop at w) ≡ termBytes p
+term-block w bytes p at st = ap (take (size p)) (term-bytes w bytes p at st) ∙ take-at (termBytes p) _ (size p) (length-termBytes p)
 
 goals-block : (w : List ℕ) → Bytes w → (n at : ℕ) → at + n * 2 ≤ length w → take (n * 2) (drop at w) ≡ goalBytes (goalsAt w at n)
 goals-block w bytes n at h =
@@ -94,51 +88,53 @@ goals-block w bytes n at h =
     ap (take (n * 2)) (goals-bytes w bytes n at h) ∙ take-at (goalBytes (goalsAt w at n)) _ (n * 2) l
 
 -- the whole file
-module _ (job w : List ℕ) (s : State) (table : List ℕ) (j : Job) (p : Term) (g : List Goal) (proved : Proved table job w s p g []) where
-  out-is : s .out ≡ size p
-  unfolding FramesAt
-  out-is = omega (arith, proved .out-is, proved .frames .1)
-
-  from-start : Stands w 0 p
-  unfolding FramesAt
-  from-start = subst (λ (i : ℕ). Stands w i p) (proved .frames .1) (proved .stands)
-
-  count-is : length g ≡ s .count
-  count-is = sym (ap length (proved .goals .are)) ∙ length-goalsAt (s .count) w (s .start)
+module _ (w : List ℕ) (bytes start count : ℕ) (j : Job) (p : Term) (g : List Goal) (size-is : size p ≡ bytes) (goals-are : goalsAt w start count ≡ g) where
+  count-is : length g ≡ count
+  count-is = sym (ap length goals-are) ∙ length-goalsAt count w start
 
   list-length : length (goalListBytes (j .goals)) ≡ jobTermPlace j
   unfolding jobTermPlace
   list-length = omega (arith, length-goalBytes (j .goals))
 
-  pub file-size : length (proofBytes (record { goals = j .goals; term = p; remaining = g })) ≡ jobTermPlace j + s .out + 3 + s .count * 2
+  pub file-size : length (proofBytes (record { goals = j .goals; term = p; remaining = g })) ≡ fileSize (jobTermPlace j) bytes count
   unfolding proofBytes
   file-size =
       length-append (goalListBytes (j .goals) ++ termBytes p) (goalListBytes g)
-      ∙ omega (arith, length-append (goalListBytes (j .goals)) (termBytes p), list-length, length-termBytes p, out-is, length-goalBytes g, count-is)
+      ∙ omega (arith, length-append (goalListBytes (j .goals)) (termBytes p), list-length, length-termBytes p, size-is, length-goalBytes g, count-is)
 
-  pub file-written : (o : List ℕ) → Bytes job → Bytes w → JobStands job j → s .arena ≤ length w → jobTermPlace j + s .out + 3 + s .count * 2 ≤ length o → (v₁ v₂ v₃ v : List ℕ) → v₁ ≡ paste o 0 (drop 0 job) (jobTermPlace j) → v₂ ≡ paste v₁ (jobTermPlace j) (drop 0 w) (s .out) → v₃ ≡ putHeader v₂ (jobTermPlace j + s .out) 3 (s .count * 2)
-      → v ≡ paste v₃ (jobTermPlace j + s .out + 3) (drop (s .start) w) (s .count * 2)
-      → v ≡ proofBytes (record { goals = j .goals; term = p; remaining = g }) ++ drop (jobTermPlace j + s .out + 3 + s .count * 2) o
+  file-written : (job o : List ℕ) (from : ℕ) → Bytes job → Bytes w → JobStands job j → Stands w from p → start + count * 2 ≤ length w → fileSize (jobTermPlace j) bytes count ≤ length o
+      → (v₁ v₂ v₃ v : List ℕ) → v₁ ≡ paste o 0 (drop 0 job) (jobTermPlace j) → v₂ ≡ paste v₁ (jobTermPlace j) (drop from w) bytes → v₃ ≡ putHeader v₂ (jobTermPlace j + bytes) 3 (count * 2)
+      → v ≡ paste v₃ (jobTermPlace j + bytes + 3) (drop start w) (count * 2)
+      → v ≡ proofBytes (record { goals = j .goals; term = p; remaining = g }) ++ drop (fileSize (jobTermPlace j) bytes count) o
   unfolding proofBytes
-  file-written o job-bytes work-bytes st inside fits v₁ v₂ v₃ v q₁ q₂ q₃ q₄ =
+  file-written job o from job-bytes work-bytes st stands inside fits v₁ v₂ v₃ v q₁ q₂ q₃ q₄ =
       let list = goalListBytes (j .goals) in
-      let head : List ℕ = 3 ∷ wordBytes (s .count * 2) in
-      let term-is : take (s .out) (drop 0 w) ≡ termBytes p = ap (λ (i : ℕ). take i w) out-is ∙ term-block w work-bytes p from-start in
-      let term-size : length (termBytes p) ≡ s .out = length-termBytes p ∙ sym out-is in
-      let gave : take (s .count * 2) (drop (s .start) w) ≡ goalBytes g = goals-block w work-bytes (s .count) (s .start) (omega (arith, proved .goals .high, inside)) ∙ ap goalBytes (proved .goals .are) in
-      let goals-size : length (goalBytes g) ≡ s .count * 2 = omega (arith, length-goalBytes g, count-is) in
+      let head : List ℕ = 3 ∷ wordBytes (count * 2) in
+      let term-is : take bytes (drop from w) ≡ termBytes p = ap (λ (i : ℕ). take i (drop from w)) (sym size-is) ∙ term-block w work-bytes p from stands in
+      let term-size : length (termBytes p) ≡ bytes = length-termBytes p ∙ size-is in
+      let gave : take (count * 2) (drop start w) ≡ goalBytes g = goals-block w work-bytes count start inside ∙ ap goalBytes goals-are in
+      let goals-size : length (goalBytes g) ≡ count * 2 = omega (arith, length-goalBytes g, count-is) in
       let w₁ : Written o list v₁ =
       subst (λ (x : List ℕ). Written o list x) (sym q₁) (block-written o [] o (drop 0 job) list 0 (jobTermPlace j) (nothing-written o) refl list-length (list-block job job-bytes j st) (omega (arith, fits))) in
       let w₂ : Written o (list ++ termBytes p) v₂ =
-      subst (λ (x : List ℕ). Written o (list ++ termBytes p) x) (sym q₂) (block-written o list v₁ (drop 0 w) (termBytes p) (jobTermPlace j) (s .out) w₁ list-length term-size term-is (omega (arith, fits))) in
-      let l₂ : length (list ++ termBytes p) ≡ jobTermPlace j + s .out = length-append list (termBytes p) ∙ ap₂ (λ (a b : ℕ). a + b) list-length term-size in
+      subst (λ (x : List ℕ). Written o (list ++ termBytes p) x) (sym q₂) (block-written o list v₁ (drop from w) (termBytes p) (jobTermPlace j) bytes w₁ list-length term-size term-is (omega (arith, fits))) in
+      let l₂ : length (list ++ termBytes p) ≡ jobTermPlace j + bytes = length-append list (termBytes p) ∙ ap₂ (λ (a b : ℕ). a + b) list-length term-size in
       let w₃ : Written o (list ++ termBytes p ++ head) v₃ =
-      subst (λ (x : List ℕ). Written o (list ++ termBytes p ++ head) x) (sym q₃) (header-written o (list ++ termBytes p) v₂ (jobTermPlace j + s .out) 3 (s .count * 2) w₂ l₂ (omega (arith, fits))) in
-      let l₃ : length (list ++ termBytes p ++ head) ≡ jobTermPlace j + s .out + 3 = length-append (list ++ termBytes p) head ∙ omega (arith, l₂) in
+      subst (λ (x : List ℕ). Written o (list ++ termBytes p ++ head) x) (sym q₃) (header-written o (list ++ termBytes p) v₂ (jobTermPlace j + bytes) 3 (count * 2) w₂ l₂ (omega (arith, fits))) in
+      let l₃ : length (list ++ termBytes p ++ head) ≡ jobTermPlace j + bytes + 3 = length-append (list ++ termBytes p) head ∙ omega (arith, l₂) in
       let w₄ : Written o (list ++ termBytes p ++ head ++ goalBytes g) v =
       subst (λ (x : List ℕ). Written o (list ++ termBytes p ++ head ++ goalBytes g) x) (sym q₄)
-      (block-written o (list ++ termBytes p ++ head) v₃ (drop (s .start) w) (goalBytes g) (jobTermPlace j + s .out + 3) (s .count * 2) w₃ l₃ goals-size gave (omega (arith, fits))) in
-      let l₄ : length (list ++ termBytes p ++ head ++ goalBytes g) ≡ jobTermPlace j + s .out + 3 + s .count * 2 = length-append (list ++ termBytes p ++ head) (goalBytes g) ∙ omega (arith, l₃, goals-size) in
+      (block-written o (list ++ termBytes p ++ head) v₃ (drop start w) (goalBytes g) (jobTermPlace j + bytes + 3) (count * 2) w₃ l₃ goals-size gave (omega (arith, fits))) in
+      let l₄ : length (list ++ termBytes p ++ head ++ goalBytes g) ≡ jobTermPlace j + bytes + 3 + count * 2 = length-append (list ++ termBytes p ++ head) (goalBytes g) ∙ omega (arith, l₃, goals-size) in
       let same : list ++ termBytes p ++ head ++ goalBytes g ≡ list ++ termBytes p ++ goalListBytes g =
       append-assoc (list ++ termBytes p) head (goalBytes g) ∙ ap (λ (n : ℕ). list ++ termBytes p ++ (3 ∷ wordBytes n ++ goalBytes g)) (sym goals-size) in
       w₄ .all ∙ ap₂ (λ (a : List ℕ) (n : ℕ). a ++ drop n o) same l₄
+
+-- the file written by the code
+pub write-end : (job : List ℕ) (term : ℕ) (w : List ℕ) (from bytes start count : ℕ) (o : List ℕ) → FileGiven job term w from bytes start count o → Bytes job → Bytes w → (v₁ v₂ v₃ v : List ℕ)
+    → v₁ ≡ paste o 0 (drop 0 job) term → v₂ ≡ paste v₁ term (drop from w) bytes → v₃ ≡ putHeader v₂ (term + bytes) 3 (count * 2)
+    → v ≡ paste v₃ (term + bytes + 3) (drop start w) (count * 2) → FileWritten job term w from bytes start count o v
+write-end job term w from bytes start count o q jb wb v₁ v₂ v₃ v e₁ e₂ e₃ e₄ j p g st place stands size-is goals-are =
+    subst (λ (i : ℕ). fileSize i bytes count ≤ length o → v₁ ≡ paste o 0 (drop 0 job) i → v₂ ≡ paste v₁ i (drop from w) bytes → v₃ ≡ putHeader v₂ (i + bytes) 3 (count * 2)
+    → v ≡ paste v₃ (i + bytes + 3) (drop start w) (count * 2) → v ≡ proofBytes (record { goals = j .goals; term = p; remaining = g }) ++ drop (fileSize i bytes count) o) place
+    (λ f. file-written w bytes start count j p g size-is goals-are job o from jb wb st stands (q .goals-inside) f v₁ v₂ v₃ v) (q .fits) e₁ e₂ e₃ e₄
