@@ -125,8 +125,8 @@ other-file {A} size work out r bytes e = by-work (decLt (length work) size)
     by-result (gives a) f = by-room (decLt (length out) (length (bytes a)))
       where
         by-room : Dec (length out < length (bytes a)) → ⊥
-        by-room (yes h) = let z = ap (λ (c : Written). c .answer .file) (no-room (bytes a) out h) in omega (arith, z, f)
-        by-room (no h) = let z = ap (λ (c : Written). c .answer .file) (enough-room (bytes a) out (omega arith)) in omega (arith, z, f)
+        by-room (yes h) = let z = ap (λ (c : Written). c .answer .file) (no-room (bytes a) 0 out h) in omega (arith, z, f)
+        by-room (no h) = let z = ap (λ (c : Written). c .answer .file) (enough-room (bytes a) 0 out (omega arith)) in omega (arith, z, f)
 
     by-work : Dec (length work < size) → ⊥
     by-work (yes h) = let z = ap (λ (c : Written). c .answer .file) (too-short size work out (inFile otherFile r (λ a. done (bytes a))) h) in omega (arith, z, e)

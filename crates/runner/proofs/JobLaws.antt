@@ -1,16 +1,13 @@
 -- A job: its first state shows the machine's, the run is the machine's run, and its last state says which of the entry's outcomes it is.
 -- Assumes nothing.
 use Prim.Native.Nat.{ℕ, _+_, _*_, _≤_, _<_}
-use mathlib.Core.Path.{_≡_, refl, sym, ap, subst, _∙_}
-use mathlib.Core.Bool.{Bool, true, false, cond}
-use mathlib.Core.List.{List, [], _++_}
+use mathlib.Core.Path.{_≡_, refl, sym, ap, subst}
+use mathlib.Core.List.{List, []}
 use native.Mathlib.Omega.{arith}
-use lib.Dec.{ltb}
 use lib.ListN.{length, drop}
 use lib.Seq.{paste}
-use borrow.Author.Tests.{lt-ltb, le-ltb}
 use Rattle.format.specs.declared.values.Goal.{Goal}
-use Rattle.format.specs.Refusals.{Cause, number, tacticFailed, budgetSpent}
+use Rattle.format.specs.Refusals.{number, tacticFailed, budgetSpent}
 use Rattle.format.specs.Terms.{Term, size}
 use Rattle.format.specs.Standing.{Stands}
 use Rattle.tables.specs.Tables.{Table, UniqueDefinitions}
@@ -25,22 +22,23 @@ use Rattle.hitac.specs.Machine as M
 use Rattle.hitac.specs.Machine.{running, stopped, after}
 use Rattle.answers.specs.declared.Answer.{Answer}
 use Rattle.answers.specs.Answers as said
-use Rattle.entries.specs.Outcomes.{success, refusal}
-use Rattle.entries.specs.LentSpace.{cleared, Written, writeOut}
+use Rattle.entries.specs.Outcomes.{success}
 use Rattle.entries.specs.Run.{runEnd, runResult}
+use Rattle.entries.specs.Left.{kept, leftIn}
+use Rattle.entries.proofs.LeftLaws.{refuses}
 use Rattle.arities.specs.Layout.{outputEnd, framesEnd}
 use Rattle.arities.specs.Arities.{ArityTable, arities}
 use Rattle.arities.specs.Rounds.{FillGiven, Filled}
 use Rattle.tactics.specs.Memory.{Only}
 use Rattle.tactics.specs.File.{fileSize, FileGiven, FileWritten}
 use Rattle.tactics.proofs.MemoryLaws.{only-copy}
-use Rattle.tactics.proofs.FileLaws.{file-size}
 use Rattle.tactics.proofs.JobLaws.{same-place, place-small, goals-few, goals-inside, term-place, term-stands, goals-copied}
+use Rattle.tactics.proofs.EntryLaws as entry
 use Rattle.machine.specs.declared.state.State.{State}
 use Rattle.machine.specs.Shows.{FramesAt, setAside, Proved}
 use Rattle.machine.proofs.WaitingLaws.{if-proved, if-failed, if-ended}
 use Rattle.runner.specs.Run.{ShowsState, Started, Ran}
-use Rattle.runner.specs.Jobs.{StartGiven, Starts, FinishGiven, Leaves, Finishes, JobGiven, JobRan}
+use Rattle.runner.specs.Jobs.{StartGiven, Starts, FinishGiven, Finishes, JobGiven, JobRan}
 use Rattle.runner.proofs.RunLaws.{known-same, if-running, if-stopped}
 
 -- the first state
@@ -69,53 +67,23 @@ start-end job parts w v q e =
       };
     }
 
--- a refusal leaves the output space
-pub refusal-leaves : (c : Cause) (k file place n : ℕ) (o : List ℕ) (r : Answer) → number c ≡ k → r ≡ said.refusal k file place n → Leaves (refusal c file place n) o r o
-unfolding writeOut
-refusal-leaves c k file place n o r e q = record { answer-is = λ work. q ∙ ap (λ (x : ℕ). said.refusal x file place n) (sym e); output-is = λ work. refl }
-
--- a success writes, or is 26
-pub short-leaves : (bytes : List ℕ) (size n : ℕ) (o : List ℕ) (r : Answer) → length bytes ≡ size → length o < size → r ≡ said.refusal 26 0 0 n → Leaves (success bytes n) o r o
-unfolding writeOut number
-short-leaves bytes size n o r e h q =
-    let t : ltb (length o) (length bytes) ≡ true = lt-ltb (length o) (length bytes) (omega (arith, e, h)) in
-    record {
-      answer-is = λ work. q ∙ sym (ap (λ (b : Bool). told b work .answer) t);
-      output-is = λ work. sym (ap (λ (b : Bool). told b work .out) t);
-    }
-  where
-    told : Bool → List ℕ → Written
-    told b work = cond b (record { answer = said.refusal 26 0 0 n; work = cleared work; out = o }) (record { answer = said.wrote (length bytes) n; work = cleared work; out = bytes ++ drop (length bytes) o })
-
-pub success-leaves : (bytes : List ℕ) (size n : ℕ) (o v : List ℕ) (r : Answer) → length bytes ≡ size → size ≤ length o → r ≡ said.wrote size n → v ≡ bytes ++ drop size o → Leaves (success bytes n) o r v
-unfolding writeOut number
-success-leaves bytes size n o v r e h q p =
-    let t : ltb (length o) (length bytes) ≡ false = le-ltb (length o) (length bytes) (omega (arith, e, h)) in
-    record {
-      answer-is = λ work. q ∙ ap (λ (k : ℕ). said.wrote k n) (sym e) ∙ sym (ap (λ (b : Bool). told b work .answer) t);
-      output-is = λ work. p ∙ ap (λ (k : ℕ). bytes ++ drop k o) (sym e) ∙ sym (ap (λ (b : Bool). told b work .out) t);
-    }
-  where
-    told : Bool → List ℕ → Written
-    told b work = cond b (record { answer = said.refusal 26 0 0 n; work = cleared work; out = o }) (record { answer = said.wrote (length bytes) n; work = cleared work; out = bytes ++ drop (length bytes) o })
-
 -- the end of a run, by the last state's mode
 module _ (job w : List ℕ) (s : State) (o : List ℕ) (r : Answer) where
   pub spent-end : s .mode ≡ 0 → r ≡ said.refusal 24 0 0 (s .steps) → Finishes job w s o r o
   unfolding runEnd number
-  spent-end m q table j κ st h = if-running table job w s (λ x. Leaves (runEnd j (s .steps) x) o r o) m (λ t g k i. refusal-leaves budgetSpent 24 0 0 (s .steps) o r refl q) κ h
+  spent-end m q table j κ st h = if-running table job w s (λ x. kept r o ≡ leftIn o (runEnd j (s .steps) x)) m (λ t g k i. refuses budgetSpent 24 0 0 (s .steps) r o refl q) κ h
 
   pub failed-end : (s .mode ≡ 0 → ⊥) → s .mode ≡ 2 → r ≡ said.refusal 23 0 0 (s .steps) → Finishes job w s o r o
   unfolding runEnd number
   failed-end n m q table j κ st h =
-      if-stopped table job w s (λ x. Leaves (runEnd j (s .steps) x) o r o) n
-      (λ e i. if-failed table job w s [] (λ y. Leaves (runEnd j (s .steps) (stopped y)) o r o) m (λ l. refusal-leaves tacticFailed 23 0 0 (s .steps) o r refl q) e i) κ h
+      if-stopped table job w s (λ x. kept r o ≡ leftIn o (runEnd j (s .steps) x)) n
+      (λ e i. if-failed table job w s [] (λ y. kept r o ≡ leftIn o (runEnd j (s .steps) (stopped y))) m (λ l. refuses tacticFailed 23 0 0 (s .steps) r o refl q) e i) κ h
 
   pub ended-end : (s .mode ≡ 0 → ⊥) → (s .mode ≡ 1 → ⊥) → (s .mode ≡ 2 → ⊥) → r ≡ said.refusal 22 0 0 (s .steps) → Finishes job w s o r o
   unfolding runEnd number
   ended-end n a b q table j κ st h =
-      if-stopped table job w s (λ x. Leaves (runEnd j (s .steps) x) o r o) n
-      (λ e i. if-ended table job w s [] (λ y. Leaves (runEnd j (s .steps) (stopped y)) o r o) a b (λ c l. refusal-leaves c 22 0 0 (s .steps) o r (ap number (l .cause-is)) q) e i) κ h
+      if-stopped table job w s (λ x. kept r o ≡ leftIn o (runEnd j (s .steps) x)) n
+      (λ e i. if-ended table job w s [] (λ y. kept r o ≡ leftIn o (runEnd j (s .steps) (stopped y))) a b (λ c l. refuses c 22 0 0 (s .steps) r o (ap number (l .cause-is)) q) e i) κ h
 
 -- the end of a run that succeeded
 module _ (job : List ℕ) (term : ℕ) (w : List ℕ) (s : State) (m : s .mode ≡ 1) (q : FinishGiven job term w s) where
@@ -143,12 +111,12 @@ module _ (job : List ℕ) (term : ℕ) (w : List ℕ) (s : State) (m : s .mode �
   module _ (o : List ℕ) (r : Answer) where
     -- what is said of every last state that the code may stand for
     if-success : (v : List ℕ) → ((table : List ℕ) (j : Job) (p : Term) (g : List Goal) → JobStands job j → Proved table job w s p g [] → jobTermPlace j ≡ term
-        → Leaves (success (proofBytes (record { goals = j .goals; term = p; remaining = g })) (s .steps)) o r v)
+        → kept r v ≡ leftIn o (success (proofBytes (record { goals = j .goals; term = p; remaining = g })) (s .steps)))
         → Finishes job w s o r v
     unfolding runEnd
     if-success v f table j κ st h =
-        if-stopped table job w s (λ x. Leaves (runEnd j (s .steps) x) o r v) not-running
-        (λ e i. if-proved table job w s [] (λ y. Leaves (runEnd j (s .steps) (stopped y)) o r v) m (λ p g a. f table j p g st a (same-place job (q .the-job) (q .job-stands) term (q .term-is) j st)) e i) κ h
+        if-stopped table job w s (λ x. kept r v ≡ leftIn o (runEnd j (s .steps) x)) not-running
+        (λ e i. if-proved table job w s [] (λ y. kept r v ≡ leftIn o (runEnd j (s .steps) (stopped y))) m (λ p g a. f table j p g st a (same-place job (q .the-job) (q .job-stands) term (q .term-is) j st)) e i) κ h
 
   pub file-given : (o : List ℕ) → fileSize term (s .out) (s .count) ≤ length o → FileGiven job term w 0 (s .out) (s .start) (s .count) o
   file-given o h =
@@ -165,20 +133,13 @@ module _ (job : List ℕ) (term : ℕ) (w : List ℕ) (s : State) (m : s .mode �
     unfolding FramesAt
     from-start = subst (λ (i : ℕ). Stands w i p) (a .frames .1) (a .stands)
 
-    total-is : (j : Job) → jobTermPlace j ≡ term → length (proofBytes (record { goals = j .goals; term = p; remaining = g })) ≡ fileSize term (s .out) (s .count)
-    total-is j place =
-        subst (λ (i : ℕ). length (proofBytes (record { goals = j .goals; term = p; remaining = g })) ≡ fileSize i (s .out) (s .count)) place
-        (file-size w (s .out) (s .start) (s .count) j p g size-is (a .goals .are))
-
   module _ (o : List ℕ) (r : Answer) where
     pub short-end : length o < fileSize term (s .out) (s .count) → r ≡ said.refusal 26 0 0 (s .steps) → Finishes job w s o r o
-    short-end h e = if-success o r o (λ table j p g st a place.
-        short-leaves (proofBytes (record { goals = j .goals; term = p; remaining = g })) (fileSize term (s .out) (s .count)) (s .steps) o r (total-is table p g a j place) h e)
+    short-end h e = if-success o r o (λ table j p g st a place. entry.short-end w term (s .out) (s .start) (s .count) j p g place (size-is table p g a) (a .goals .are) (s .steps) o r h e)
 
     pub success-end : (v : List ℕ) → fileSize term (s .out) (s .count) ≤ length o → FileWritten job term w 0 (s .out) (s .start) (s .count) o v → r ≡ said.wrote (fileSize term (s .out) (s .count)) (s .steps) → Finishes job w s o r v
     success-end v h f e = if-success o r v (λ table j p g st a place.
-        success-leaves (proofBytes (record { goals = j .goals; term = p; remaining = g })) (fileSize term (s .out) (s .count)) (s .steps) o v r (total-is table p g a j place) h e
-        (f j p g st place (from-start table p g a) (size-is table p g a) (a .goals .are)))
+        entry.success-end w term (s .out) (s .start) (s .count) j p g place (size-is table p g a) (a .goals .are) job 0 (s .steps) o v r h st (from-start table p g a) f e)
 
 -- the whole job
 module _ (bytes : List ℕ) (first definitions : ℕ) (job : List ℕ) (parts : JobParts) (budget : ℕ) (w : List ℕ) (q : JobGiven bytes first definitions job parts budget w) where
@@ -236,4 +197,4 @@ module _ (bytes : List ℕ) (first definitions : ℕ) (job : List ℕ) (parts : 
         job-end o x v h T j st unique c js p =
             let l = last T j st unique c js p in
             let σ = M.run T budget (M.start (j .term) (j .goals)) in
-            subst (λ (n : ℕ). Leaves (runEnd j n (σ .control)) o x v) (l .steps-are) (h bytes j (σ .control) js (l .shows))
+            subst (λ (n : ℕ). kept x v ≡ leftIn o (runEnd j n (σ .control))) (l .steps-are) (h bytes j (σ .control) js (l .shows))

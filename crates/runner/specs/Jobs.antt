@@ -13,9 +13,8 @@ use Rattle.files.specs.Standing.{JobStands}
 use Rattle.files.specs.Shapes.{jobPartsOf}
 use Rattle.hitac.specs.Machine as M
 use Rattle.answers.specs.declared.Answer.{Answer}
-use Rattle.entries.specs.Outcomes.{Outcome}
-use Rattle.entries.specs.LentSpace.{writeOut}
 use Rattle.entries.specs.Run.{runEnd, runResult}
+use Rattle.entries.specs.Left.{kept, leftIn}
 use Rattle.arities.specs.Layout.{framesEnd, spaceEnd}
 use Rattle.machine.specs.declared.state.State.{State}
 use Rattle.machine.specs.Shows.{Runs, Shows}
@@ -44,13 +43,9 @@ pub record FinishGiven (job : List ℕ) (term : ℕ) (w : List ℕ) (s : State) 
   pub control : M.Control
   pub shows : Shows table job w s control
 
--- the answer and the output space are those of an outcome, whatever the work space was
-pub record Leaves (outcome : Outcome (List ℕ)) (o : List ℕ) (r : Answer) (v : List ℕ) : Type 0 where
-  pub answer-is : (work : List ℕ) → r ≡ writeOut work o outcome .answer
-  pub output-is : (work : List ℕ) → v ≡ writeOut work o outcome .out
-
+-- the answer and the output space are those that entries define
 abbrev pub Finishes : (job : List ℕ) → List ℕ → State → List ℕ → Answer → List ℕ → Type 0
-Finishes job w s o r v = (table : List ℕ) (j : Job) (κ : M.Control) → JobStands job j → Shows table job w s κ → Leaves (runEnd j (s .steps) κ) o r v
+Finishes job w s o r v = (table : List ℕ) (j : Job) (κ : M.Control) → JobStands job j → Shows table job w s κ → kept r v ≡ leftIn o (runEnd j (s .steps) κ)
 
 -- the whole job
 pub record JobGiven (bytes : List ℕ) (first definitions : ℕ) (job : List ℕ) (parts : JobParts) (budget : ℕ) (w : List ℕ) : Type 0 where
@@ -68,4 +63,4 @@ pub record JobGiven (bytes : List ℕ) (first definitions : ℕ) (job : List ℕ
 abbrev pub JobRan : (bytes : List ℕ) → (first definitions : ℕ) → (job : List ℕ) → JobParts → (budget : ℕ) → List ℕ → Answer → List ℕ → Type 0
 JobRan bytes first definitions job parts budget o r v =
     (T : Table) (j : Job) → TableStands bytes first T → UniqueDefinitions T → definitions ≡ length (T .definitions) → JobStands job j → jobPartsOf j ≡ parts
-    → Leaves (runResult j (M.run T budget (M.start (j .term) (j .goals)))) o r v
+    → kept r v ≡ leftIn o (runResult j (M.run T budget (M.start (j .term) (j .goals))))

@@ -4,8 +4,8 @@ ghost use Prim.Native.Nat.{_≤_};
 ghost use lib.ListN.{length};
 ghost use Rattle.format.specs.Limits.{mostSteps};
 ghost use Rattle.entries.specs.Run.{runOutcome, runTactic};
+ghost use Rattle.entries.specs.Left.{kept, leftIn};
 ghost use Rattle.arities.specs.Layout.{spaceEnd};
-ghost use Rattle.runner.specs.Jobs.{Leaves};
 use crate::job::run_job;
 use answers::Answer;
 use answers::refusal;
@@ -20,7 +20,7 @@ use words::clear;
 // Both files, within the budget's limit, in a work space that is long enough. Nothing of the run stands in it yet while they are read.
 fn run_files(table: &[u8], job: &[u8], budget: usize, work: &mut [u8], out: &mut [u8]) -> Answer
     requires { ⌜ (budget ≤ mostSteps) × (spaceEnd ≤ length (now work)) ⌝ }
-    ensures { λ r. ⌜ Leaves (runOutcome (now (table .entry)) (now (job .entry)) budget) (now (out .entry)) r (now (out .exit)) ⌝ }
+    ensures { λ r. ⌜ kept r (now (out .exit)) ≡ leftIn (now (out .entry)) (runOutcome (now (table .entry)) (now (job .entry)) budget) ⌝ }
 {
     let read = read_table(table, work, 0, READING_SCRATCH);
     match read {
@@ -40,7 +40,7 @@ fn run_files(table: &[u8], job: &[u8], budget: usize, work: &mut [u8], out: &mut
 // 25 before any reading.
 fn run_budget(table: &[u8], job: &[u8], budget: u32, work: &mut [u8], out: &mut [u8]) -> Answer
     requires { ⌜ spaceEnd ≤ length (now work) ⌝ }
-    ensures { λ r. ⌜ Leaves (runOutcome (now (table .entry)) (now (job .entry)) budget) (now (out .entry)) r (now (out .exit)) ⌝ }
+    ensures { λ r. ⌜ kept r (now (out .exit)) ≡ leftIn (now (out .entry)) (runOutcome (now (table .entry)) (now (job .entry)) budget) ⌝ }
 {
     if 4096 < budget {
         return refusal(25, 0, 0, 0);

@@ -6,3 +6,4 @@ pub mod FoundLaws
 pub mod SourceLaws
 pub mod FileLaws
 pub mod JobLaws
+pub mod EntryLaws

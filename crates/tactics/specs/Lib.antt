@@ -3,3 +3,4 @@ pub mod Numbers
 pub mod Goals
 pub mod Source
 pub mod File
+pub mod Entry

@@ -18,9 +18,8 @@ use Rattle.files.proofs.Sizes.{size-most}
 use Rattle.answers.specs.Answers.{refusal}
 use Rattle.entries.specs.Outcomes.{otherFile, done}
 use Rattle.entries.specs.LentSpace.{writeOut}
-use Rattle.entries.specs.Left.{leftIn}
+use Rattle.entries.specs.Left.{kept, leftIn}
 use Rattle.entries.specs.Texts.{readTextOutcome}
-use Rattle.entries.proofs.LeftLaws.{kept}
 use Rattle.notation.specs.Marks.{Mark}
 use Rattle.notation.specs.Passing.{sizes}
 use Rattle.notation.specs.MarksIn.{markAt, withMark, marksIn}

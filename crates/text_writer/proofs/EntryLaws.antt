@@ -20,8 +20,8 @@ use Rattle.notation.proofs.RoundTrip.{written-length}
 use Rattle.entries.specs.Outcomes.{otherFile, done}
 use Rattle.entries.specs.LentSpace.{writeOut}
 use Rattle.entries.specs.Texts.{writeTextOutcome}
-use Rattle.entries.specs.Left.{leftIn}
-use Rattle.entries.proofs.LeftLaws.{kept, enough-room}
+use Rattle.entries.specs.Left.{kept, leftIn}
+use Rattle.entries.proofs.LeftLaws.{enough-room}
 
 module _ (s : List ℕ) where
   pub refused-place : (k p : ℕ) → termFileShape (readTermFile s) ≡ R.Refused k p → p ≤ 65535
@@ -49,4 +49,4 @@ pub copied : (work out : List ℕ) (len : ℕ) (text : List ℕ) → (len ≡ le
 copied work out len text h l =
     let n : 0 + len ≡ length text = omega (arith, h .0) in
     let bytes : paste out 0 (drop 0 work) len ≡ text ++ drop (length text) out = ap (λ (y : List ℕ). y ++ drop (0 + len) out) (h .1) ∙ ap (λ (i : ℕ). text ++ drop i out) n in
-    (λ i. kept (wrote (h .0 i) 0) (bytes i)) ∙ enough-room text out (omega (arith, h .0, l))
+    (λ i. kept (wrote (h .0 i) 0) (bytes i)) ∙ enough-room text 0 out (omega (arith, h .0, l))

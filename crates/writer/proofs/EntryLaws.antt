@@ -2,11 +2,9 @@
 -- Assumes nothing.
 use Prim.Native.Nat.{ℕ, _+_, _≤_, _<_}
 use mathlib.Core.Path.{_≡_, refl, ap, _∙_}
-use mathlib.Core.Bool.{Bool, true, false, cond}
-use mathlib.Core.List.{List, [], _∷_, _++_}
+use mathlib.Core.List.{List, [], _∷_}
 use native.Mathlib.Omega.{arith}
-use lib.Dec.{ltb}
-use lib.ListN.{length, drop}
+use lib.ListN.{length}
 use borrow.Author.Tests.{lt-ltb, le-ltb}
 use Rattle.format.specs.declared.values.Goal.{Goal}
 use Rattle.format.specs.Limits.{mostEntries}
@@ -22,17 +20,15 @@ use Rattle.files.specs.Derivations.{Derivation, readFlat, entriesPlace}
 use Rattle.hitac.specs.FlatWalk.{flatWalk}
 use Rattle.hitac.proofs.FlatBounds.{entries-count}
 use Rattle.answers.specs.declared.Answer.{Answer}
-use Rattle.answers.specs.Answers.{refusal, wrote}
-use Rattle.entries.specs.Outcomes.{Outcome, success, inFile, done, tableFile, otherFile, noFile}
-use Rattle.entries.specs.Outcomes as outcomes
-use Rattle.entries.specs.LentSpace.{Written, countedAnswer, cleared, writeOut, writeIn}
-use Rattle.entries.specs.CheckFlat.{nonePending, right, flatCounts, writtenProof, writtenFile, writeOutcome, writeProofWork, writeProof}
+use Rattle.answers.specs.Answers.{refusal}
+use Rattle.entries.specs.Outcomes.{inFile, done, tableFile, otherFile}
+use Rattle.entries.specs.LentSpace.{Written, countedAnswer, writeOut}
+use Rattle.entries.specs.Left.{kept, leftIn}
+use Rattle.entries.specs.CheckFlat.{nonePending, right, flatCounts, writtenProof, writtenFile, writeOutcome}
 use Rattle.derivation.specs.CheckedEntries.{DerivationAt, checkedEntries}
 use Rattle.derivation.proofs.CheckLaws.{parts-hold}
 use Rattle.writer.specs.Sizes.{proofSize}
 use Rattle.writer.specs.Right.{Right, proofOf}
-use Rattle.entries.specs.Left.{leftIn}
-use Rattle.entries.proofs.LeftLaws.{kept}
 use Rattle.writer.specs.Left.{writtenEntries}
 use Rattle.writer.proofs.SizeLaws.{proof-size-is}
 

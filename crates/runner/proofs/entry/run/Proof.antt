@@ -1,10 +1,11 @@
 -- `entry::run` meets its contract: 29 before anything is read, else what `run_budget` leaves, and the work space cleared.
 -- Assumes nothing.
-use mathlib.Core.Path.{sym, ap, _∙_}
+use mathlib.Core.Path.{ap, _∙_}
 use Prim.Native.Nat.{ℕ}
 use lib.ListN.{replicate}
 use Rattle.entries.specs.LentSpace.{Written}
-use Rattle.runner.proofs.EntryLaws.{too-short, run-end}
+use Rattle.entries.specs.Run.{runWork, runOutcome, runTactic}
+use Rattle.entries.proofs.LeftLaws.{unbegun-end, begun-end}
 use borrow.Author.Needs.{needs}
 use Rattle.runner.proofs.entry.run.Statement.{statement}
 use Rattle.runner.proofs.entry.run.Tie as tie
@@ -18,11 +19,10 @@ refusal-requires : tie.Need-refusal-requires
 refusal-requires c κs = search needs
 
 returns : tie.Need-returns
+unfolding runTactic
 returns c =
     let a = c .before .before .before .before .before .before .args in
-    let p = c .before .before .before .before .before .before .pre in
-    let o = too-short (a .table .now) (a .job .now) (a .budget) (a .work .now) (a .out .now) (c .before .if1 .taken) in
-    (c .refusal .ensures ∙ ap (λ (x : Written). x .answer) (sym o), (ap (λ (x : Written). x .work) (sym o), ap (λ (x : Written). x .out) (sym o)))
+    unbegun-end runWork (a .work .now) (a .out .now) (runOutcome (a .table .now) (a .job .now) (a .budget)) _ (c .before .if1 .taken) (c .refusal .ensures)
 
 run-budget-requires : tie.Need-run-budget-requires
 run-budget-requires c κs = search needs
@@ -37,11 +37,11 @@ same-length-2 : tie.Need-same-length-2
 same-length-2 c = search needs
 
 returns-2 : tie.Need-returns-2
+unfolding runTactic
 returns-2 c =
     let a = c .before .before .before .before .before .before .before .before .before .before .before .before .before .before .before .before .args in
-    let p = c .before .before .before .before .before .before .before .before .before .before .before .before .before .before .before .before .pre in
-    let e = run-end (a .table .now) (a .job .now) (a .budget) (a .work .now) (a .out .now) _ _ _ (c .before .before .before .before .before .before .before .before .before .before .before .if1 .left) (c .before .before .before .before .before .before .before .before .run-budget .ensures) (c .before .before .clear .ensures ∙ ap (λ (n : ℕ). replicate n 0) (c .before .before .before .before .before .before .before .before .run-budget .kept .1 .1 .1 .0)) in
-    (e .0, (e .1, e .2))
+    let b = c .before .before .before .before .before .before .before .before .run-budget in
+    begun-end runWork (a .work .now) (a .out .now) (runOutcome (a .table .now) (a .job .now) (a .budget)) _ _ _ (c .before .before .before .before .before .before .before .before .before .before .before .if1 .left) (ap (λ (x : Written). x .answer) (b .ensures)) (c .before .before .clear .ensures ∙ ap (λ (n : ℕ). replicate n 0) (b .kept .1 .1 .1 .0)) (ap (λ (x : Written). x .out) (b .ensures))
 
 pub run-spec : {M : Type 1} → statement M
 run-spec =

@@ -12,7 +12,8 @@ use Rattle.tables.specs.Shapes.{tableShape}
 use Rattle.files.specs.declared.jobs.JobRead.the-variants as J
 use Rattle.files.specs.Jobs.{readJob}
 use Rattle.files.specs.Shapes.{jobShape}
-use Rattle.runner.proofs.EntryLaws.{table-place, table-refused-end, job-place, job-refused-end, job-given, job-end}
+use Rattle.tactics.proofs.EntryLaws.{table-place, job-place, BothRead, table-refused-end, job-refused-end, both-read}
+use Rattle.runner.proofs.EntryLaws.{runs, read-end, job-given, job-end}
 use Rattle.runner.proofs.entry.run_files.Statement.{statement}
 use Rattle.runner.proofs.entry.run_files.Tie as tie
 
@@ -36,6 +37,9 @@ k c = c .before .before .before .before .before .before .before
 job : (c : L) → jobShape (readJob (now (I (k c) .args .job))) ≡ J.Read (c .before .file2 .given .0 .0)
 job c = sym (c .before .before .before .before .before .read-job .ensures .0) ∙ c .before .file2 .given .1
 
+both : (c : L) → BothRead (now (I (k c) .args .table)) (now (I (k c) .args .job)) (runs (I (k c) .args .budget)) (k c .before .read2 .given .0 .1 .0) (k c .before .read2 .given .0 .1 .1 .0) (c .before .file2 .given .0 .0)
+both c = both-read _ _ (runs (I (k c) .args .budget)) _ _ _ (read (k c)) _ (job c)
+
 size : (c : L) → length (c .before .before .before .before .before .read-job .last .1 .0) ≡ length (now (I (k c) .args .work))
 size c = c .before .before .before .before .before .read-job .kept .1 .0 ∙ k c .before .before .before .before .before .read-table .kept .1 .0
 
@@ -47,8 +51,7 @@ enum-known-read c = search needs
 
 refusal-requires : tie.Need-refusal-requires
 refusal-requires c κs =
-    let i = c .before .before .before .before .before .before .before .before .before .before .before in
-    (table-place _ (now (i .args .job)) (i .args .budget) (i .pre .0) _ _ (sym (c .before .before .before .before .before .read-table .ensures .answer) ∙ c .before .read .given .1), omega arith)
+    (table-place _ _ _ (sym (c .before .before .before .before .before .read-table .ensures .answer) ∙ c .before .read .given .1), omega arith)
 
 enum-known-read-2 : tie.Need-enum-known-read-2
 enum-known-read-2 c = search needs
@@ -61,8 +64,7 @@ enum-known-file c = search needs
 
 refusal-requires-2 : tie.Need-refusal-requires-2
 refusal-requires-2 c κs =
-    let i = c .before .before .before .before .before .before .before .before .before .before .before .before .before .before .before .before .before .before in
-    (job-place _ _ (i .args .budget) (i .pre .0) _ _ _ (read (c .before .before .before .before .before .before .before)) _ _ (sym (c .before .before .before .before .before .read-job .ensures .0) ∙ c .before .file .given .1), omega arith)
+    (job-place _ _ _ (sym (c .before .before .before .before .before .read-job .ensures .0) ∙ c .before .file .given .1), omega arith)
 
 enum-known-file-2 : tie.Need-enum-known-file-2
 enum-known-file-2 c = search needs
@@ -71,7 +73,7 @@ run-job-requires : tie.Need-run-job-requires
 run-job-requires c κs =
     let l = c .before .before in
     let i = I (k l) in
-    job-given _ _ _ (i .pre .0) _ _ _ (read (k l)) _ (job l) _ (omega (arith, i .pre .1, size l))
+    job-given _ _ _ (i .pre .0) _ _ _ (both l) _ (omega (arith, i .pre .1, size l))
 
 same-length : tie.Need-same-length
 same-length c = c .before .before .before .before .before .before .read-table .kept .1 .0
@@ -79,7 +81,7 @@ same-length c = c .before .before .before .before .before .before .read-table .k
 returns : tie.Need-returns
 returns c =
     let i = c .before .before .before .before .before .before .before .before .before .before .before .before in
-    table-refused-end _ _ _ (i .pre .0) _ _ _ _ (sym (c .before .before .before .before .before .before .read-table .ensures .answer) ∙ c .before .before .read .given .1) (c .refusal .ensures)
+    read-end _ _ _ (i .pre .0) _ _ (table-refused-end _ (now (i .args .job)) (runs (i .args .budget)) _ _ _ _ (sym (c .before .before .before .before .before .before .read-table .ensures .answer) ∙ c .before .before .read .given .1) (c .refusal .ensures))
 
 same-length-2 : tie.Need-same-length-2
 same-length-2 c = c .before .before .before .before .before .before .read-job .kept .1 .0 ∙ c .before .before .before .before .before .before .before .before .before .before .before .before .before .read-table .kept .1 .0
@@ -87,7 +89,7 @@ same-length-2 c = c .before .before .before .before .before .before .read-job .k
 returns-2 : tie.Need-returns-2
 returns-2 c =
     let i = c .before .before .before .before .before .before .before .before .before .before .before .before .before .before .before .before .before .before .before in
-    job-refused-end _ _ _ (i .pre .0) _ _ _ (read (c .before .before .before .before .before .before .before .before)) _ _ _ _ (sym (c .before .before .before .before .before .before .read-job .ensures .0) ∙ c .before .before .file .given .1) (c .refusal2 .ensures)
+    read-end _ _ _ (i .pre .0) _ _ (job-refused-end _ _ (runs (i .args .budget)) _ _ _ (read (c .before .before .before .before .before .before .before .before)) _ _ _ _ (sym (c .before .before .before .before .before .before .read-job .ensures .0) ∙ c .before .before .file .given .1) (c .refusal2 .ensures))
 
 same-length-3 : tie.Need-same-length-3
 same-length-3 c = search needs
@@ -98,7 +100,7 @@ same-length-4 c = search needs
 returns-3 : tie.Need-returns-3
 returns-3 c =
     let l = c .before .before .before .before .before .before .before in
-    job-end _ _ _ (I (k l) .pre .0) _ _ _ (read (k l)) _ (job l) _ _ _ (c .before .before .before .before .run-job .ensures)
+    job-end _ _ _ (I (k l) .pre .0) _ _ _ (both l) _ _ _ (c .before .before .before .before .run-job .ensures)
 
 pub run-files-spec : {M : Type 1} → statement M
 run-files-spec =

@@ -1,13 +1,12 @@
 -- `entry::read_text` meets its contract: 29, or what the reading leaves with the work space cleared.
 -- Assumes nothing.
 use borrow.Author.Needs.{needs}
-use mathlib.Core.Path.{_≡_, sym, ap, _∙_}
+use mathlib.Core.Path.{ap, _∙_}
 use Prim.Native.Nat.{ℕ}
 use denote.Ref.{now}
-use lib.ListN.{length, replicate}
-use Rattle.entries.specs.LentSpace.{Written}
+use lib.ListN.{replicate}
 use Rattle.entries.specs.Texts.{readTextWork, readTextOutcome, readText}
-use Rattle.entries.proofs.LeftLaws.{too-short, long-enough}
+use Rattle.entries.proofs.LeftLaws.{unbegun-end, begun-end}
 use Rattle.text_reader.proofs.entry.read_text.Statement.{statement}
 use Rattle.text_reader.proofs.entry.read_text.Tie as tie
 
@@ -18,8 +17,7 @@ returns : tie.Need-returns
 unfolding readText
 returns c =
     let a = c .before .before .before .before .before .args in
-    let e = too-short readTextWork (now (a .work)) (now (a .out)) (readTextOutcome (now (a .text))) (c .before .if1 .taken) in
-    (c .refusal .ensures ∙ sym (ap (λ (x : Written). x .answer) e), (sym (ap (λ (x : Written). x .work) e), sym (ap (λ (x : Written). x .out) e)))
+    unbegun-end readTextWork (now (a .work)) (now (a .out)) (readTextOutcome (now (a .text))) _ (c .before .if1 .taken) (c .refusal .ensures)
 
 read-within-requires : tie.Need-read-within-requires
 read-within-requires c κs = search needs
@@ -38,9 +36,7 @@ unfolding readText
 returns-2 c =
     let a = c .before .before .before .before .before .before .before .before .before .before .before .before .before .before .before .args in
     let w = c .before .before .before .before .before .before .before .before .read-within in
-    let e = long-enough readTextWork (now (a .work)) (now (a .out)) (readTextOutcome (now (a .text))) (c .before .before .before .before .before .before .before .before .before .before .before .if1 .left) in
-    let same : length (w .last .1 .0) ≡ length (now (a .work)) = w .kept .1 .0 in
-    (w .ensures .0 ∙ sym (ap (λ (x : Written). x .answer) e), (c .before .before .clear .ensures ∙ ap (λ (k : ℕ). replicate k 0) same ∙ sym (ap (λ (x : Written). x .work) e), w .ensures .1 ∙ sym (ap (λ (x : Written). x .out) e)))
+    begun-end readTextWork (now (a .work)) (now (a .out)) (readTextOutcome (now (a .text))) _ _ _ (c .before .before .before .before .before .before .before .before .before .before .before .if1 .left) (w .ensures .0) (c .before .before .clear .ensures ∙ ap (λ (k : ℕ). replicate k 0) (w .kept .1 .0)) (w .ensures .1)
 
 pub read-text-spec : {M : Type 1} → statement M
 read-text-spec = tie.close (tie.spec refusal-requires returns read-within-requires clear-requires same-length same-length-2 returns-2)

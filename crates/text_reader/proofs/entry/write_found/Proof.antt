@@ -19,8 +19,8 @@ refusal-requires c κs = search needs
 returns : tie.Need-returns
 returns c =
     let o = now (c .before .before .before .before .args .out) in (
-      λ ms p. c .refusal .ensures ∙ ap (λ (x : Written). x .answer) (no-room (termBytes (p .term)) o (omega (arith, term-size _ _ _ _ p, c .before .if1 .taken))),
-      λ ms p. ap (λ (x : Written). x .out) (no-room (termBytes (p .term)) o (omega (arith, term-size _ _ _ _ p, c .before .if1 .taken))),
+      λ ms p. c .refusal .ensures ∙ ap (λ (x : Written). x .answer) (no-room (termBytes (p .term)) 0 o (omega (arith, term-size _ _ _ _ p, c .before .if1 .taken))),
+      λ ms p. ap (λ (x : Written). x .out) (no-room (termBytes (p .term)) 0 o (omega (arith, term-size _ _ _ _ p, c .before .if1 .taken))),
     )
 
 sub-write-term : tie.Need-sub-write-term
@@ -48,8 +48,8 @@ returns-2 : tie.Need-returns-2
 returns-2 c =
     let o = now (c .before .before .before .before .before .before .before .before .before .before .before .args .out) in
     let l = c .before .before .before .before .before .before .before .before .if1 .left in (
-      λ ms p. c .wrote .ensures ∙ ap (λ (k : ℕ). wrote k 0) (term-size _ _ _ _ p) ∙ ap (λ (x : Written). x .answer) (enough-room (termBytes (p .term)) o (omega (arith, term-size _ _ _ _ p, l))),
-      λ ms p. front-placed _ o _ _ (term-size _ _ _ _ p) (c .before .before .before .before .before .write-term .ensures ms (recast _ (part-length _ o l) p)) ∙ ap (λ (x : Written). x .out) (enough-room (termBytes (p .term)) o (omega (arith, term-size _ _ _ _ p, l))),
+      λ ms p. c .wrote .ensures ∙ ap (λ (k : ℕ). wrote k 0) (term-size _ _ _ _ p) ∙ ap (λ (x : Written). x .answer) (enough-room (termBytes (p .term)) 0 o (omega (arith, term-size _ _ _ _ p, l))),
+      λ ms p. front-placed _ o _ _ (term-size _ _ _ _ p) (c .before .before .before .before .before .write-term .ensures ms (recast _ (part-length _ o l) p)) ∙ ap (λ (x : Written). x .out) (enough-room (termBytes (p .term)) 0 o (omega (arith, term-size _ _ _ _ p, l))),
     )
 
 pub write-found-spec : {M : Type 1} → statement M

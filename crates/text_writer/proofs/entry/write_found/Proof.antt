@@ -24,8 +24,8 @@ returns : tie.Need-returns
 returns c =
     let o = now (c .before .before .before .before .before .before .before .before .before .args .out) in
     let l = c .before .if1 .taken in (
-      λ t st. c .refusal .ensures ∙ ap (λ (x : Written). x .answer) (no-room (written t) o (omega (arith, c .before .before .before .before .write-term .ensures t st .0, l))),
-      λ t st. ap (λ (x : Written). x .out) (no-room (written t) o (omega (arith, c .before .before .before .before .write-term .ensures t st .0, l))),
+      λ t st. c .refusal .ensures ∙ ap (λ (x : Written). x .answer) (no-room (written t) 0 o (omega (arith, c .before .before .before .before .write-term .ensures t st .0, l))),
+      λ t st. ap (λ (x : Written). x .out) (no-room (written t) 0 o (omega (arith, c .before .before .before .before .write-term .ensures t st .0, l))),
     )
 
 copy-in-requires : tie.Need-copy-in-requires

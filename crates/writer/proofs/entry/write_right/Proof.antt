@@ -24,8 +24,8 @@ returns : tie.Need-returns
 returns c =
     let o = now (c .before .before .before .before .before .before .args .out) in
     let short = c .before .if1 .taken in (
-      λ d st e. c .refusal .ensures ∙ ap (λ (x : Written). x .answer) (no-room (proofOf d) o (omega (arith, e, short))),
-      λ d st e. ap (λ (x : Written). x .out) (no-room (proofOf d) o (omega (arith, e, short))),
+      λ d st e. c .refusal .ensures ∙ ap (λ (x : Written). x .answer) (no-room (proofOf d) 0 o (omega (arith, e, short))),
+      λ d st e. ap (λ (x : Written). x .out) (no-room (proofOf d) 0 o (omega (arith, e, short))),
     )
 
 mul-plan-entries : tie.Need-mul-plan-entries
@@ -77,8 +77,8 @@ returns-2 : tie.Need-returns-2
 returns-2 c =
     let w = c .before in
     let o = now (start (made w) .args .out) in (
-      λ d st e. c .wrote .ensures ∙ ap (λ (k : ℕ). wrote k 0) (file w d st e .0) ∙ ap (λ (x : Written). x .answer) (enough-room (proofOf d) o (fits (made w) d e)),
-      λ d st e. file w d st e .1 ∙ ap (λ (x : Written). x .out) (enough-room (proofOf d) o (fits (made w) d e)),
+      λ d st e. c .wrote .ensures ∙ ap (λ (k : ℕ). wrote k 0) (file w d st e .0) ∙ ap (λ (x : Written). x .answer) (enough-room (proofOf d) 0 o (fits (made w) d e)),
+      λ d st e. file w d st e .1 ∙ ap (λ (x : Written). x .out) (enough-room (proofOf d) 0 o (fits (made w) d e)),
     )
 
 pub write-right-spec : {M : Type 1} → statement M
