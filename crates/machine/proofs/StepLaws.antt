@@ -13,7 +13,7 @@ use Rattle.format.specs.declared.values.Label.{Label}
 use Rattle.format.specs.declared.values.TacticNo.{TacticNo}
 use Rattle.format.specs.Terms.{Term, atomic, id, label, sequence, tensor, empty, alternation, assert, defined, size}
 use Rattle.format.specs.Standing.{Stands}
-use Rattle.format.proofs.StandsLaws.{tagOf, known}
+use Rattle.format.proofs.StandsLaws.{known}
 use Rattle.format.proofs.ByTag.{by-tag}
 use Rattle.tables.specs.Tables.{Table}
 use Rattle.tables.specs.Standing.{TableStands}
@@ -25,7 +25,7 @@ use Rattle.hitac.specs.Machine.{enterOrFail}
 use Rattle.arities.specs.Arities.{arityCode, ArityTable, arities, Pair}
 use Rattle.arities.proofs.ArityLaws.{Inner, pair-of}
 use Rattle.tactics.specs.Source.{source}
-use Rattle.tactics.proofs.SourceLaws.{in-file}
+use Rattle.tactics.proofs.SourceLaws.{in-file, by-pair}
 use Rattle.machine.specs.declared.state.State.{State}
 use Rattle.machine.specs.Shows.{GoalsIs, Runs, Config, Holds, Shows}
 use Rattle.machine.specs.Popping.{settle, Fewer, Unwinding, Unwound}
@@ -178,20 +178,14 @@ module _ (src w : List ℕ) (s : State) (tag : ℕ) (q : PairStands src w s tag)
   pair-stands : Stands src (s .at) (q .term)
   pair-stands = in-file (q .bytes) (q .job) src (s .file) (s .at) (q .term) (q .so) (q .runs .stands)
 
+  -- by its tag
+  abbrev by-inner : (P : Term → Type 0) → (tag ≡ 19 → (t u : Term) → Pair src (s .at) t u → P (sequence t u)) → (tag ≡ 20 → (t u : Term) → Pair src (s .at) t u → P (tensor t u))
+      → ((t u : Term) → Pair src (s .at) t u → P (alternation t u)) → (t : Term) → Stands src (s .at) t → P t
+  by-inner P a b c t st =
+      by-pair src (s .at) tag P (q .pair .2) (q .pair .0) (q .pair .3) (q .pair .1) (q .pair .4) (q .pair .5) (λ e x y l r. a e x y (l, r)) (λ e x y l r. b e x y (l, r)) (λ e x y l r. c x y (l, r)) t st (q .tag-is)
+
   pub pair-inner : Inner src (s .at)
-  unfolding Stands tagOf
-  pair-inner = go (q .term) pair-stands (sym (known src (s .at) (q .term) pair-stands .tag-is) ∙ q .tag-is)
-    where
-      go : (t : Term) → Stands src (s .at) t → tagOf t ≡ tag → Inner src (s .at)
-      go (atomic a) st e = absurd (q .pair .2 (sym e))
-      go id st e = absurd (q .pair .0 (sym e))
-      go (label l t) st e = absurd (q .pair .3 (sym e))
-      go (sequence t u) st e = (t, u, (st .1, st .2))
-      go (tensor t u) st e = (t, u, (st .1, st .2))
-      go empty st e = absurd (q .pair .1 (sym e))
-      go (alternation t u) st e = (t, u, (st .1, st .2))
-      go (assert γ) st e = absurd (q .pair .4 (sym e))
-      go (defined d) st e = absurd (q .pair .5 (sym e))
+  pair-inner = by-inner (λ t. Inner src (s .at)) (λ e t u i. (t, u, i)) (λ e t u i. (t, u, i)) (λ t u i. (t, u, i)) (q .term) pair-stands
 
   pub pair-at : s .at < 65536
   pair-at = let k = known src (s .at) (q .term) pair-stands in omega (arith, k .inside, k .three, q .src-small)
@@ -222,16 +216,6 @@ module _ (src w : List ℕ) (s : State) (tag : ℕ) (q : PairStands src w s tag)
         (λ a u z i. b (tacticArity T a) a u (rt a u (pair-of src (s .at) a u z)) (arity (arities T) a ar (z .first)) bytes job g k i) (q .tag-is ∙ e) t (pair-there bytes job t g k so h) h
 
     pub alternation-pair : (tag ≡ 19 → ⊥) → (tag ≡ 20 → ⊥) → ((t u : Term) → right ≡ s .at + 3 + size t → Begins w s v r (alternation t u) (alternationNext t u)) → BeginsPair src w s v r
-    unfolding begun Stands tagOf
-    alternation-pair x y b bytes job T t g k so ar h = go bytes job T g k t (pair-there bytes job t g k so h) (sym (known src (s .at) t (pair-there bytes job t g k so h) .tag-is) ∙ q .tag-is) h
-      where
-        go : (bytes job : List ℕ) (T : Table) (g : List Goal) (k : List M.Frame) (t : Term) → Stands src (s .at) t → tagOf t ≡ tag → Runs bytes job w s t g k → Holds bytes job v r (begun T t g k)
-        go bytes job T g k (atomic a) st e h = absurd (q .pair .2 (sym e))
-        go bytes job T g k id st e h = absurd (q .pair .0 (sym e))
-        go bytes job T g k (label l t) st e h = absurd (q .pair .3 (sym e))
-        go bytes job T g k (sequence t u) st e h = absurd (x (sym e))
-        go bytes job T g k (tensor t u) st e h = absurd (y (sym e))
-        go bytes job T g k empty st e h = absurd (q .pair .1 (sym e))
-        go bytes job T g k (alternation t u) st e h = b t u (rt t u (st .1, st .2)) bytes job g k h
-        go bytes job T g k (assert γ) st e h = absurd (q .pair .4 (sym e))
-        go bytes job T g k (defined d) st e h = absurd (q .pair .5 (sym e))
+    unfolding begun
+    alternation-pair x y b bytes job T t g k so ar h =
+        by-inner (PairGoes bytes job T g k) (λ e. absurd (x e)) (λ e. absurd (y e)) (λ a u z i. b a u (rt a u z) bytes job g k i) t (pair-there bytes job t g k so h) h

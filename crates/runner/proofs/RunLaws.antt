@@ -2,11 +2,9 @@
 -- Assumes nothing.
 use Prim.Native.Nat.{ℕ, zero, suc, _+_, _*_, _-_, _≤_, _<_}
 use mathlib.Core.Path.{_≡_, refl, sym, ap, subst, _∙_}
-use mathlib.Core.Bool.{Bool, true, false, cond}
 use mathlib.Core.List.{List, []}
 use mathlib.Core.Option.{Option}
 use native.Mathlib.Omega.{arith}
-use lib.Dec.{eqb}
 use lib.ListN.{length, getD}
 use Rattle.format.specs.declared.values.Goal.{Goal}
 use Rattle.format.specs.declared.values.TacticNo.{TacticNo}
@@ -20,6 +18,7 @@ use Rattle.hitac.proofs.RunLaws.{run-stopped}
 use Rattle.arities.specs.Layout.{framesEnd}
 use Rattle.arities.specs.Arities.{ArityTable, arities}
 use Rattle.tactics.proofs.MemoryLaws.{same-word}
+use Rattle.tactics.proofs.SourceLaws.{source-small}
 use Rattle.tactics.specs.Source.{source}
 use Rattle.machine.specs.declared.state.State.{State}
 use Rattle.machine.specs.Shows.{Runs, Ends, Shows}
@@ -107,17 +106,13 @@ module _ (bytes : List ℕ) (first : ℕ) (job w₀ : List ℕ) (s₀ : State) (
   }
 
   module _ (more : 0 < left) (m : s .mode ≡ 0) where
-    source-small : (b : Bool) → length bytes < 65536 → length job < 65536 → length (cond b bytes job) < 65536
-    source-small true x y = x
-    source-small false x y = y
-
     pub given : Started bytes first job w₀ s₀ budget → Given bytes first (source bytes job (s .file)) w s
     given q =
         let o = way .onward (q .table) (q .term) (q .goals) (q .frames) (q .table-stands) (q .known) (q .runs) in
         if-running bytes job w s (λ κ. Given bytes first (source bytes job (s .file)) w s) m (λ t g k h. record {
           steps-left = omega (arith, more, way .few-steps, q .steps-left);
           space = omega (arith, way .same-length, q .space);
-          src-small = source-small (eqb (s .file) 0) (q .table-small) (q .job-small);
+          src-small = source-small bytes job (s .file) 65536 (q .table-small) (q .job-small);
           table = q .table;
           table-stands = q .table-stands;
           known = known-same w₀ w (arities (q .table)) (way .far) (q .known);
