@@ -9,5 +9,6 @@ use Rattle.entries.specs.LentSpace.{Written, writeOut}
 abbrev pub kept : Answer → List ℕ → Written
 kept a out = record { answer = a; work = []; out = out }
 
+-- the two as an outcome defines them
 abbrev pub leftIn : (out : List ℕ) → Outcome (List ℕ) → Written
 leftIn out o = writeOut [] out o

@@ -6,5 +6,6 @@ use Rattle.tables.specs.ReadTables.{readTable}
 use Rattle.files.specs.Jobs.{Job, readJob}
 use Rattle.entries.specs.Outcomes.{Outcome, inFile, tableFile, otherFile}
 
+-- the table is read first; a refusal of either file ends the call
 abbrev pub onJob : (table job : List ℕ) → (next : Table → Job → Outcome (List ℕ)) → Outcome (List ℕ)
 onJob table job next = inFile tableFile (readTable table) (λ T. inFile otherFile (readJob job) (next T))

@@ -8,6 +8,7 @@ use Rattle.words.specs.Word.{word, putWord}
 unfoldable pub long : List ℕ → (at : ℕ) → ℕ
 long w at = word w at * 65536 + word w (at + 2)
 
+-- the same stored
 unfoldable pub putLong : List ℕ → (at value : ℕ) → List ℕ
 putLong w at v = putWord (putWord w at (v / 65536)) (at + 2) (v % 65536)
 

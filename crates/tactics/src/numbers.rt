@@ -6,6 +6,7 @@ ghost use Rattle.tactics.specs.Numbers.{long, putLong, putHeader};
 use words::load16;
 use words::store16;
 
+// A value of 32 bits, high byte first.
 pub fn load32(s: &[u8], at: usize) -> usize
     requires { ⌜ at + 3 < length (now s) ⌝ }
     ensures { λ r. ⌜ r ≡ long (now (s .entry)) at ⌝ }
@@ -13,6 +14,7 @@ pub fn load32(s: &[u8], at: usize) -> usize
     (load16(s, at) as usize) * 65536 + (load16(s, at + 2) as usize)
 }
 
+// The same stored.
 pub fn store32(s: &mut [u8], at: usize, v: usize)
     requires { ⌜ (at + 3 < length (now s)) × (v < 4294967296) ⌝ }
     ensures { λ _. ⌜ now (s .exit) ≡ putLong (now (s .entry)) at v ⌝ }
