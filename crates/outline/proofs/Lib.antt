@@ -1,0 +1,2 @@
+pub mod OutlineLaws
+pub mod FieldLaws

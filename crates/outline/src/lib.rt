@@ -1,0 +1,1 @@
+// A hiproof's bytes from its outline.
