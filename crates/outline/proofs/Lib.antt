@@ -1,2 +1,4 @@
 pub mod OutlineLaws
 pub mod FieldLaws
+pub mod AroundLaws
+pub mod BuiltLaws
