@@ -1,10 +1,9 @@
 -- What the writing of fields leaves as it was: of the writes of a field's bytes and of a size, and of two such writes.
 -- Assumes nothing.
-use Prim.Native.Nat.{ℕ, _+_, _≤_, _<_}
-use mathlib.Core.Path.{_≡_, refl, _∙_}
+use Prim.Native.Nat.{ℕ, _≤_}
+use mathlib.Core.Path.{refl, _∙_}
 use mathlib.Core.List.{List}
 use native.Mathlib.Omega.{arith}
-use lib.ListN.{length}
 use Rattle.tactics.specs.Memory.{Only}
 use Rattle.outline.specs.Layout.{outlineEnd, sizesEnd}
 use Rattle.outline.specs.Memory.{Around}

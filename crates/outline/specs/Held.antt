@@ -1,5 +1,5 @@
 -- How the code holds the terms that are written: their bytes one behind the other, and their sizes on a stack that comes down from the end of its room; the size of the first term is held apart.
-use Prim.Native.Nat.{ℕ, _+_, _≤_}
+use Prim.Native.Nat.{ℕ, _+_, _≤_, _<_}
 use mathlib.Core.Path.{_≡_}
 use mathlib.Core.List.{List, [], _∷_}
 use lib.ListN.{length}
@@ -28,6 +28,7 @@ pub record FieldGiven (w : List ℕ) (count end at front low last : ℕ) : Type 
   pub terms : List Term
   pub built : Built w count at terms
   pub held : (ts : List Term) → Built w count (at + 3) ts → Shown w end ts front low last
+  pub more : at < count
   pub few : count ≤ outlineEnd
   pub room : sizesEnd + mostSize ≤ end
   pub inside : end ≤ length w

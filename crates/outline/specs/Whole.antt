@@ -5,7 +5,6 @@ use mathlib.Core.List.{List}
 use lib.ListN.{length, take}
 use Rattle.format.specs.Terms.{Term, size, Hiproof}
 use Rattle.format.specs.Standing.{Stands}
-use Rattle.tactics.specs.Memory.{Same}
 use Rattle.outline.specs.Layout.{outlineEnd, sizesEnd, mostSize}
 use Rattle.outline.specs.Outline.{outlineOf}
 use Rattle.outline.specs.Memory.{Around}
