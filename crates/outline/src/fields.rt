@@ -16,7 +16,7 @@ pub struct Held {
     pub last: u16,
 }
 
-// A field without contents.
+// A field without contents: one term more, so that the size held so far goes on the stack.
 pub fn put_plain(work: &mut [u8], tag: u8, held: Held) -> Held
     requires { ⌜ (3 ≤ held .front) × (held .front ≤ length (now work)) × (2 ≤ held .low) × (held .low ≤ length (now work)) ⌝ }
     ensures { λ r. ⌜ now (work .exit) ≡ putWord (putHeader (now (work .entry)) (r .front) tag 0) (r .low) (held .last) ⌝ }
@@ -33,6 +33,7 @@ pub fn put_plain(work: &mut [u8], tag: u8, held: Held) -> Held
     }
 }
 
+// The use of a rule, likewise.
 pub fn put_atomic(work: &mut [u8], value: u16, held: Held) -> Held
     requires { ⌜ (5 ≤ held .front) × (held .front ≤ length (now work)) × (2 ≤ held .low) × (held .low ≤ length (now work)) ⌝ }
     ensures { λ r. ⌜ now (work .exit) ≡ putWord (putValued (now (work .entry)) (r .front) 16 2 value) (r .low) (held .last) ⌝ }
