@@ -16,6 +16,7 @@ pub mod random_search;
 pub mod random_table;
 pub mod random_text;
 pub mod reading;
+pub mod searches;
 pub mod texts;
 pub mod topics;
 
@@ -109,7 +110,8 @@ fn spoil(random: &mut Random, mut case: Case) -> Case {
 pub fn other_file(entry: Entry, random: &mut Random, table: &RandomTable) -> Vec<u8> {
     match entry {
         Entry::Check | Entry::Flatten => random_file::random_proof(random, table),
-        Entry::Run | Entry::Search => random_file::random_job(random, table),
+        Entry::Run => random_file::random_job(random, table),
+        Entry::Search => random_search::random_search_job(random, table),
         Entry::CheckFlat | Entry::WriteProof => random_file::random_flat(random, table),
         Entry::ReadText | Entry::WriteText => other_file_without_table(entry, random, table.size),
     }
