@@ -5,9 +5,13 @@ use common::*;
 use second::generate::build::*;
 use second::generate::case::{Case, Entry};
 use second::generate::examples::*;
+use second::generate::random::Random;
+use second::generate::random_case_of;
+use second::generate::random_table::Size;
 use second::generate::searches::{self, term};
 use second::limits::*;
 use second::text::{show, FileKind};
+use std::collections::BTreeMap;
 
 /// The search of a text's term in the table of searches.
 fn searched(goals: &[u16], text: &str, height: u32, budget: u32) -> (second::Answer, Vec<u8>) {
@@ -183,6 +187,19 @@ fn searches_of_4096_steps() {
     assert_eq!(searched(&[20], "[1]T9 | id", 24, 4_096).0, run_refused(24, 4_096));
 }
 
+/// The result is accepted also where it is as long as a search can make it.
+#[test]
+fn the_longest_proofs() {
+    let expected = [(4_096, 4_096), (1_023, 1_023), (4_096, 3_841)];
+    for (case, (steps, fields)) in searches::longest_proofs().into_iter().zip(expected) {
+        let table = case.table.clone();
+        let (answer, bytes) = result_of(case.clone());
+        assert_eq!((answer.number, answer.steps), (0, steps));
+        assert_eq!(check(&table, &bytes), accepted(fields, 0, 1));
+        assert_eq!(case.with_budget(steps - 1).outcome().answer, run_refused(24, steps - 1));
+    }
+}
+
 #[test]
 fn heights_and_budgets_outside_their_limits() {
     let answer = |height: u32, budget: u32| searched(&[20], "id", height, budget).0;
@@ -223,5 +240,19 @@ fn the_order_of_refusals() {
 fn every_listed_search_is_one() {
     for case in searches::listed().iter().chain(&searches::at_other_limits()) {
         assert!([0, 24, 41].contains(&case.outcome().answer.number), "{case:?}");
+    }
+}
+
+/// Random searches end in every way there is, and often in each that tells much.
+#[test]
+fn random_searches_are_mixed() {
+    let random = &mut Random::new(605);
+    let mut counts: BTreeMap<u32, usize> = BTreeMap::new();
+    for _ in 0..2_000 {
+        let answer = random_case_of(Entry::Search, Size::Small, random).outcome().answer;
+        *counts.entry(answer.number).or_default() += 1;
+    }
+    for (number, least) in [(0, 200), (24, 150), (25, 100), (26, 50), (29, 50), (41, 300), (42, 50), (2, 50), (3, 50)] {
+        assert!(counts.get(&number).is_some_and(|&count| count >= least), "{number} in {counts:?}");
     }
 }

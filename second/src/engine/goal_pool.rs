@@ -69,12 +69,13 @@ impl GoalPool {
         Some(GoalList { start, count })
     }
 
-    pub fn len(&self) -> usize {
+    /// How much the pool holds now, to cut it back to later.
+    pub fn mark(&self) -> usize {
         self.goals.len()
     }
 
-    /// Drops every list that came after the pool had that length.
-    pub fn cut_back(&mut self, len: usize) {
-        self.goals.truncate(len);
+    /// Drops every list that came since.
+    pub fn cut_back(&mut self, mark: usize) {
+        self.goals.truncate(mark);
     }
 }

@@ -264,7 +264,7 @@ impl Search<'_> {
     }
 
     fn marks(&self) -> Marks {
-        Marks { goals: self.goals.len(), waiting: self.waiting.len(), fields: self.fields.len() }
+        Marks { goals: self.goals.mark(), waiting: self.waiting.len(), fields: self.fields.len() }
     }
 
     /// Makes everything as it was when the choice was met, and tries what it names.

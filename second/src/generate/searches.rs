@@ -292,3 +292,21 @@ pub fn at_other_limits() -> Vec<Case> {
         search(&[20; 20], &defined(5), MOST_HEIGHT),
     ]
 }
+
+/// The longest proofs: every step of the search makes a field, or nearly every one.
+pub fn longest_proofs() -> Vec<Case> {
+    let balanced = |levels: usize| (0..levels).fold(id(), |half, _| sequence(&half, &half));
+    vec![
+        search(&[20], &label(1, &balanced(11)), MOST_HEIGHT),
+        search(&[20], &balanced(9), MOST_HEIGHT),
+        doubled_labels(),
+    ]
+}
+
+/// A small table whose tactics write 28 labels 128 times, in 4,096 steps.
+fn doubled_labels() -> Case {
+    let twice = |tactic: u16| definition(tactic, &sequence(&defined(tactic + 1), &defined(tactic + 1)));
+    let doubling: Vec<u8> = (1..8).flat_map(twice).collect();
+    let table = [doubling, definition(8, &labels_around(28, &id()))].concat();
+    Case::new(Entry::Search, &table, &job(&[20], &label(1, &label(2, &defined(1)))))
+}

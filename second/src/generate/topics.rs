@@ -289,6 +289,10 @@ fn search() -> Vec<Case> {
     cases.extend(searches::joined_lists().iter().flat_map(with_output_lengths));
     cases.extend(searches::at_the_greatest_height().iter().flat_map(searches::around_its_steps));
     cases.extend(searches::at_other_limits().iter().flat_map(with_output_lengths));
+    for case in searches::longest_proofs() {
+        cases.extend(searches::around_the_borders(&case));
+        cases.extend(with_output_lengths(&case));
+    }
     cases.extend(positions::search_cases());
     cases.extend(random_cases(Entry::Search, 13, 200).into_iter().map(with_little_more_work_space));
     cases
