@@ -12,7 +12,7 @@ pub struct Answer {
     /// Byte offset where the field's tag is or should be, in a text that of the
     /// byte the refusal names, else 0.
     pub place: u32,
-    /// Terms begun; 0 outside runs.
+    /// Terms begun; 0 outside runs and searches.
     pub steps: u32,
     /// Bytes written to the output space.
     pub length: u32,
@@ -49,6 +49,8 @@ pub enum Reason {
     WorkSpaceTooShort = 29,
     NotInNotation = 36,
     ValueTooLarge = 37,
+    NoEvaluation = 41,
+    HeightOutsideLimits = 42,
 }
 
 /// The file a refusal concerns.
@@ -70,7 +72,7 @@ pub struct Refusal {
 }
 
 impl Reason {
-    pub const ALL: [Reason; 21] = [
+    pub const ALL: [Reason; 23] = [
         Reason::InputTooLong,
         Reason::FieldTorn,
         Reason::TagNotAllowed,
@@ -92,6 +94,8 @@ impl Reason {
         Reason::WorkSpaceTooShort,
         Reason::NotInNotation,
         Reason::ValueTooLarge,
+        Reason::NoEvaluation,
+        Reason::HeightOutsideLimits,
     ];
 
     pub fn number(self) -> u32 {
@@ -126,6 +130,8 @@ impl Reason {
             Reason::WorkSpaceTooShort => "the work space is shorter than the size named for this entry",
             Reason::NotInNotation => "no text of the notation goes on with this byte, or the text ends early",
             Reason::ValueTooLarge => "a value is over 65,535",
+            Reason::NoEvaluation => "no evaluation at most that high exists with lists of at most 256 goals",
+            Reason::HeightOutsideLimits => "the height is outside 1 to 64",
         }
     }
 }
@@ -141,7 +147,7 @@ impl Refusal {
         Refusal::at(reason, InputFile::Neither, 0)
     }
 
-    /// A refusal of a run: file and place 0, with the terms begun.
+    /// A refusal of a run or search: file and place 0, with the terms begun.
     pub fn of_run(reason: Reason, steps: u32) -> Refusal {
         Refusal { reason, file: InputFile::Neither, place: 0, steps }
     }

@@ -17,6 +17,9 @@ second: the second Hitac engine
 
   second check TABLE PROOF             is the proof accepted?
   second run TABLE JOB BUDGET OUT      run the job's tactic, write the proof to OUT
+  second search TABLE JOB HEIGHT BUDGET OUT
+                                       look for an evaluation of the job's tactic at
+                                       most HEIGHT rules high, write the proof to OUT
   second flatten TABLE PROOF OUT       write the proof's flat derivation to OUT
   second check-flat TABLE FLAT         is the flat derivation right?
   second write TABLE FLAT OUT          write a proof of the flat derivation to OUT
@@ -72,6 +75,7 @@ fn perform(words: &[&str]) -> Outcome {
         }
         ["check", table, proof] => check(table, proof),
         ["run", table, job, budget, output] => run(table, job, budget, output),
+        ["search", table, job, height, budget, output] => search(table, job, height, budget, output),
         ["flatten", table, proof, output] => flatten(table, proof, output),
         ["check-flat", table, flat] => check_flat(table, flat),
         ["write", table, flat, output] => write(table, flat, output),
@@ -104,12 +108,20 @@ fn check_flat(table: &str, flat: &str) -> Outcome {
 }
 
 fn run(table: &str, job: &str, budget: &str, output: &str) -> Outcome {
-    // A budget is a number of any width (READINGS A51); all large ones are alike.
-    let budget: u128 = number(budget, "budget")?;
-    let budget = u32::try_from(budget).unwrap_or(u32::MAX);
+    let budget = large_number(budget, "budget")?;
     let (table_bytes, job_bytes) = (read(table)?, read(job)?);
     let mut space = output_space();
     let answer = crate::run(&table_bytes, &job_bytes, budget, &mut vec![0; limits::RUN_WORK], &mut space);
+    save(answer, &space, output)?;
+    Ok(report(answer, &format!("written {} bytes steps {}", answer.length, answer.steps), table, job))
+}
+
+fn search(table: &str, job: &str, height: &str, budget: &str, output: &str) -> Outcome {
+    let (height, budget) = (large_number(height, "height")?, large_number(budget, "budget")?);
+    let (table_bytes, job_bytes) = (read(table)?, read(job)?);
+    let mut space = output_space();
+    let mut work = vec![0; limits::SEARCH_WORK];
+    let answer = crate::search(&table_bytes, &job_bytes, height, budget, &mut work, &mut space);
     save(answer, &space, output)?;
     Ok(report(answer, &format!("written {} bytes steps {}", answer.length, answer.steps), table, job))
 }
@@ -226,6 +238,13 @@ fn print(text: &str) {
 
 fn number<Number: std::str::FromStr>(text: &str, name: &str) -> Result<Number, Trouble> {
     text.parse().map_err(|_| Trouble::NotUnderstood(format!("the {name} `{text}` is not a number that fits")))
+}
+
+/// A budget or height is a number of any width (READINGS A51); all large ones are
+/// alike.
+fn large_number(text: &str, name: &str) -> Result<u32, Trouble> {
+    let number: u128 = number(text, name)?;
+    Ok(u32::try_from(number).unwrap_or(u32::MAX))
 }
 
 fn read(path: &str) -> Result<Vec<u8>, Trouble> {

@@ -1,4 +1,4 @@
-//! The seven public calls: answers, and every byte of the lent spaces.
+//! The eight public calls: answers, and every byte of the lent spaces.
 
 use crate::answer::{Answer, Reason, Refusal};
 use crate::engine;
@@ -65,6 +65,15 @@ pub fn write_text(term: &[u8], work: &mut [u8], output: &mut [u8]) -> Answer {
     })
 }
 
+/// Looks for an evaluation of a job's term at most `height` rules high; the first
+/// one found is written to `output` as a proof file.
+pub fn search(table: &[u8], job: &[u8], height: u32, budget: u32, work: &mut [u8], output: &mut [u8]) -> Answer {
+    with_work_space(work, limits::SEARCH_WORK, || {
+        let success = engine::search(table, job, height, budget)?;
+        hand_over(&success.proof, success.steps, output)
+    })
+}
+
 /// "29: work space shorter than the size docs/ names for that entry", before
 /// anything else. "Work space is all zero afterwards, except after 29, when it
 /// is untouched": the whole of what was lent (READINGS A53). This engine keeps
@@ -80,7 +89,7 @@ fn with_work_space(work: &mut [u8], size: usize, call: impl FnOnce() -> Result<A
 
 /// "26 last": the output space is written only if the result fits; "a success
 /// leaves the bytes past its result untouched". The steps are those of the whole
-/// run also when the result does not fit (READINGS A3).
+/// run or search also when the result does not fit (READINGS A3, B13.10).
 fn hand_over(result: &[u8], steps: u32, output: &mut [u8]) -> Result<Answer, Refusal> {
     match output.get_mut(..result.len()) {
         Some(front) => front.copy_from_slice(result),

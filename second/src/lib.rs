@@ -1,12 +1,13 @@
 //! The second Hitac engine.
 //!
-//! An independent implementation of document 01 (the scope) and of P8 of document
-//! 02 (the change requests), written from these documents, the paper and the fixed
-//! readings alone. Comments quote the sentence that a piece of code follows, or
-//! name the reading: READINGS A26 is reading A26, which docs/DECISIONS.md records
-//! under the same number; B8.4 is a reading of P8.
+//! An independent implementation of document 01 (the scope) and of P8 and P13 of
+//! document 02 (the change requests), written from these documents, the paper and
+//! the fixed readings alone. Comments quote the sentence that a piece of code
+//! follows, or name the reading: READINGS A26 is reading A26, which
+//! docs/DECISIONS.md records under the same number; B8.4 is a reading of P8 and
+//! B13.4 one of P13.
 //!
-//! - `entries`: the seven public calls, with lent work and output spaces;
+//! - `entries`: the eight public calls, with lent work and output spaces;
 //! - `format`: the bytes of the five kinds of file;
 //! - `notation`: terms as text, the marks of P8;
 //! - `engine`: what the calls do once the lent spaces are set aside;
@@ -27,4 +28,4 @@ pub mod text;
 pub mod vectors;
 
 pub use answer::{Answer, InputFile, Reason, Refusal};
-pub use entries::{check, check_flat, flatten, read_text, run, write_proof, write_text};
+pub use entries::{check, check_flat, flatten, read_text, run, search, write_proof, write_text};

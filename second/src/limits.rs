@@ -20,6 +20,13 @@ pub const MOST_PREMISES: usize = 8;
 /// "25: budget over 4,096."
 pub const MOST_BUDGET: u32 = 4_096;
 
+/// P13: "a budget up to 4,096, else 25". A limit of its own: P12 raises that of
+/// runs, not this one (B13.6).
+pub const MOST_SEARCH_BUDGET: u32 = 4_096;
+
+/// P13: "a height h, 1 to 64"; "42, a height outside 1 to 64".
+pub const MOST_HEIGHT: u32 = 64;
+
 /// "28: over 2,048 entries when writing a proof"
 pub const MOST_ENTRIES_WRITTEN_BACK: usize = 2_048;
 
@@ -33,3 +40,4 @@ pub const FLATTEN_WORK: usize = 200_704;
 pub const RUN_WORK: usize = 1_290_752;
 pub const READ_TEXT_WORK: usize = 196_608;
 pub const WRITE_TEXT_WORK: usize = 36_864;
+pub const SEARCH_WORK: usize = 2_760_704;

@@ -68,6 +68,9 @@ fn write_case_record(case: &Case, outcome: &Outcome, bytes: &mut Vec<u8>) {
         bytes.extend(number.to_be_bytes());
     }
     bytes.extend(digest(&outcome.output).to_be_bytes());
+    if case.entry == Entry::Search {
+        bytes.extend(case.height.to_be_bytes());
+    }
 }
 
 fn numbers_of(answer: Answer) -> [u32; 8] {
@@ -205,7 +208,6 @@ impl<'a> Source<'a> {
         let budget = self.number32()?;
         let work_length = self.number32()? as usize;
         let output_length = self.number32()? as usize;
-        let case = Case { entry, table: table.to_vec(), other: other.to_vec(), budget, work_length, output_length };
         let answer = Answer {
             number: self.number32()?,
             file: self.number32()?,
@@ -216,7 +218,11 @@ impl<'a> Source<'a> {
             uses: self.number32()?,
             open: self.number32()?,
         };
-        Some(Expected { case, answer, digest: self.number32()? })
+        let digest = self.number32()?;
+        let height = if entry == Entry::Search { self.number32()? } else { 0 };
+        let (table, other) = (table.to_vec(), other.to_vec());
+        let case = Case { entry, table, other, budget, height, work_length, output_length };
+        Some(Expected { case, answer, digest })
     }
 }
 

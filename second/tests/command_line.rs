@@ -77,6 +77,28 @@ fn refusals_leave_the_output_file_alone() {
 }
 
 #[test]
+fn a_search_finds_what_a_run_does_not() {
+    let folder = Folder::new("search");
+    let refused = |text: &str| (text.to_string(), 1);
+    folder.put("table", &table_a_with_all());
+    folder.put("job", &job(&[20, 20, 30], &tensor(&defined(5), &defined(6))));
+    let search = |height: &str, budget: &str| folder.says(&["search", "table", "job", height, budget, "out"]);
+    assert_eq!(folder.says(&["run", "table", "job", "4096", "out"]).0, "refused 23 file 0 place 0 steps 1\n");
+    assert_eq!(search("9", "4096"), refused("refused 41 file 0 place 0 steps 64\n"));
+    assert_eq!(search("10", "55"), refused("refused 24 file 0 place 0 steps 55\n"));
+    assert_eq!(search("65", "4096"), refused("refused 42 file 0 place 0\n"));
+    assert_eq!(search("0", "4096"), refused("refused 42 file 0 place 0\n"));
+    assert_eq!(search("99999999999", "4097"), refused("refused 25 file 0 place 0\n"));
+    assert!(!folder.0.join("out").exists());
+    assert_eq!(search("10", "56"), ("written 45 bytes steps 56\n".to_string(), 0));
+    assert_eq!(folder.says(&["check", "table", "out"]).0, "accepted fields 9 uses 3 open 0\n");
+    assert_eq!(folder.complaint(&["search", "table", "job", "high", "56", "out"]).1, 2);
+    let words = |height: &str| folder.complaint(&["search", "table", "job", height, "4096", "out"]).0;
+    assert_eq!(words("9"), "no evaluation at most that high exists with lists of at most 256 goals\n");
+    assert_eq!(words("65"), "the height is outside 1 to 64\n");
+}
+
+#[test]
 fn show_prints_each_kind() {
     let folder = Folder::new("show");
     folder.put("table", &table_a());

@@ -9,7 +9,7 @@ use second::generate::{examples, random_case};
 fn good_case(entry: Entry) -> Case {
     let other = match entry {
         Entry::Check | Entry::Flatten => examples::first_proof(),
-        Entry::Run => job(&[10], &defined(3)),
+        Entry::Run | Entry::Search => job(&[10], &defined(3)),
         Entry::CheckFlat | Entry::WriteProof => examples::first_flat(),
         Entry::ReadText => b"[1]a1 ; a2 * id".to_vec(),
         Entry::WriteText => label(1, &sequence(&atomic(1), &id())),

@@ -1,9 +1,11 @@
 //! The fixed set of vectors: coverage, the format, and the files in
 //! crates/replay_vectors/data.
 
-use second::generate::case::Entry;
+use second::generate::build;
+use second::generate::case::{Case, Entry};
 use second::generate::random::Random;
 use second::generate::{random_case, vector_set};
+use second::limits::SEARCH_WORK;
 use second::vectors::{self, Expected};
 use std::collections::BTreeSet;
 use std::sync::OnceLock;
@@ -25,6 +27,7 @@ fn possible_answers(entry: Entry) -> BTreeSet<(u32, u32)> {
         Entry::WriteProof => vec![(27, 2), (28, 2), (26, 0)],
         Entry::ReadText => vec![(1, 2), (5, 2), (36, 2), (37, 2), (26, 0)],
         Entry::WriteText => vec![(26, 0)],
+        Entry::Search => vec![(24, 0), (25, 0), (26, 0), (41, 0), (42, 0)],
     });
     answers
 }
@@ -54,8 +57,16 @@ fn every_number_occurs_at_every_entry_where_it_can() {
 
 #[test]
 fn each_entry_has_a_file_with_all_its_numbers() {
-    let names =
-        ["check.vec", "run.vec", "flatten.vec", "check-flat.vec", "write-proof.vec", "read-text.vec", "write-text.vec"];
+    let names = [
+        "check.vec",
+        "run.vec",
+        "flatten.vec",
+        "check-flat.vec",
+        "write-proof.vec",
+        "read-text.vec",
+        "write-text.vec",
+        "search.vec",
+    ];
     for (name, entry) in names.into_iter().zip(Entry::ALL) {
         let file = vector_files().iter().find(|file| file.0 == name).expect("the file");
         let cases = cases_of(&file.1);
@@ -73,6 +84,7 @@ fn sizes_stay_as_documented() {
         for Expected { case, .. } in cases_of(bytes) {
             assert!(case.table.len() <= 70_000 && case.other.len() <= 70_000, "{name}");
             assert!(case.table.is_empty() || case.entry.takes_table(), "{name}");
+            assert!(case.work_length <= SEARCH_WORK + 1 && case.output_length <= 32_768, "{name}");
         }
         total += bytes.len();
     }
@@ -96,6 +108,17 @@ fn cases_read_as_they_were_written() {
     let cases: Vec<_> = (0..200).map(|_| random_case(&mut random)).collect();
     let read = vectors::read(&vectors::write(&cases)).expect("a vector file");
     assert!(cases.iter().eq(read.iter().map(|one| &one.case)));
+}
+
+/// A case of a search is four bytes longer than the same one of a run: its height
+/// stands last.
+#[test]
+fn the_height_stands_behind_the_digest() {
+    let job = build::job(&[20], &build::id());
+    let length = |entry: Entry| vectors::write(&[Case::new(entry, &[], &job)]).len();
+    assert_eq!(length(Entry::Search), length(Entry::Run) + 4);
+    let bytes = vectors::write(&[Case::new(Entry::Search, &[], &job).with_height(7)]);
+    assert!(bytes.ends_with(&[0, 0, 0, 7, 0]));
 }
 
 #[test]

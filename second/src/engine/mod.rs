@@ -1,9 +1,11 @@
-//! What the seven entries do once the lent spaces are set aside.
+//! What the eight entries do once the lent spaces are set aside.
 
 pub mod arity;
 pub mod check_flat;
 pub mod forest;
+pub mod goal_pool;
 pub mod run;
+pub mod search;
 pub mod walk;
 pub mod write_back;
 
@@ -13,7 +15,7 @@ use crate::format::job::Job;
 use crate::format::proof::Proof;
 use crate::format::table::Table;
 use crate::format::term_file::TermFile;
-use crate::limits::{MOST_BUDGET, MOST_ENTRIES_WRITTEN_BACK};
+use crate::limits::{MOST_BUDGET, MOST_ENTRIES_WRITTEN_BACK, MOST_HEIGHT, MOST_SEARCH_BUDGET};
 use crate::notation;
 
 /// The counts of an accepted proof.
@@ -29,7 +31,7 @@ pub struct RightFlatFile {
     pub open: usize,
 }
 
-/// The proof file of a run that succeeded, and the terms it began.
+/// The proof file of a run or search that succeeded, and the terms it began.
 pub struct SuccessfulRun {
     pub proof: Vec<u8>,
     pub steps: u32,
@@ -78,6 +80,20 @@ pub fn run(table: &[u8], job: &[u8], budget: u32) -> Result<SuccessfulRun, Refus
     let mut terms = std::mem::take(&mut table.terms);
     let job = Job::read(job, &mut terms)?;
     run::run_job(&table, &terms, &job, budget)
+}
+
+/// "29, 25 (over 4,096), 42, table, file 2, search (0, 41, 24), 26" (B13.7).
+pub fn search(table: &[u8], job: &[u8], height: u32, budget: u32) -> Result<SuccessfulRun, Refusal> {
+    if budget > MOST_SEARCH_BUDGET {
+        return Err(Refusal::without_file(Reason::BudgetTooLarge));
+    }
+    if !(1..=MOST_HEIGHT).contains(&height) {
+        return Err(Refusal::without_file(Reason::HeightOutsideLimits));
+    }
+    let mut table = Table::read(table)?;
+    let mut terms = std::mem::take(&mut table.terms);
+    let job = Job::read(job, &mut terms)?;
+    search::search_job(&table, &terms, &job, height, budget)
 }
 
 /// The term file of a text: "29, 1, then the first met of 36, 37, 5, then 26".

@@ -18,10 +18,11 @@ pub enum Entry {
     WriteProof,
     ReadText,
     WriteText,
+    Search,
 }
 
 impl Entry {
-    pub const ALL: [Entry; 7] = [
+    pub const ALL: [Entry; 8] = [
         Entry::Check,
         Entry::Run,
         Entry::Flatten,
@@ -29,10 +30,12 @@ impl Entry {
         Entry::WriteProof,
         Entry::ReadText,
         Entry::WriteText,
+        Entry::Search,
     ];
 
     /// The entries that take a table besides the other file.
-    pub const WITH_TABLE: [Entry; 5] = [Entry::Check, Entry::Run, Entry::Flatten, Entry::CheckFlat, Entry::WriteProof];
+    pub const WITH_TABLE: [Entry; 6] =
+        [Entry::Check, Entry::Run, Entry::Flatten, Entry::CheckFlat, Entry::WriteProof, Entry::Search];
 
     /// The entry's number in vector files.
     pub fn code(self) -> u8 {
@@ -44,6 +47,7 @@ impl Entry {
             Entry::WriteProof => 5,
             Entry::ReadText => 6,
             Entry::WriteText => 7,
+            Entry::Search => 8,
         }
     }
 
@@ -60,6 +64,7 @@ impl Entry {
             Entry::WriteProof => limits::WRITE_PROOF_WORK,
             Entry::ReadText => limits::READ_TEXT_WORK,
             Entry::WriteText => limits::WRITE_TEXT_WORK,
+            Entry::Search => limits::SEARCH_WORK,
         }
     }
 
@@ -67,19 +72,30 @@ impl Entry {
         Entry::WITH_TABLE.contains(&self)
     }
 
+    /// The largest budget that is not refused; 0 for an entry that has none.
+    pub fn most_budget(self) -> u32 {
+        match self {
+            Entry::Run => limits::MOST_BUDGET,
+            Entry::Search => limits::MOST_SEARCH_BUDGET,
+            _ => 0,
+        }
+    }
+
     pub fn has_output(self) -> bool {
         !matches!(self, Entry::Check | Entry::CheckFlat)
     }
 }
 
-/// One call. The budget counts only for a run, the table only for the entries
-/// that take one; the output length is 0 where the entry has no output space.
+/// One call. The budget counts only for a run or search, the height only for a
+/// search, the table only for the entries that take one; the output length is 0
+/// where the entry has no output space.
 #[derive(Clone, PartialEq, Eq, Debug)]
 pub struct Case {
     pub entry: Entry,
     pub table: Vec<u8>,
     pub other: Vec<u8>,
     pub budget: u32,
+    pub height: u32,
     pub work_length: usize,
     pub output_length: usize,
 }
@@ -94,15 +110,16 @@ pub struct Outcome {
 }
 
 impl Case {
-    /// A call with the largest budget, the named work space and an output space
-    /// a few bytes longer than the result. For an entry that takes no table it is
+    /// A call with the largest budget and height, the named work space and an
+    /// output space a few bytes longer than the result. For an entry that takes no table it is
     /// a file of no bytes, whatever is given.
     pub fn new(entry: Entry, table: &[u8], other: &[u8]) -> Case {
         let mut case = Case {
             entry,
             table: if entry.takes_table() { table.to_vec() } else { Vec::new() },
             other: other.to_vec(),
-            budget: if entry == Entry::Run { limits::MOST_BUDGET } else { 0 },
+            budget: entry.most_budget(),
+            height: if entry == Entry::Search { limits::MOST_HEIGHT } else { 0 },
             work_length: entry.work_size(),
             output_length: 0,
         };
@@ -112,6 +129,12 @@ impl Case {
 
     pub fn with_budget(mut self, budget: u32) -> Case {
         self.budget = budget;
+        self.output_length = self.roomy_output();
+        self
+    }
+
+    pub fn with_height(mut self, height: u32) -> Case {
+        self.height = height;
         self.output_length = self.roomy_output();
         self
     }
@@ -143,6 +166,9 @@ impl Case {
             Entry::WriteProof => engine::write_proof(&self.table, &self.other).ok(),
             Entry::ReadText => engine::read_text(&self.other).ok(),
             Entry::WriteText => engine::write_text(&self.other).ok(),
+            Entry::Search => {
+                engine::search(&self.table, &self.other, self.height, self.budget).ok().map(|found| found.proof)
+            }
         }
     }
 
@@ -159,6 +185,7 @@ impl Case {
             Entry::WriteProof => crate::write_proof(table, other, &mut work, &mut output),
             Entry::ReadText => crate::read_text(other, &mut work, &mut output),
             Entry::WriteText => crate::write_text(other, &mut work, &mut output),
+            Entry::Search => crate::search(table, other, self.height, self.budget, &mut work, &mut output),
         };
         let expected = if answer.number == 29 { WORK_FILL } else { 0 };
         Outcome { answer, output, work_space_as_promised: all_equal(&work, expected) }

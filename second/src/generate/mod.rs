@@ -12,19 +12,28 @@ pub mod limit_files;
 pub mod positions;
 pub mod random;
 pub mod random_file;
+pub mod random_search;
 pub mod random_table;
 pub mod random_text;
 pub mod reading;
+pub mod searches;
 pub mod texts;
 pub mod topics;
 
 pub use topics::vector_set;
 
 use crate::answer::Answer;
-use crate::limits::MOST_BUDGET;
+use crate::engine;
 use case::{Case, Entry};
 use random::Random;
 use random_table::{RandomTable, Size};
+
+/// The entries that a kind of file is picked by; a search takes a job, as a run does.
+const KINDS_OF_FILE: [Entry; 7] =
+    [Entry::Check, Entry::Run, Entry::Flatten, Entry::CheckFlat, Entry::WriteProof, Entry::ReadText, Entry::WriteText];
+
+/// The same for the files that come with a table.
+const KINDS_WITH_TABLE: [Entry; 5] = [Entry::Check, Entry::Run, Entry::Flatten, Entry::CheckFlat, Entry::WriteProof];
 
 /// A case for any entry: most of them small, some large, some at a limit.
 pub fn random_case(random: &mut Random) -> Case {
@@ -53,7 +62,7 @@ pub fn random_case_of(entry: Entry, size: Size, random: &mut Random) -> Case {
 /// A text or a term file, sometimes the one where the other belongs, sometimes a
 /// file of an entry that takes a table.
 fn random_case_without_table(entry: Entry, size: Size, random: &mut Random) -> Case {
-    let kind_of_file = if random.chance(5) { *random.pick(&Entry::ALL) } else { entry };
+    let kind_of_file = if random.chance(5) { *random.pick(&KINDS_OF_FILE) } else { entry };
     let other = if kind_of_file.takes_table() {
         let table = RandomTable::make(random, Size::Small);
         other_file(kind_of_file, random, &table)
@@ -68,7 +77,7 @@ fn random_case_without_table(entry: Entry, size: Size, random: &mut Random) -> C
 fn random_case_at_a_limit(entry: Entry, random: &mut Random) -> Case {
     let (table, others) = match entry {
         Entry::Check | Entry::Flatten => (examples::table_of_eight(), limit_files::proofs()),
-        Entry::Run => (examples::table_a(), limit_files::jobs()),
+        Entry::Run | Entry::Search => (examples::table_a(), limit_files::jobs()),
         Entry::CheckFlat | Entry::WriteProof => (limit_files::chain_table(), limit_files::flats()),
         Entry::ReadText => (Vec::new(), texts::limit_texts()),
         Entry::WriteText => (Vec::new(), texts::limit_terms()),
@@ -102,6 +111,7 @@ pub fn other_file(entry: Entry, random: &mut Random, table: &RandomTable) -> Vec
     match entry {
         Entry::Check | Entry::Flatten => random_file::random_proof(random, table),
         Entry::Run => random_file::random_job(random, table),
+        Entry::Search => random_search::random_search_job(random, table),
         Entry::CheckFlat | Entry::WriteProof => random_file::random_flat(random, table),
         Entry::ReadText | Entry::WriteText => other_file_without_table(entry, random, table.size),
     }
@@ -122,15 +132,16 @@ fn make_foreign(random: &mut Random, case: &mut Case) {
         1 => case.table = std::mem::take(&mut case.other),
         2 => case.other = case.table.clone(),
         3 => {
-            let entry = *random.pick(&Entry::WITH_TABLE);
+            let entry = *random.pick(&KINDS_WITH_TABLE);
             case.other = other_file(entry, random, &table);
         }
         _ => case.other = (0..random.below(40)).map(|_| random.byte() % 36).collect(),
     }
 }
 
-/// Gives a case its budget, work space and output space.
+/// Gives a case its height, budget, work space and output space.
 pub fn vary_lent_spaces(random: &mut Random, case: Case) -> Case {
+    let case = random_search::vary_height(random, case);
     let budget = random_budget(random, &case);
     let case = case.with_budget(budget);
     let size = case.entry.work_size();
@@ -152,20 +163,27 @@ pub fn vary_lent_spaces(random: &mut Random, case: Case) -> Case {
 }
 
 fn random_budget(random: &mut Random, case: &Case) -> u32 {
-    if case.entry != Entry::Run {
+    let most = case.entry.most_budget();
+    if most == 0 {
         return 0;
     }
-    let steps = match crate::engine::run(&case.table, &case.other, MOST_BUDGET) {
-        Ok(success) => success.steps,
-        Err(refusal) => Answer::from(refusal).steps,
-    };
+    let steps = steps_of(case, most);
     match random.below(20) {
         0 => 0,
         1 | 2 => steps,
         3 | 4 => steps.saturating_sub(1),
         5 | 6 => random.below(40) as u32,
-        7 => MOST_BUDGET + 1,
+        7 => most + 1,
         8 => random.number() as u32,
-        _ => MOST_BUDGET,
+        _ => most,
     }
+}
+
+/// The terms that a run or search begins with that budget.
+fn steps_of(case: &Case, budget: u32) -> u32 {
+    let ended = match case.entry {
+        Entry::Search => engine::search(&case.table, &case.other, case.height, budget),
+        _ => engine::run(&case.table, &case.other, budget),
+    };
+    ended.map_or_else(|refusal| Answer::from(refusal).steps, |success| success.steps)
 }

@@ -59,13 +59,31 @@ fn up_to_two_deep(term: &[u8]) -> Vec<Placed> {
     [vec![alone], once, twice].concat()
 }
 
-/// Each alternation in the job's term, and behind a definition's name.
-pub fn run_cases() -> Vec<Case> {
+/// Table A with a tactic for each alternation, and the alternations' names.
+fn table_with_names() -> (Vec<u8>, Vec<Vec<u8>>) {
     let first = 10;
     let numbered = || alternations().into_iter().zip(first..);
     let definitions: Vec<Vec<u8>> = numbered().map(|(term, tactic)| definition(tactic, &term)).collect();
-    let table = [examples::table_a(), definitions.concat()].concat();
-    let named = numbered().map(|(_, tactic)| defined(tactic)).flat_map(|term| in_each_place(&(term, 1)));
+    let names = numbered().map(|(_, tactic)| defined(tactic)).collect();
+    ([examples::table_a(), definitions.concat()].concat(), names)
+}
+
+fn cases_of(entry: Entry, table: &[u8], placed: impl Iterator<Item = Placed>) -> Vec<Case> {
+    placed.map(|(term, goals)| Case::new(entry, table, &job(&vec![GOAL; goals], &term))).collect()
+}
+
+/// Each alternation in the job's term, and behind a definition's name.
+pub fn run_cases() -> Vec<Case> {
+    let (table, names) = table_with_names();
+    let named = names.into_iter().flat_map(|term| in_each_place(&(term, 1)));
     let spelt_out = alternations().into_iter().flat_map(|term| up_to_two_deep(&term));
-    spelt_out.chain(named).map(|(term, goals)| Case::new(Entry::Run, &table, &job(&vec![GOAL; goals], &term))).collect()
+    cases_of(Entry::Run, &table, spelt_out.chain(named))
+}
+
+/// Each alternation and each name in each place of the job's term, for a search:
+/// where a run fails for good, the search goes back.
+pub fn search_cases() -> Vec<Case> {
+    let (table, names) = table_with_names();
+    let all = alternations().into_iter().chain(names);
+    cases_of(Entry::Search, &table, all.flat_map(|term| in_each_place(&(term, 1))))
 }

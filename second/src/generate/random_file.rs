@@ -7,7 +7,7 @@ use super::random_table::{RandomRule, RandomTable, Size};
 use crate::limits::MOST_GOALS;
 
 /// A term and the goals it gives, as far as the maker can tell.
-type TermAndGoals = (Vec<u8>, Vec<u16>);
+pub type TermAndGoals = (Vec<u8>, Vec<u16>);
 
 /// Makes terms for given goals.
 struct TermMaker<'a> {
@@ -39,6 +39,12 @@ pub fn random_job(random: &mut Random, table: &RandomTable) -> Vec<u8> {
     }
     let (term, _) = make_term(random, table, &goals, tactics);
     build::job(&goals, &term)
+}
+
+/// A tactic for these goals, and the goals it gives if nothing goes otherwise.
+pub fn term_for(random: &mut Random, table: &RandomTable, goals: &[u16]) -> TermAndGoals {
+    let terms_left = *random.pick(&[0, 2, 5, 10, 20]);
+    TermMaker { random, table, terms_left, mistakes: 0, tactics: 20 }.term_for(goals)
 }
 
 fn make_term(random: &mut Random, table: &RandomTable, goals: &[u16], tactics: usize) -> TermAndGoals {

@@ -4,7 +4,7 @@ use super::build::*;
 use super::case::{Case, Entry};
 use super::random::Random;
 use super::random_table::{RandomTable, Size};
-use super::{damage, examples, limit_files, other_file, positions, random_case_of, reading, texts};
+use super::{damage, examples, limit_files, other_file, positions, random_case_of, reading, searches, texts};
 use crate::limits::MOST_BUDGET;
 
 /// File names in the folder crates/replay_vectors/data, with their cases.
@@ -21,6 +21,7 @@ pub fn vector_set() -> Vec<(&'static str, Vec<Case>)> {
         ("run.vec", run()),
         ("read-text.vec", read_text()),
         ("write-text.vec", write_text()),
+        ("search.vec", search()),
     ]
 }
 
@@ -275,6 +276,33 @@ fn runs_at_limits() -> Vec<Case> {
         run(&examples::table_a(), &[10], &labels_around(4_095, &id())).with_budget(4_095),
         run(&examples::table_a(), &[10], &labels_around(4_095, &empty())),
     ]
+}
+
+/// P13's search.
+fn search() -> Vec<Case> {
+    let first_job = job(&[10], &defined(3));
+    let mut cases = refusals_of_every_entry(Entry::Search, &examples::table_a(), &first_job);
+    cases.extend(searches::order_of_refusals());
+    cases.extend(searches::numbers());
+    cases.extend(searches::single_terms());
+    cases.extend(searches::listed().iter().flat_map(searches::around_the_borders));
+    cases.extend(searches::joined_lists().iter().flat_map(with_output_lengths));
+    cases.extend(searches::at_the_greatest_height().iter().flat_map(searches::around_its_steps));
+    cases.extend(searches::at_other_limits().iter().flat_map(with_output_lengths));
+    for case in searches::longest_proofs() {
+        cases.extend(searches::around_the_borders(&case));
+        cases.extend(with_output_lengths(&case));
+    }
+    cases.extend(positions::search_cases());
+    cases.extend(random_cases(Entry::Search, 13, 200).into_iter().map(with_little_more_work_space));
+    cases
+}
+
+/// A program that replays the vectors has room for one byte more than any entry
+/// asks for.
+fn with_little_more_work_space(case: Case) -> Case {
+    let work_length = case.work_length.min(case.entry.work_size() + 1);
+    case.with_work(work_length)
 }
 
 fn text_case(text: &[u8]) -> Case {

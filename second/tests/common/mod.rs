@@ -9,7 +9,8 @@ pub fn refused(number: u32, file: u32, place: u32) -> Answer {
     Answer { number, file, place, ..Answer::default() }
 }
 
-/// The answer of a run that ends with 22, 23 or 24.
+/// The answer of a run that ends with 22, 23 or 24, or of a search that ends with
+/// 24 or 41.
 pub fn run_refused(number: u32, steps: u32) -> Answer {
     Answer { number, steps, ..Answer::default() }
 }
@@ -49,6 +50,10 @@ pub fn write_proof(table: &[u8], flat: &[u8]) -> (Answer, Vec<u8>) {
 
 pub fn run(table: &[u8], job: &[u8], budget: u32) -> (Answer, Vec<u8>) {
     result_of(Case::new(Entry::Run, table, job).with_budget(budget))
+}
+
+pub fn search(table: &[u8], job: &[u8], height: u32, budget: u32) -> (Answer, Vec<u8>) {
+    result_of(Case::new(Entry::Search, table, job).with_height(height).with_budget(budget))
 }
 
 pub fn read_text(text: &[u8]) -> (Answer, Vec<u8>) {

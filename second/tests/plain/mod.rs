@@ -5,6 +5,7 @@
 use second::generate::build;
 
 pub mod notation;
+pub mod search;
 
 pub enum Term {
     Atomic(u16),
