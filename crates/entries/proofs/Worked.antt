@@ -39,6 +39,10 @@ use Rattle.entries.specs.Check.{sameGoals, remainingAre, checked, onProo
 use Rattle.entries.specs.CheckFlat.{nonePending, right, flatCounts, checkFlatOutcome, writtenProof, writtenFile, writeOutcome, checkFlat, writeProof}
 use Rattle.entries.specs.LentSpace.{checkIn, writeOut, writeIn}
 use Rattle.entries.specs.Lines.{Holds, AllHold, no-more, _&_}
+use Rattle.search.specs.Events.{forEach}
+use Rattle.search.specs.Trace.{inLabel, thenRight, besideRight, splits, following, trace}
+use Rattle.search.specs.Answer.{firstFound, search}
+use Rattle.search.specs.Worked.{beside}
 use Rattle.files.specs.TermFiles.{readTermFile}
 use Rattle.notation.specs.Letters.{isDigit}
 use Rattle.notation.specs.Written.{chain, bracketedIf, marksOf, digits, decimal, markBytes, textOf}
@@ -52,7 +56,8 @@ use Rattle.notation.specs.Parse.{termFound, parse}
 use Rattle.entries.specs.Texts.{readTextOutcome, writeTextOutcome}
 use Rattle.entries.specs.PrintedLine.{acceptedLine, refusedLine, printedLine}
 use Rattle.entries.specs.Run.{runEnd, runResult, runOutcome, runTactic}
-use Rattle.entries.specs.Worked.{beside, sideBySide, sideBySideOr, starredLines, edgeLines, textLines}
+use Rattle.entries.specs.Search.{searchEnd, searchOutcome, searchTactic}
+use Rattle.entries.specs.Worked.{sideBySide, sideBySideOr, starredLines, edgeLines, textLines, searchLines}
 
 pub starred : AllHold starredLines
 unfolding word termBytes goalBytes goalsAt goalsOf readGoals headerAt leaf pair closed contents termOf readTerm number andThen rows findRow rowOf kindOf leastOf mostOf innerOf lengthFits size fields findRuleIn findRule findBodyIn findBody matches fullTable lowest ruleOf definitionOf fieldOf readField withRule withDefinition fieldsOf readFields readTable ruleSize definitionSize rulesSize placedRules placedTactics placedLabels labelsOf clashesAny firstClash repeatsRule recountsRule repeatsTactic repeatsLabel refuseAt wholeTable searchedTag stepAt besides clashAt places clashTold jobTermPlace fullFlat withEntry entriesOf readEntries derivationOf readFlat entryBytes entriesBytes flatBytes entriesPlace lastTermOf readLastTerm jobOf readJob jobBytes remainingOf hiproofOf proofOf readProof proofBytes termPlace remainingPlace taken flatWalk forest inputArity atomics dropLabels Unlabelled unwind begin stepFrom step run start arityIn arityAfter tacticArity onOneGoal onNoGoal premisesOr tooLong joined walk treeTerms written sameGoals remainingAre checked onProof proofCounts forestFile check flatten nonePending right flatCounts checkFlatOutcome writtenProof writtenFile writeOutcome checkFlat writeProof checkIn writeOut writeIn Holds digits acceptedLine refusedLine printedLine runEnd runResult runOutcome runTactic beside sideBySide sideBySideOr starredLines edgeLines
@@ -76,3 +81,7 @@ edges =
 pub texts : AllHold textLines
 unfolding word termBytes headerAt leaf pair closed contents termOf readTerm number andThen rows findRow rowOf kindOf leastOf mostOf innerOf lengthFits size fields lastTermOf readLastTerm readTermFile isDigit chain bracketedIf marksOf digits decimal markBytes textOf N.written numberIn markAt withMark marksIn reducedTerm reducedFrames unbracket onMark stateOf wholeOf F.termOf completes beginsNumbered isSign onDue onHad digitMore leafEnds onDigits labelEnds onLabelDigits onBegun onLabelBegun onHalf stepIn S.step finished endIn atEnd scan termFound parse Holds readTextOutcome writeTextOutcome textLines
 texts = refl & refl & refl & refl & refl & refl & no-more
+
+pub searched : AllHold searchLines
+unfolding word termBytes goalBytes goalsAt goalsOf readGoals headerAt leaf pair closed contents termOf readTerm number andThen rows findRow rowOf kindOf leastOf mostOf innerOf lengthFits size fields findRuleIn findRule findBodyIn findBody matches fullTable lowest ruleOf definitionOf fieldOf readField withRule withDefinition fieldsOf readFields readTable ruleSize definitionSize rulesSize placedRules placedTactics placedLabels labelsOf clashesAny firstClash repeatsRule recountsRule repeatsTactic repeatsLabel refuseAt wholeTable searchedTag stepAt besides clashAt places clashTold jobTermPlace fullFlat withEntry entriesOf readEntries derivationOf readFlat entryBytes entriesBytes flatBytes entriesPlace lastTermOf readLastTerm jobOf readJob jobBytes remainingOf hiproofOf proofOf readProof proofBytes termPlace remainingPlace taken flatWalk forest inputArity atomics dropLabels Unlabelled unwind begin stepFrom step run start arityIn arityAfter tacticArity onOneGoal onNoGoal premisesOr tooLong joined walk treeTerms written sameGoals remainingAre checked onProof proofCounts forestFile check flatten nonePending right flatCounts checkFlatOutcome writtenProof writtenFile writeOutcome checkFlat writeProof checkIn writeOut writeIn Holds digits acceptedLine refusedLine printedLine runEnd runResult runOutcome runTactic beside sideBySide sideBySideOr searchLines edgeLines forEach inLabel thenRight besideRight splits following trace firstFound search searchEnd searchOutcome searchTactic
+searched = refl & refl & refl & refl & refl & refl & refl & refl & refl & refl & refl & refl & refl & refl & refl & no-more

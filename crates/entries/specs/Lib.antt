@@ -3,6 +3,7 @@ pub mod LentSpace
 pub mod Check
 pub mod CheckFlat
 pub mod Run
+pub mod Search
 pub mod Texts
 pub mod Left
 pub mod PrintedLine

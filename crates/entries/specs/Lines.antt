@@ -12,6 +12,7 @@ use Rattle.entries.specs.LentSpace.{Counts, Checked, Written, writeOut}
 use Rattle.entries.specs.Check.{onProof, proofCounts, forestFile, check}
 use Rattle.entries.specs.CheckFlat.{checkFlatOutcome, writeOutcome, writtenFile}
 use Rattle.entries.specs.Run.{runOutcome, runTactic}
+use Rattle.entries.specs.Search.{searchOutcome, searchTactic}
 use Rattle.entries.specs.Texts.{readTextOutcome, writeTextOutcome}
 use Rattle.entries.specs.PrintedLine.{printedLine}
 
@@ -25,6 +26,9 @@ pub data Line : Type 0 where
   runs : (table job : List ℕ) → (budget : ℕ) → Outcome (List ℕ) → Line
   runsInto : (table job : List ℕ) → (budget : ℕ) → (work out : List ℕ) → Written → Line
   runsWith : (table job : List ℕ) → (budget : ℕ) → (work out : List ℕ) → Written → Line
+  searches : (table job : List ℕ) → (height budget : ℕ) → Outcome (List ℕ) → Line
+  searchesInto : (table job : List ℕ) → (height budget : ℕ) → (work out : List ℕ) → Written → Line
+  searchesWith : (table job : List ℕ) → (height budget : ℕ) → (work out : List ℕ) → Written → Line
   checksWith : (table proof work : List ℕ) → Checked → Line
   prints : Answer → (line : List ℕ) → Line
   readsText : (text : List ℕ) → Outcome (List ℕ) → Line
@@ -42,6 +46,10 @@ Holds (runs t j b o) = runOutcome t j b ≡ o
 -- a run that was lent enough work space
 Holds (runsInto t j b w o x) = writeOut w o (runOutcome t j b) ≡ x
 Holds (runsWith t j b w o x) = runTactic t j b w o ≡ x
+Holds (searches t j h b o) = searchOutcome t j h b ≡ o
+-- a search that was lent enough work space
+Holds (searchesInto t j h b w o x) = writeOut w o (searchOutcome t j h b) ≡ x
+Holds (searchesWith t j h b w o x) = searchTactic t j h b w o ≡ x
 Holds (checksWith t p w x) = check t p w ≡ x
 Holds (prints a l) = printedLine a ≡ l
 Holds (readsText s o) = readTextOutcome s ≡ o

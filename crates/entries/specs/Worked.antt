@@ -2,17 +2,18 @@
 use Prim.Native.Nat.{ℕ, zero, suc}
 use mathlib.Core.List.{List, [], _∷_, _++_}
 use lib.ListN.{replicate}
-use Rattle.format.specs.Refusals.{inputTooLong, fieldTorn, tagNotAllowed, lengthWrong, limitPassed, ruleRepeated, premiseCountDiffers, tacticRedefined, labelRepeated, ruleMissing, goalCountWrong, goalsTooFew, remainingDiffer, joinedTooLong, tacticFailed, budgetSpent, budgetTooLarge, entryWrong, goalsPending, entriesTooMany, textWrong}
+use Rattle.format.specs.Refusals.{inputTooLong, fieldTorn, tagNotAllowed, lengthWrong, limitPassed, ruleRepeated, premiseCountDiffers, tacticRedefined, labelRepeated, ruleMissing, goalCountWrong, goalsTooFew, remainingDiffer, joinedTooLong, tacticFailed, budgetSpent, budgetTooLarge, entryWrong, goalsPending, entriesTooMany, textWrong, noEvaluation, heightOutside}
 use Rattle.format.specs.Results.{refused}
-use Rattle.format.specs.Values.{ruleName, goal}
-use Rattle.format.specs.Terms.{Term, atomic, id, tensor, alternation}
+use Rattle.format.specs.Values.{goal}
+use Rattle.format.specs.Terms.{id, alternation}
 use Rattle.files.specs.Proofs.{Proof, proofBytes}
 use Rattle.files.specs.Jobs.{Job, jobBytes}
 use Rattle.files.specs.Derivations.{openEntry}
+use Rattle.search.specs.Worked.{beside}
 use Rattle.answers.specs.Answers as answer
 use Rattle.entries.specs.Outcomes.{success, refusal, done, tableFile, otherFile, noFile}
 use Rattle.entries.specs.LentSpace.{Counts}
-use Rattle.entries.specs.Lines.{Line, ofBytes, checks, flattens, checksFlat, writes, writesOf, runs, runsInto, runsWith, checksWith, prints, readsText, writesText}
+use Rattle.entries.specs.Lines.{Line, ofBytes, checks, flattens, checksFlat, writes, writesOf, runs, runsInto, runsWith, searches, searchesInto, searchesWith, checksWith, prints, readsText, writesText}
 
 abbrev pub counts : (fields uses remaining : ℕ) → Counts
 counts t u o = record { fields = t; uses = u; remaining = o }
@@ -33,16 +34,23 @@ flatT3 = 3 ∷ 0 ∷ 2 ∷ 0 ∷ 10 ∷ 32 ∷ 0 ∷ 4 ∷ 0 ∷ 1 ∷ 0 ∷ 10 
 abbrev pub proofBack : List ℕ
 proofBack = 3 ∷ 0 ∷ 2 ∷ 0 ∷ 10 ∷ 19 ∷ 0 ∷ 18 ∷ 16 ∷ 0 ∷ 2 ∷ 0 ∷ 1 ∷ 20 ∷ 0 ∷ 10 ∷ 16 ∷ 0 ∷ 2 ∷ 0 ∷ 2 ∷ 16 ∷ 0 ∷ 2 ∷ 0 ∷ 3 ∷ 3 ∷ 0 ∷ 0 ∷ []
 
+-- "With tactics 5 = (2 ⊗ T5) | empty and 6 = (3 ⊗ T6) | empty"
+abbrev pub tableT5 : List ℕ
+tableT5 = tableA ++ (2 ∷ 0 ∷ 21 ∷ 0 ∷ 5 ∷ 22 ∷ 0 ∷ 16 ∷ 20 ∷ 0 ∷ 10 ∷ 16 ∷ 0 ∷ 2 ∷ 0 ∷ 2 ∷ 24 ∷ 0 ∷ 2 ∷ 0 ∷ 5 ∷ 21 ∷ 0 ∷ 0 ∷ 2 ∷ 0 ∷ 21 ∷ 0 ∷ 6 ∷ 22 ∷ 0 ∷ 16 ∷ 20 ∷ 0 ∷ 10 ∷ 16 ∷ 0 ∷ 2 ∷ 0 ∷ 3 ∷ 24 ∷ 0 ∷ 2 ∷ 0 ∷ 6 ∷ 21 ∷ 0 ∷ 0 ∷ [])
+
+-- T5 ⊗ T6 on 20, 20, 30
+abbrev pub jobT5T6 : List ℕ
+jobT5T6 = 3 ∷ 0 ∷ 6 ∷ 0 ∷ 20 ∷ 0 ∷ 20 ∷ 0 ∷ 30 ∷ 20 ∷ 0 ∷ 10 ∷ 24 ∷ 0 ∷ 2 ∷ 0 ∷ 5 ∷ 24 ∷ 0 ∷ 2 ∷ 0 ∷ 6 ∷ []
+
+-- (2 ⊗ (2 ⊗ empty)) ⊗ (3 ⊗ empty) on 20, 20, 30, none remaining
+abbrev pub proofT5T6 : List ℕ
+proofT5T6 = 3 ∷ 0 ∷ 6 ∷ 0 ∷ 20 ∷ 0 ∷ 20 ∷ 0 ∷ 30 ∷ 20 ∷ 0 ∷ 30 ∷ 20 ∷ 0 ∷ 16 ∷ 16 ∷ 0 ∷ 2 ∷ 0 ∷ 2 ∷ 20 ∷ 0 ∷ 8 ∷ 16 ∷ 0 ∷ 2 ∷ 0 ∷ 2 ∷ 21 ∷ 0 ∷ 0 ∷ 20 ∷ 0 ∷ 8 ∷ 16 ∷ 0 ∷ 2 ∷ 0 ∷ 3 ∷ 21 ∷ 0 ∷ 0 ∷ 3 ∷ 0 ∷ 0 ∷ []
+
 -- rule 4 on 40 gives eight times 40; rule 5 on 50 gives 10, 20, 50
 abbrev pub tableB : List ℕ
 tableB = 1 ∷ 0 ∷ 20 ∷ 0 ∷ 4 ∷ 0 ∷ 40 ∷ 0 ∷ 40 ∷ 0 ∷ 40 ∷ 0 ∷ 40 ∷ 0 ∷ 40 ∷ 0 ∷ 40 ∷ 0 ∷ 40 ∷ 0 ∷ 40 ∷ 0 ∷ 40 ∷ 1 ∷ 0 ∷ 10 ∷ 0 ∷ 5 ∷ 0 ∷ 50 ∷ 0 ∷ 10 ∷ 0 ∷ 20 ∷ 0 ∷ 50 ∷ []
 
--- rule 4 side by side, as often as there are goals 40
-unfoldable pub beside : ℕ → Term
-beside zero = atomic (ruleName 4)
-beside (suc n) = tensor (atomic (ruleName 4)) (beside n)
-
--- so many side by side, each leaving eight goals; and the same as the left of an alternation
+-- rule 4 so many times side by side, each leaving eight goals; and the same as the left of an alternation
 unfoldable pub sideBySide : ℕ → List ℕ
 sideBySide zero = []
 sideBySide (suc n) = proofBytes (record { goals = replicate (suc n) (goal 40); term = beside n; remaining = replicate 256 (goal 40) })
@@ -141,7 +149,7 @@ edgeLines =
     -- 22 in a run: file and place 0; it does not move on to an alternative
     ∷ runs tableB (sideBySideOr 33) 4096 (refusal joinedTooLong noFile 0 66)
     -- 23: "T5 ⊗ T6 on 20, 20, 30: 23 after 1 step"
-    ∷ runs (tableA ++ (2 ∷ 0 ∷ 21 ∷ 0 ∷ 5 ∷ 22 ∷ 0 ∷ 16 ∷ 20 ∷ 0 ∷ 10 ∷ 16 ∷ 0 ∷ 2 ∷ 0 ∷ 2 ∷ 24 ∷ 0 ∷ 2 ∷ 0 ∷ 5 ∷ 21 ∷ 0 ∷ 0 ∷ 2 ∷ 0 ∷ 21 ∷ 0 ∷ 6 ∷ 22 ∷ 0 ∷ 16 ∷ 20 ∷ 0 ∷ 10 ∷ 16 ∷ 0 ∷ 2 ∷ 0 ∷ 3 ∷ 24 ∷ 0 ∷ 2 ∷ 0 ∷ 6 ∷ 21 ∷ 0 ∷ 0 ∷ [])) (3 ∷ 0 ∷ 6 ∷ 0 ∷ 20 ∷ 0 ∷ 20 ∷ 0 ∷ 30 ∷ 20 ∷ 0 ∷ 10 ∷ 24 ∷ 0 ∷ 2 ∷ 0 ∷ 5 ∷ 24 ∷ 0 ∷ 2 ∷ 0 ∷ 6 ∷ []) 4096 (refusal tacticFailed noFile 0 1)
+    ∷ runs tableT5 jobT5T6 4096 (refusal tacticFailed noFile 0 1)
     -- 24 before the first step
     ∷ runs [] (3 ∷ 0 ∷ 0 ∷ 21 ∷ 0 ∷ 0 ∷ []) 0 (refusal budgetSpent noFile 0 0)
     -- 25: "Budget 4,096 runs; 4,097 is 25", before any reading
@@ -185,4 +193,30 @@ textLines =
     ∷ writesText (17 ∷ 0 ∷ 0 ∷ 0 ∷ []) (refusal lengthWrong otherFile 3 0)
     -- a goal list in front
     ∷ writesText (3 ∷ 0 ∷ 0 ∷ 17 ∷ 0 ∷ 0 ∷ []) (refusal tagNotAllowed otherFile 0 0)
+    ∷ []
+
+-- document 02, P13: T5 ⊗ T6, which no run proves, and what is refused
+unfoldable pub searchLines : List Line
+searchLines =
+    -- "At height 10 it finds T5 ⊗ T6 on 20, 20, 30 where the machine fails"
+    searches tableT5 jobT5T6 10 4096 (success proofT5T6 56)
+    -- "A found proof .. validates and flattens like any other": 2 on 20, 2 on 20, 3 on 30
+    ∷ checks tableT5 proofT5T6 (done (counts 9 3 0))
+    ∷ flattens tableT5 proofT5T6 (done (3 ∷ 0 ∷ 6 ∷ 0 ∷ 20 ∷ 0 ∷ 20 ∷ 0 ∷ 30 ∷ 32 ∷ 0 ∷ 4 ∷ 0 ∷ 2 ∷ 0 ∷ 20 ∷ 32 ∷ 0 ∷ 4 ∷ 0 ∷ 2 ∷ 0 ∷ 20 ∷ 32 ∷ 0 ∷ 4 ∷ 0 ∷ 3 ∷ 0 ∷ 30 ∷ []))
+    ∷ searches tableT5 jobT5T6 10 55 (refusal budgetSpent noFile 0 55)
+    ∷ searches tableT5 jobT5T6 9 64 (refusal noEvaluation noFile 0 64)
+    -- 24 comes behind the reading of both files
+    ∷ searches [] [] 1 0 (refusal fieldTorn otherFile 0 0)
+    ∷ searches [] (3 ∷ 0 ∷ 2 ∷ 0 ∷ 1 ∷ 17 ∷ 0 ∷ 0 ∷ []) 1 0 (refusal budgetSpent noFile 0 0)
+    -- 25, then 42, then the files; heights 1 and 64 are the last inside
+    ∷ searches (1 ∷ []) [] 0 4097 (refusal budgetTooLarge noFile 0 0)
+    ∷ searches (1 ∷ []) [] 0 4096 (refusal heightOutside noFile 0 0)
+    ∷ searches (1 ∷ []) [] 65 4096 (refusal heightOutside noFile 0 0)
+    ∷ searches (1 ∷ []) [] 1 4096 (refusal fieldTorn tableFile 0 0)
+    ∷ searches (1 ∷ []) [] 64 4096 (refusal fieldTorn tableFile 0 0)
+    -- 26: one byte too few; the steps are those of the whole search
+    ∷ searchesInto [] (3 ∷ 0 ∷ 0 ∷ 21 ∷ 0 ∷ 0 ∷ []) 1 1 (7 ∷ []) (replicate 8 7) (record { answer = answer.refusal 26 0 0 1; work = 0 ∷ []; out = replicate 8 7 })
+    ∷ searchesInto [] (3 ∷ 0 ∷ 0 ∷ 21 ∷ 0 ∷ 0 ∷ []) 1 1 (7 ∷ []) (replicate 10 7) (record { answer = answer.wrote 9 1; work = 0 ∷ []; out = 3 ∷ 0 ∷ 0 ∷ 21 ∷ 0 ∷ 0 ∷ 3 ∷ 0 ∷ 0 ∷ 7 ∷ [] })
+    -- 29 before 25 and 42
+    ∷ searchesWith [] [] 0 4097 (7 ∷ []) (7 ∷ []) (record { answer = answer.refusal 29 0 0 0; work = 7 ∷ []; out = 7 ∷ [] })
     ∷ []

@@ -92,3 +92,5 @@ number-positive C.entriesTooMany = omega arith
 number-positive C.workTooShort = omega arith
 number-positive C.textWrong = omega arith
 number-positive C.valueTooLarge = omega arith
+number-positive C.noEvaluation = omega arith
+number-positive C.heightOutside = omega arith

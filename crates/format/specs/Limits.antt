@@ -1,4 +1,4 @@
--- Document 01: every limit that it names, each in one place.
+-- Documents 01 and 02: every limit that they name, each in one place.
 use Prim.Native.Nat.{ℕ}
 
 -- "1: input over 65,535 bytes"
@@ -40,3 +40,14 @@ mostSteps = 4096
 -- "28: over 2,048 entries when writing a proof"
 abbrev pub mostEntries : ℕ
 mostEntries = 2048
+
+-- P13: "takes a height h, 1 to 64"
+abbrev pub leastHeight : ℕ
+leastHeight = 1
+
+abbrev pub mostHeight : ℕ
+mostHeight = 64
+
+-- P13: "a budget up to 4,096, else 25"; a limit of its own, since P12 raises only the other
+abbrev pub mostSearchSteps : ℕ
+mostSearchSteps = 4096

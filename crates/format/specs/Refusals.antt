@@ -1,4 +1,4 @@
--- Document 01, "What the bytes bring about" and "What the state brings about": the causes of a refusal, and their numbers.
+-- The causes of a refusal, and their numbers: document 01, "What the bytes bring about" and "What the state brings about"; document 02, P8 (36, 37) and P13 (41, 42).
 use Prim.Native.Nat.{ℕ}
 
 pub data Cause : Type 0 where
@@ -26,6 +26,8 @@ pub data Cause : Type 0 where
   workTooShort : Cause
   textWrong : Cause
   valueTooLarge : Cause
+  noEvaluation : Cause
+  heightOutside : Cause
 
 -- Three causes have the number 20, and two the number 27: a term that cannot take its goals, a flat file that is wrong.
 unfoldable pub number : Cause → ℕ
@@ -53,3 +55,5 @@ number entriesTooMany = 28
 number workTooShort = 29
 number textWrong = 36
 number valueTooLarge = 37
+number noEvaluation = 41
+number heightOutside = 42

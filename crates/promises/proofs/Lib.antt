@@ -9,5 +9,6 @@ pub mod FlattenPromises
 pub mod RunWithin
 pub mod RunPromises
 pub mod RunMeaning
+pub mod SearchPromises
 pub mod ReadTextPromises
 pub mod WriteTextPromises

@@ -40,7 +40,8 @@ use Rattle.entries.specs.LentSpace.{Written, writeOut, writeIn}
 use Rattle.entries.specs.Run.{runEnd, runResult, runOutcome, runWork, runTactic}
 use Rattle.promises.specs.Accepted.{Accepted}
 use Rattle.promises.specs.Ended as ended-specs
-use Rattle.promises.specs.RunPromises.{resultOf, wroteAfter, RunAnswers, Run-answers, Run-accepted, RunRefuses, Run-ends}
+use Rattle.promises.specs.Results.{resultOf, wroteAfter}
+use Rattle.promises.specs.RunPromises.{RunAnswers, Run-answers, Run-accepted, RunRefuses, Run-ends}
 use Rattle.promises.proofs.LentLaws.{Answers, ends-written}
 use Rattle.promises.proofs.RunWithin.{evaluated-values}
 

@@ -1,11 +1,13 @@
 pub mod Accepted
 pub mod Right
 pub mod Ended
+pub mod Results
 pub mod CheckPromises
 pub mod CheckFlatPromises
 pub mod WriteProofPromises
 pub mod FlattenPromises
 pub mod RunPromises
 pub mod RunMeaning
+pub mod SearchPromises
 pub mod ReadTextPromises
 pub mod WriteTextPromises

@@ -2,30 +2,21 @@
 use Prim.Native.Nat.{ℕ, _≤_}
 use mathlib.Core.Path.{_≡_}
 use mathlib.Core.Logic.{_⊎_}
-use mathlib.Core.List.{List, _++_}
-use lib.ListN.{length, drop, replicate}
+use mathlib.Core.List.{List}
+use lib.ListN.{length}
 use Rattle.format.specs.declared.values.Goal.{Goal}
 use Rattle.format.specs.Encoding.{Bytes}
 use Rattle.format.specs.Results.{gives}
 use Rattle.format.specs.Terms.{Term}
 use Rattle.tables.specs.Tables.{Table}
 use Rattle.tables.specs.ReadTables.{readTable}
-use Rattle.files.specs.Proofs.{Proof, proofBytes}
 use Rattle.files.specs.Jobs.{Job, readJob}
 use Rattle.hitac.specs.Ends.{End, proof, failure, overflow, Ends}
 use Rattle.answers.specs.Answers as answer
-use Rattle.entries.specs.LentSpace.{Written}
 use Rattle.entries.specs.Run.{runWork, runTactic}
 use Rattle.promises.specs.Accepted.{Accepted}
 use Rattle.promises.specs.Ended.{EndsWritten}
-
--- "A run that succeeds writes a proof file": of the job's goals, the hiproof and the goals that it gives
-abbrev pub resultOf : Job → Term → List Goal → List ℕ
-resultOf j s h = proofBytes (record { goals = j .goals; term = s; remaining = h })
-
--- what a run that writes these bytes after so many steps leaves
-abbrev pub wroteAfter : (steps : ℕ) → (bytes work out : List ℕ) → Written
-wroteAfter n bytes work out = record { answer = answer.wrote (length bytes) n; work = replicate (length work) 0; out = bytes ++ drop (length bytes) out }
+use Rattle.promises.specs.Results.{resultOf, wroteAfter}
 
 -- The answer of a run by how the job's term ends on its goals by the deterministic rules (`Ends`, which has one end at most): with a proof, with failure, with a list over 256,
 -- or with none of these within the budget.
