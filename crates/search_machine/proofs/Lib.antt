@@ -1,0 +1,11 @@
+pub mod NodeLaws
+pub mod KeepLaws
+pub mod MoveLaws
+pub mod SplitLaws
+pub mod BeginLaws
+pub mod TensorLaws
+pub mod PopLaws
+pub mod BackLaws
+pub mod UnwindLaws
+pub mod StepLaws
+pub mod RunLaws
