@@ -40,4 +40,4 @@ pub const FLATTEN_WORK: usize = 200_704;
 pub const RUN_WORK: usize = 1_290_752;
 pub const READ_TEXT_WORK: usize = 196_608;
 pub const WRITE_TEXT_WORK: usize = 36_864;
-pub const SEARCH_WORK: usize = 2_760_704;
+pub const SEARCH_WORK: usize = 2_496_256;

@@ -3,6 +3,7 @@ ghost use mathlib.Core.Path.{_≡_};
 ghost use Rattle.entries.specs.Check as entry;
 ghost use Rattle.entries.specs.CheckFlat.{checkFlat, writeProof};
 ghost use Rattle.entries.specs.Run.{runTactic};
+ghost use Rattle.entries.specs.Search.{searchTactic};
 ghost use Rattle.entries.specs.Texts.{readText, writeText};
 ghost use Rattle.engine.specs.Version.{versionMajor, versionMinor};
 ghost use Prim.Native.Nat.{_+_, _*_};
@@ -11,6 +12,7 @@ use checker::check::check;
 use derivation::check::check_flat;
 use flattener::flatten::flatten;
 use runner::entry::run;
+use searcher::entry::search;
 use text_reader::entry::read_text;
 use text_writer::entry::write_text;
 use writer::entry::write_proof;
@@ -18,7 +20,7 @@ use writer::entry::write_proof;
 // The minor number goes up with each new call, the major number when programs must be compiled anew.
 const MAJOR: u32 = 1;
 
-const MINOR: u32 = 2;
+const MINOR: u32 = 3;
 
 // Whether the proof is accepted in the table.
 #[no_mangle]
@@ -102,6 +104,23 @@ pub extern "C" fn hitac_write_text(term: &[u8], work: &mut [u8], out: &mut [u8])
     ensures out { λ _. ⌜ now (out .exit) ≡ writeText (now (term .entry)) (now (work .entry)) (now (out .entry)) .out ⌝ }
 {
     write_text(term, work, out)
+}
+
+// Searches the evaluations of the job's tactic in the table, of that height at most and within the budget: a proof file in the output space.
+#[no_mangle]
+pub extern "C" fn hitac_search(
+    table: &[u8],
+    job: &[u8],
+    height: u32,
+    budget: u32,
+    work: &mut [u8],
+    out: &mut [u8],
+) -> Answer
+    ensures answer { λ r. ⌜ r ≡ searchTactic (now (table .entry)) (now (job .entry)) height budget (now (work .entry)) (now (out .entry)) .answer ⌝ }
+    ensures work { λ _. ⌜ now (work .exit) ≡ searchTactic (now (table .entry)) (now (job .entry)) height budget (now (work .entry)) (now (out .entry)) .work ⌝ }
+    ensures out { λ _. ⌜ now (out .exit) ≡ searchTactic (now (table .entry)) (now (job .entry)) height budget (now (work .entry)) (now (out .entry)) .out ⌝ }
+{
+    search(table, job, height, budget, work, out)
 }
 
 // The version of the library: the major number times 65,536, and the minor number.

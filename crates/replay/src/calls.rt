@@ -5,6 +5,7 @@ ghost use lib.ListN.{length, replicate};
 ghost use Rattle.entries.specs.Check as entry;
 ghost use Rattle.entries.specs.CheckFlat as flat_entry;
 ghost use Rattle.entries.specs.Run as run_entry;
+ghost use Rattle.entries.specs.Search as search_entry;
 ghost use Rattle.entries.specs.Texts as text_entry;
 use crate::lent::BLANK;
 use crate::lent::FILLED;
@@ -17,6 +18,7 @@ use crate::records::Case;
 use crate::records::FLATTEN;
 use crate::records::READ_TEXT;
 use crate::records::RUN;
+use crate::records::SEARCH;
 use crate::records::WRITE_TEXT;
 use crate::tally::Verdict;
 use crate::tally::compared;
@@ -25,6 +27,7 @@ use checker::check::check;
 use derivation::check::check_flat;
 use flattener::flatten::flatten;
 use runner::entry::run;
+use searcher::entry::search;
 use text_reader::entry::read_text;
 use text_writer::entry::write_text;
 use writer::entry::write_proof;
@@ -151,6 +154,24 @@ fn run_agrees(
     wrote_as_told(answer, work, out, told, digest)
 }
 
+fn search_agrees(
+    table: &[u8],
+    job: &[u8],
+    height: u32,
+    budget: u32,
+    work: &mut [u8],
+    out: &mut [u8],
+    told: Answer,
+    digest: u32,
+) -> bool
+    ensures { λ r. ⌜ (r ≡ true → search_entry.searchTactic (now (table .entry)) (now (job .entry)) height budget (replicate (length (now (work .entry))) 165) (replicate (length (now (out .entry))) 90) .answer ≡ told) ⌝ }
+{
+    fill(work, FILLED);
+    fill(out, BLANK);
+    let answer = search(table, job, height, budget, work, out);
+    wrote_as_told(answer, work, out, told, digest)
+}
+
 fn read_text_agrees(text: &[u8], work: &mut [u8], out: &mut [u8], told: Answer, digest: u32) -> bool
     ensures { λ r. ⌜ (r ≡ true → text_entry.readText (now (text .entry)) (replicate (length (now (work .entry))) 165) (replicate (length (now (out .entry))) 90) .answer ≡ told) ⌝ }
 {
@@ -191,6 +212,18 @@ fn call_agrees(case: Case, table: &[u8], other: &[u8], work: &mut [u8], out: &mu
     }
     if entry == RUN {
         return run_agrees(table, other, case.budget, work, out, told, digest);
+    }
+    if entry == SEARCH {
+        return search_agrees(
+            table,
+            other,
+            case.height,
+            case.budget,
+            work,
+            out,
+            told,
+            digest,
+        );
     }
     if entry == READ_TEXT {
         return read_text_agrees(other, work, out, told, digest);

@@ -2,6 +2,7 @@
 use crate::records::CHECK_FLAT;
 use crate::records::READ_TEXT;
 use crate::records::RUN;
+use crate::records::SEARCH;
 use crate::records::WRITE_PROOF;
 use crate::records::WRITE_TEXT;
 use crate::tally::Verdict;
@@ -88,6 +89,9 @@ fn other_finding(entry: u8, s: &[u8], space: &mut [u8; SPACE]) -> Finding {
     if entry == RUN {
         return job_finding(s, space);
     }
+    if entry == SEARCH {
+        return job_finding(s, space);
+    }
     if entry == CHECK_FLAT {
         return flat_finding(s, space);
     }
@@ -122,12 +126,15 @@ fn reads_as_told(found: Finding, refused: bool, told: Answer) -> bool {
     found.number == 0
 }
 
-// The reading of a case. After 29 and 25 the answer tells nothing of the files; a refused table tells nothing of the other file; a text is no file of fields.
+// The reading of a case. After 29, 25 and 42 the answer tells nothing of the files; a refused table tells nothing of the other file; a text is no file of fields.
 pub fn replay_reading(entry: u8, table: &[u8], other: &[u8], told: Answer) -> Verdict {
     if told.number == 29 {
         return Verdict::Untold;
     }
     if told.number == 25 {
+        return Verdict::Untold;
+    }
+    if told.number == 42 {
         return Verdict::Untold;
     }
     if entry == READ_TEXT {

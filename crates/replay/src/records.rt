@@ -23,7 +23,7 @@ pub const OTHER: u8 = 2;
 
 pub const CASE: u8 = 3;
 
-// The length of a case record.
+// The length of a case record up to the height, which only a case of search has, in four bytes.
 pub const CASE_BYTES: usize = 50;
 
 // The entries.
@@ -41,6 +41,8 @@ pub const READ_TEXT: u8 = 6;
 
 pub const WRITE_TEXT: u8 = 7;
 
+pub const SEARCH: u8 = 8;
+
 // A case: the entry, what it lends, and the answer and digest that are told.
 pub struct Case {
     pub entry: u8,
@@ -49,6 +51,7 @@ pub struct Case {
     pub room: usize,
     pub told: Answer,
     pub digest: u32,
+    pub height: u32,
 }
 
 // What a file record gives: the place behind it and the size of the file. Where the record is damaged, the place is the end of the vector file, so that no end record follows, and the size is 0.
@@ -153,17 +156,39 @@ fn load_answer(s: &[u8], at: usize) -> Answer
     }
 }
 
-// A case record of which all bytes are there.
-pub fn load_case(s: &[u8], at: usize) -> Case
-    requires { ⌜ at + 50 ≤ length (now s) ⌝ }
+// The length of an entry's case record.
+pub fn case_bytes(entry: u8) -> usize
+    ensures { λ r. ⌜ (50 ≤ r) × (r ≤ 54) × (entry ≡ 8 → r ≡ 54) ⌝ }
+{
+    if entry == SEARCH {
+        return CASE_BYTES + 4;
+    }
+    CASE_BYTES
+}
+
+// The height that a case of search tells last; 0 in every other.
+fn load_height(s: &[u8], at: usize, entry: u8) -> u32
+    requires { ⌜ (entry ≡ 8 → at + 54 ≤ length (now s)) ⌝ }
+{
+    if entry == SEARCH {
+        return load32(s, at + CASE_BYTES);
+    }
+    0
+}
+
+// An entry's case record of which all bytes are there.
+pub fn load_case(s: &[u8], at: usize, entry: u8) -> Case
+    requires { ⌜ (at + 50 ≤ length (now s)) × (entry ≡ 8 → at + 54 ≤ length (now s)) ⌝ }
 {
     let told = load_answer(s, at + 14);
+    let height = load_height(s, at, entry);
     Case {
-        entry: s[at + 1],
+        entry,
         budget: load32(s, at + 2),
         lent: load32(s, at + 6) as usize,
         room: load32(s, at + 10) as usize,
         told,
         digest: load32(s, at + 46),
+        height,
     }
 }

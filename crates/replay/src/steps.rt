@@ -10,9 +10,10 @@ use crate::records::Case;
 use crate::records::END;
 use crate::records::HEADER;
 use crate::records::OTHER;
+use crate::records::SEARCH;
 use crate::records::TABLE;
-use crate::records::WRITE_TEXT;
 use crate::records::begins_right;
+use crate::records::case_bytes;
 use crate::records::expand;
 use crate::records::load_case;
 use crate::records::load32;
@@ -98,19 +99,24 @@ fn step_case(
     if s.len() - at < CASE_BYTES {
         return stopped(s, p, false);
     }
-    let case = load_case(s, at);
-    if case.entry == 0 {
+    let entry = s[at + 1];
+    let size = case_bytes(entry);
+    if s.len() - at < size {
         return stopped(s, p, false);
     }
-    if WRITE_TEXT < case.entry {
+    if entry == 0 {
         return stopped(s, p, false);
     }
+    if SEARCH < entry {
+        return stopped(s, p, false);
+    }
+    let case = load_case(s, at, entry);
     let t = p.table;
     let o = p.other;
     let counted = replay_case(case, &table[..t], &other[..o], work);
     let tally = count_case(name, p.tally, counted);
     Progress {
-        at: at + CASE_BYTES,
+        at: at + size,
         table: t,
         other: o,
         ended: false,
