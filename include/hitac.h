@@ -11,10 +11,10 @@ extern "C" {
 
 /*
  * The version of this header. The minor number goes up with each new call: 1.0 had the first five, 1.1 brought hitac_read_text,
- * 1.2 hitac_write_text. The major number goes up when a program has to be compiled anew.
+ * 1.2 hitac_write_text, 1.3 hitac_search. The major number goes up when a program has to be compiled anew.
  */
 #define HITAC_VERSION_MAJOR 1
-#define HITAC_VERSION_MINOR 2
+#define HITAC_VERSION_MINOR 3
 #define HITAC_VERSION (HITAC_VERSION_MAJOR * 65536 + HITAC_VERSION_MINOR) /* as hitac_version answers it */
 
 /*
@@ -28,7 +28,7 @@ struct hitac_answer {
     uint32_t number;    /* 0 for success, else the number of the refusal */
     uint32_t file;      /* where the refusal is: HITAC_TABLE, HITAC_OTHER_FILE or HITAC_NO_FILE */
     uint32_t place;     /* byte offset in that file */
-    uint32_t steps;     /* terms begun by hitac_run */
+    uint32_t steps;     /* terms begun by hitac_run or hitac_search */
     uint32_t length;    /* bytes written at the start of the output space */
     uint32_t fields;    /* term fields of a proof that hitac_check accepts */
     uint32_t uses;      /* uses of rules, of hitac_check and hitac_check_flat */
@@ -37,7 +37,7 @@ struct hitac_answer {
 
 /*
  * Every file and space is a pointer and its length in bytes. A pointer is never NULL, also where the length is 0.
- * The spaces of a call overlap neither each other nor a file. Any bytes, lengths and budget get an answer. Nothing is
+ * The spaces of a call overlap neither each other nor a file. Any bytes, lengths, height and budget get an answer. Nothing is
  * allocated and nothing is kept between calls, so calls with spaces of their own may run at the same time.
  * Work space that is long enough is all zero afterwards. A refusal leaves the output space untouched; a success
  * leaves the bytes behind its result untouched.
@@ -82,6 +82,16 @@ struct hitac_answer hitac_write_text(const uint8_t *term, size_t term_length,
                                      uint8_t *work, size_t work_length,
                                      uint8_t *out, size_t out_length);
 
+/*
+ * Looks for an evaluation of the job's tactic by the paper's big-step rules that is at most height rules high, in at most
+ * budget steps: it tries every split of a tensor, and goes back when a later term fails. Writes a proof file.
+ */
+struct hitac_answer hitac_search(const uint8_t *table, size_t table_length,
+                                 const uint8_t *job, size_t job_length,
+                                 uint32_t height, uint32_t budget,
+                                 uint8_t *work, size_t work_length,
+                                 uint8_t *out, size_t out_length);
+
 /* Work space that each call needs, in bytes. */
 #define HITAC_CHECK_WORK 65536       /* for hitac_check */
 #define HITAC_RUN_WORK 1290752       /* for hitac_run */
@@ -90,6 +100,7 @@ struct hitac_answer hitac_write_text(const uint8_t *term, size_t term_length,
 #define HITAC_WRITE_PROOF_WORK 65536 /* for hitac_write_proof */
 #define HITAC_READ_TEXT_WORK 196608  /* for hitac_read_text */
 #define HITAC_WRITE_TEXT_WORK 36864  /* for hitac_write_text */
+#define HITAC_SEARCH_WORK 2496256    /* for hitac_search */
 
 /*
  * Machine stack that each call needs, in bytes, whatever the files: from the arguments and the return address that the
@@ -104,25 +115,28 @@ struct hitac_answer hitac_write_text(const uint8_t *term, size_t term_length,
 #define HITAC_WRITE_PROOF_STACK 172032 /* for hitac_write_proof */
 #define HITAC_READ_TEXT_STACK 512      /* for hitac_read_text */
 #define HITAC_WRITE_TEXT_STACK 1024    /* for hitac_write_text */
+#define HITAC_SEARCH_STACK 1536        /* for hitac_search */
 
 /* Output space that is always long enough, in bytes. */
-#define HITAC_LONGEST_PROOF 21510 /* for hitac_run and hitac_write_proof: no proof file is longer */
+#define HITAC_LONGEST_PROOF 21510 /* for hitac_run, hitac_search and hitac_write_proof: no proof file is longer */
 #define HITAC_LONGEST_FLAT 16131  /* for hitac_flatten: no flat form of an accepted proof is longer */
 #define HITAC_LONGEST_TERM 20480  /* for hitac_read_text: no term file is longer */
 #define HITAC_LONGEST_TEXT 28671  /* for hitac_write_text: no written text is longer */
 
 /* Limits. */
-#define HITAC_LONGEST_FILE 65535    /* bytes in a file, a text among them */
-#define HITAC_MOST_STEPS 4096       /* largest budget of hitac_run */
-#define HITAC_MOST_RULES 4096       /* rules in a table */
-#define HITAC_MOST_PREMISES 8       /* premises of a rule */
-#define HITAC_MOST_DEFINITIONS 256  /* definitions in a table */
-#define HITAC_MOST_TERM_FIELDS 4096 /* term fields in a file */
-#define HITAC_MOST_GOALS 256        /* goals in a goal list, and in a list that a tensor joins */
-#define HITAC_MOST_USES 4096        /* uses in a flat file */
-#define HITAC_MOST_OPENS 256        /* opens in a flat file */
-#define HITAC_MOST_ENTRIES 2048     /* uses and opens of a flat file that hitac_write_proof takes */
-#define HITAC_MOST_VALUE 65535      /* a rule name, goal, label or tactic number */
+#define HITAC_LONGEST_FILE 65535     /* bytes in a file, a text among them */
+#define HITAC_MOST_STEPS 4096        /* largest budget of hitac_run */
+#define HITAC_MOST_SEARCH_STEPS 4096 /* largest budget of hitac_search */
+#define HITAC_MOST_HEIGHT 64         /* largest height of hitac_search; 1 is the smallest */
+#define HITAC_MOST_RULES 4096        /* rules in a table */
+#define HITAC_MOST_PREMISES 8        /* premises of a rule */
+#define HITAC_MOST_DEFINITIONS 256   /* definitions in a table */
+#define HITAC_MOST_TERM_FIELDS 4096  /* term fields in a file */
+#define HITAC_MOST_GOALS 256         /* goals in a goal list, and in a list that a tensor joins */
+#define HITAC_MOST_USES 4096         /* uses in a flat file */
+#define HITAC_MOST_OPENS 256         /* opens in a flat file */
+#define HITAC_MOST_ENTRIES 2048      /* uses and opens of a flat file that hitac_write_proof takes */
+#define HITAC_MOST_VALUE 65535       /* a rule name, goal, label or tactic number */
 
 /* The field file of an answer. */
 #define HITAC_NO_FILE 0    /* the refusal is in neither file */
@@ -158,6 +172,10 @@ struct hitac_answer hitac_write_text(const uint8_t *term, size_t term_length,
 /* Refusals of a text. */
 #define HITAC_TEXT_WRONG 36      /* no text of the notation goes on with this byte, or the text ends early */
 #define HITAC_VALUE_TOO_LARGE 37 /* a value is over 65,535; the place is that of its first digit */
+
+/* Refusals of a search. */
+#define HITAC_NO_EVALUATION 41  /* the tactic has no evaluation on the goals that is at most so high */
+#define HITAC_HEIGHT_OUTSIDE 42 /* the height is not 1 to 64 */
 
 #ifdef __cplusplus
 }

@@ -81,7 +81,7 @@ static void good_files(enum call call)
 {
     small_table();
     small_proof(1, 10, 1, 2);
-    if (call == RUN)
+    if (call == RUN || call == SEARCH)
         other.length = 10;
     if (call == CHECK_FLAT || call == WRITE_PROOF) {
         other.length = 5;
@@ -160,6 +160,8 @@ static void counts(void)
     good_files(RUN);
     got = answer(RUN);
     expect("steps and length of run", got.steps == 1 && got.length == 17 && got.uses == 0);
+    got = answer(SEARCH);
+    expect("steps and length of search", got.steps == 1 && got.length == 17 && got.uses == 0);
 }
 
 /* The refusals of a file that does not read, 1 to 5, in the other file. */
@@ -239,6 +241,7 @@ static void joined_lists(void)
         size_t place = 3 + 2 * atomics;
         if (atomics == 33)
             is("22 in a run", answer(RUN), HITAC_JOINED_TOO_LONG, HITAC_NO_FILE, 0);
+        is("no 22 in a search", answer(SEARCH), atomics == 33 ? HITAC_NO_EVALUATION : HITAC_SUCCESS, HITAC_NO_FILE, 0);
         field(&other, 3, 8 * 32, 40);
         if (atomics == 32)
             is("256 goals joined", answer(CHECK), HITAC_SUCCESS, HITAC_NO_FILE, 0);
@@ -334,6 +337,79 @@ static void limits_of_flats(void)
     is("an open more", answer(CHECK_FLAT), HITAC_LIMIT_PASSED, HITAC_OTHER_FILE, (uint32_t)end);
 }
 
+/* Defines a tactic T as `a * T | <>`: the rule a on every goal. */
+static void on_every_goal(size_t tactic, size_t name)
+{
+    size_t place = begin(&table, 2);
+    put16(&table, tactic);
+    size_t choice = begin(&table, 22);
+    size_t both = begin(&table, 20);
+    field(&table, 16, 1, name);
+    field(&table, 24, 1, tactic);
+    finish(&table, both);
+    field(&table, 21, 0, 0);
+    finish(&table, choice);
+    finish(&table, place);
+}
+
+/* T5 * T6 on 20, 20, 30, which a run cannot split, since T5 has no arity. Rule 2 closes 20, rule 3 closes 30. */
+static void split_by_demand(void)
+{
+    table.length = 0;
+    rule(&table, 2, 20, 0, 0);
+    rule(&table, 3, 30, 0, 0);
+    on_every_goal(5, 2);
+    on_every_goal(6, 3);
+    other.length = 0;
+    header(&other, 3, 6);
+    put16(&other, 20);
+    put16(&other, 20);
+    put16(&other, 30);
+    size_t both = begin(&other, 20);
+    field(&other, 24, 1, 5);
+    field(&other, 24, 1, 6);
+    finish(&other, both);
+}
+
+static void searched(const char *what, uint32_t height, uint32_t budget, uint32_t number, uint32_t steps)
+{
+    struct hitac_answer got = searched_at(height, budget);
+    is(what, got, number, HITAC_NO_FILE, 0);
+    expect(what, got.steps == steps);
+}
+
+/* A search finds the split, if height and budget suffice; the proof is accepted. */
+static void searches(void)
+{
+    split_by_demand();
+    struct hitac_answer got = answer(RUN);
+    is("a run cannot split", got, HITAC_TACTIC_FAILED, HITAC_NO_FILE, 0);
+    expect("after one step", got.steps == 1);
+    searched("41 at height 9", 9, HITAC_MOST_SEARCH_STEPS, HITAC_NO_EVALUATION, 64);
+    searched("41 at the end of the budget", 9, 64, HITAC_NO_EVALUATION, 64);
+    searched("24 before 41", 9, 63, HITAC_BUDGET_SPENT, 63);
+    searched("24 at height 10", 10, 55, HITAC_BUDGET_SPENT, 55);
+    searched("24 of no budget", 10, 0, HITAC_BUDGET_SPENT, 0);
+    searched("25 of a search", 10, HITAC_MOST_SEARCH_STEPS + 1, HITAC_BUDGET_TOO_LARGE, 0);
+    searched("25 before 42", 0, HITAC_MOST_SEARCH_STEPS + 1, HITAC_BUDGET_TOO_LARGE, 0);
+    searched("42 of height 0", 0, HITAC_MOST_SEARCH_STEPS, HITAC_HEIGHT_OUTSIDE, 0);
+    searched("42 above the largest height", HITAC_MOST_HEIGHT + 1, HITAC_MOST_SEARCH_STEPS, HITAC_HEIGHT_OUTSIDE, 0);
+    searched("42 of the largest number", UINT32_MAX, HITAC_MOST_SEARCH_STEPS, HITAC_HEIGHT_OUTSIDE, 0);
+    table.length = 2;
+    searched("42 before the table", 0, HITAC_MOST_SEARCH_STEPS, HITAC_HEIGHT_OUTSIDE, 0);
+    split_by_demand();
+    searched("found at the end of the budget", 10, 56, HITAC_SUCCESS, 56);
+    got = searched_at(10, HITAC_MOST_SEARCH_STEPS);
+    is("found at height 10", got, HITAC_SUCCESS, HITAC_NO_FILE, 0);
+    expect("steps and length of the proof", got.steps == 56 && got.length == 45);
+    other.length = 0;
+    for (size_t i = 0; i < got.length; i++)
+        put(&other, out[i]);
+    got = answer(CHECK);
+    is("the proof that was found", got, HITAC_SUCCESS, HITAC_NO_FILE, 0);
+    expect("its counts", got.fields == 9 && got.uses == 3 && got.remaining == 0);
+}
+
 /* Whether a call leaves just these bytes, and says so. */
 static int leaves(enum call call, const void *bytes, size_t length)
 {
@@ -422,6 +498,7 @@ int main(void)
     spaces(WRITE_PROOF);
     spaces(READ_TEXT);
     spaces(WRITE_TEXT);
+    spaces(SEARCH);
     refusals_of_reading();
     refusals_of_tables();
     refusals_of_meaning();
@@ -434,6 +511,7 @@ int main(void)
     refusals_of_texts();
     refusals_of_term_files();
     longest_term_and_text();
+    searches();
     printf("agreement: %u tests, %u wrong\n", tests, failures);
     return failures != 0;
 }

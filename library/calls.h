@@ -6,10 +6,14 @@
 #include "hitac.h"
 
 static struct bytes table, other;
-static uint8_t work[HITAC_RUN_WORK], out[HITAC_LONGEST_FILE];
+/* As much work space as the most demanding call needs. */
+static uint8_t work[HITAC_SEARCH_WORK], out[HITAC_LONGEST_FILE];
 
-/* The calls in one form, so that a case is one line. The last two take no table: the other file is the text or the term file. */
-enum call { CHECK, RUN, FLATTEN, CHECK_FLAT, WRITE_PROOF, READ_TEXT, WRITE_TEXT };
+/*
+ * The calls in one form, so that a case is one line. READ_TEXT and WRITE_TEXT take no table: the other file is the text or the
+ * term file. A search is at the largest height; searched_at takes another.
+ */
+enum call { CHECK, RUN, FLATTEN, CHECK_FLAT, WRITE_PROOF, READ_TEXT, WRITE_TEXT, SEARCH };
 
 static inline struct hitac_answer answer_in(enum call call, size_t work_length, size_t out_length, uint32_t budget)
 {
@@ -26,8 +30,11 @@ static inline struct hitac_answer answer_in(enum call call, size_t work_length, 
         return hitac_write_proof(table.at, table.length, other.at, other.length, work, work_length, out, out_length);
     case READ_TEXT:
         return hitac_read_text(other.at, other.length, work, work_length, out, out_length);
-    default:
+    case WRITE_TEXT:
         return hitac_write_text(other.at, other.length, work, work_length, out, out_length);
+    default:
+        return hitac_search(table.at, table.length, other.at, other.length, HITAC_MOST_HEIGHT, budget, work, work_length, out,
+                            out_length);
     }
 }
 
@@ -46,14 +53,22 @@ static inline size_t work_of(enum call call)
         return HITAC_WRITE_PROOF_WORK;
     case READ_TEXT:
         return HITAC_READ_TEXT_WORK;
-    default:
+    case WRITE_TEXT:
         return HITAC_WRITE_TEXT_WORK;
+    default:
+        return HITAC_SEARCH_WORK;
     }
 }
 
 static inline struct hitac_answer answer(enum call call)
 {
-    return answer_in(call, work_of(call), sizeof out, HITAC_MOST_STEPS);
+    return answer_in(call, work_of(call), sizeof out, call == SEARCH ? HITAC_MOST_SEARCH_STEPS : HITAC_MOST_STEPS);
+}
+
+static inline struct hitac_answer searched_at(uint32_t height, uint32_t budget)
+{
+    return hitac_search(table.at, table.length, other.at, other.length, height, budget, work, HITAC_SEARCH_WORK, out,
+                        sizeof out);
 }
 
 #endif

@@ -128,26 +128,29 @@ struct shape {
     /* The terms beside and inside them: a tag, the number of values, and the value. */
     uint8_t leaf;
     size_t values, value;
-    /* Goals that it takes, and what a run of it answers: as the job's term, and as a definition that the job names. */
+    /*
+     * Goals that it takes, and what a run of it answers: as the job's term, and as a definition that the job names; and what a
+     * search answers to either. The terms are higher than a search goes.
+     */
     size_t goals;
-    uint32_t as_job, as_definition;
+    uint32_t as_job, as_definition, as_search;
 };
 
 static const struct shape SHAPES[] = {
-    {"4,095 labels", 0, 0, 0, 0, 0, ID, 0, 0, 1, 0, 24},
-    {"2,047 sequences to the left", SEQUENCE, SEQUENCE, 2047, IN_THE_LEFT, 0, ID, 0, 0, 1, 0, 0},
-    {"2,047 sequences to the right", SEQUENCE, SEQUENCE, 2047, IN_THE_RIGHT, 0, ID, 0, 0, 1, 0, 0},
-    {"2,047 sequences of uses to the left", SEQUENCE, SEQUENCE, 2047, IN_THE_LEFT, 0, ATOMIC, 1, 5, 1, 0, 0},
-    {"2,047 sequences of uses to the right", SEQUENCE, SEQUENCE, 2047, IN_THE_RIGHT, 0, ATOMIC, 1, 5, 1, 0, 0},
-    {"2,047 tensors to the left", TENSOR, TENSOR, 2047, IN_THE_LEFT, 0, EMPTY, 0, 0, 0, 0, 0},
-    {"2,047 tensors to the right", TENSOR, TENSOR, 2047, IN_THE_RIGHT, 0, EMPTY, 0, 0, 0, 0, 0},
-    {"2,047 sequences and tensors to the left", SEQUENCE, TENSOR, 2047, IN_THE_LEFT, 0, EMPTY, 0, 0, 0, 0, 0},
-    {"2,047 tensors and sequences to the right", TENSOR, SEQUENCE, 2047, IN_THE_RIGHT, 0, EMPTY, 0, 0, 0, 0, 0},
-    {"1,365 labelled sequences to the left", SEQUENCE, SEQUENCE, 1365, IN_THE_LEFT, 1, ID, 0, 0, 1, 0, 24},
-    {"1,365 labelled sequences to the right", SEQUENCE, SEQUENCE, 1365, IN_THE_RIGHT, 1, ID, 0, 0, 1, 0, 24},
-    {"2,047 alternations to the left", ALTERNATION, ALTERNATION, 2047, IN_THE_LEFT, 0, ID, 0, 0, 1, 0, 0},
-    {"2,047 failing alternations to the left", ALTERNATION, ALTERNATION, 2047, IN_THE_LEFT, 0, ASSERT, 1, 11, 1, 23, 23},
-    {"2,047 failing alternations to the right", ALTERNATION, ALTERNATION, 2047, IN_THE_RIGHT, 0, ASSERT, 1, 11, 1, 23, 23},
+    {"4,095 labels", 0, 0, 0, 0, 0, ID, 0, 0, 1, 0, 24, 41},
+    {"2,047 sequences to the left", SEQUENCE, SEQUENCE, 2047, IN_THE_LEFT, 0, ID, 0, 0, 1, 0, 0, 41},
+    {"2,047 sequences to the right", SEQUENCE, SEQUENCE, 2047, IN_THE_RIGHT, 0, ID, 0, 0, 1, 0, 0, 41},
+    {"2,047 sequences of uses to the left", SEQUENCE, SEQUENCE, 2047, IN_THE_LEFT, 0, ATOMIC, 1, 5, 1, 0, 0, 41},
+    {"2,047 sequences of uses to the right", SEQUENCE, SEQUENCE, 2047, IN_THE_RIGHT, 0, ATOMIC, 1, 5, 1, 0, 0, 41},
+    {"2,047 tensors to the left", TENSOR, TENSOR, 2047, IN_THE_LEFT, 0, EMPTY, 0, 0, 0, 0, 0, 41},
+    {"2,047 tensors to the right", TENSOR, TENSOR, 2047, IN_THE_RIGHT, 0, EMPTY, 0, 0, 0, 0, 0, 41},
+    {"2,047 sequences and tensors to the left", SEQUENCE, TENSOR, 2047, IN_THE_LEFT, 0, EMPTY, 0, 0, 0, 0, 0, 41},
+    {"2,047 tensors and sequences to the right", TENSOR, SEQUENCE, 2047, IN_THE_RIGHT, 0, EMPTY, 0, 0, 0, 0, 0, 41},
+    {"1,365 labelled sequences to the left", SEQUENCE, SEQUENCE, 1365, IN_THE_LEFT, 1, ID, 0, 0, 1, 0, 24, 41},
+    {"1,365 labelled sequences to the right", SEQUENCE, SEQUENCE, 1365, IN_THE_RIGHT, 1, ID, 0, 0, 1, 0, 24, 41},
+    {"2,047 alternations to the left", ALTERNATION, ALTERNATION, 2047, IN_THE_LEFT, 0, ID, 0, 0, 1, 0, 0, 0},
+    {"2,047 failing alternations to the left", ALTERNATION, ALTERNATION, 2047, IN_THE_LEFT, 0, ASSERT, 1, 11, 1, 23, 23, 41},
+    {"2,047 failing alternations to the right", ALTERNATION, ALTERNATION, 2047, IN_THE_RIGHT, 0, ASSERT, 1, 11, 1, 23, 23, 41},
 };
 #define SHAPE_COUNT (sizeof SHAPES / sizeof SHAPES[0])
 
@@ -222,6 +225,11 @@ static int takes_flat(enum call call)
     return call == CHECK_FLAT || call == WRITE_PROOF;
 }
 
+static int takes_job(enum call call)
+{
+    return call == RUN || call == SEARCH;
+}
+
 /* A proof, job or flat file that is answered 0, as the entry takes it. */
 static void short_file(enum call call)
 {
@@ -235,37 +243,38 @@ static void short_file(enum call call)
         field(&other, 3, 1, 10);
 }
 
-/* Deep terms in the table's definitions, for every entry; a run names them. */
+/* Deep terms in the table's definitions, for every entry; a run and a search name them. */
 static void deep_tables(struct tested *tested)
 {
     for (size_t i = 0; i < SHAPE_COUNT; i++) {
         rules();
         definition_of(1, &SHAPES[i]);
         short_file(tested->call);
-        if (tested->call == RUN) {
+        if (takes_job(tested->call)) {
             other.length = 0;
             field(&other, 3, SHAPES[i].goals, 10);
             field(&other, DEFINED, 1, 1);
         }
-        expect(tested, SHAPES[i].name, " in a definition", tested->call == RUN ? SHAPES[i].as_definition : 0);
+        uint32_t number = tested->call == RUN ? SHAPES[i].as_definition : tested->call == SEARCH ? SHAPES[i].as_search : 0;
+        expect(tested, SHAPES[i].name, " in a definition", number);
     }
     rules();
     chain_of_definitions(HITAC_MOST_DEFINITIONS);
     short_file(tested->call);
-    if (tested->call == RUN) {
+    if (takes_job(tested->call)) {
         other.length = 5;
         size_t place = begin(&other, TENSOR);
         field(&other, DEFINED, 1, 0);
         field(&other, EMPTY, 0, 0);
         finish(&other, place);
     }
-    expect(tested, "256 definitions, each of the next tactic", "", 0);
+    expect(tested, "256 definitions, each of the next tactic", "", tested->call == SEARCH ? 41 : 0);
 }
 
 /* Deep terms in a proof or a job, and one label too many. */
 static void deep_terms(struct tested *tested)
 {
-    int job = tested->call == RUN;
+    int job = takes_job(tested->call);
     for (size_t i = 0; i < SHAPE_COUNT; i++) {
         const struct shape *shape = &SHAPES[i];
         rules();
@@ -274,13 +283,50 @@ static void deep_terms(struct tested *tested)
         term(&other, shape);
         if (!job)
             field(&other, 3, shape->goals, 10);
-        expect(tested, shape->name, job ? " in a job" : " in a proof", job ? shape->as_job : is_hiproof(shape) ? 0 : 3);
+        uint32_t number = tested->call == RUN ? shape->as_job : job ? shape->as_search : is_hiproof(shape) ? 0 : 3;
+        expect(tested, shape->name, job ? " in a job" : " in a proof", number);
     }
     other.length = 0;
     field(&other, 3, 1, 10);
     labels(&other, HITAC_MOST_TERM_FIELDS + 1);
     field(&other, 3, 1, 10);
     expect(tested, "4,096 labels", "", 5);
+}
+
+/* A job on so many goals 10: tactic 1, whose body has a field of two terms, each of which may name the tactic again. */
+static void recursive(uint8_t tag, uint8_t left, uint8_t right, size_t goals)
+{
+    rules();
+    size_t place = begin(&table, 2);
+    put16(&table, 1);
+    size_t pair = begin(&table, tag);
+    field(&table, left, left == ID ? 0 : 1, 1);
+    field(&table, right, right == ID ? 0 : 1, 1);
+    finish(&table, pair);
+    finish(&table, place);
+    other.length = 0;
+    field(&other, 3, goals, 10);
+    field(&other, DEFINED, 1, 1);
+}
+
+/* Searches through all of the budget, or all of the height. */
+static void deep_searches(struct tested *tested)
+{
+    recursive(SEQUENCE, DEFINED, DEFINED, 1);
+    expect(tested, "a tactic that is itself twice", "", 41);
+    recursive(SEQUENCE, ID, DEFINED, 1);
+    expect(tested, "sequences of id and the tactic itself", "", 41);
+    recursive(ALTERNATION, DEFINED, DEFINED, HITAC_MOST_GOALS);
+    expect(tested, "alternations of the tactic itself, on 256 goals", "", 24);
+    recursive(TENSOR, DEFINED, DEFINED, HITAC_MOST_GOALS);
+    expect(tested, "tensors of the tactic itself, on 256 goals", "", 24);
+    recursive(TENSOR, ID, DEFINED, HITAC_MOST_GOALS);
+    expect(tested, "tensors of id and the tactic itself, on 256 goals", "", 24);
+    rules();
+    other.length = 0;
+    field(&other, 3, 1, 10);
+    labels(&other, HITAC_MOST_HEIGHT);
+    expect(tested, "64 term fields, one in the other", "", 0);
 }
 
 static void entries(size_t count, size_t name)
@@ -413,6 +459,8 @@ static void deep_files(struct tested *tested)
         deep_derivations(tested);
     else
         deep_terms(tested);
+    if (tested->call == SEARCH)
+        deep_searches(tested);
 }
 
 /* What the thread of an entry does, on a stack that it maps for the calls. */
@@ -443,6 +491,7 @@ int main(void)
         {WRITE_PROOF, "write_proof", HITAC_WRITE_PROOF_STACK, 0, 0, 0},
         {READ_TEXT, "read_text", HITAC_READ_TEXT_STACK, 0, 0, 0},
         {WRITE_TEXT, "write_text", HITAC_WRITE_TEXT_STACK, 0, 0, 0},
+        {SEARCH, "search", HITAC_SEARCH_STACK, 0, 0, 0},
     };
     unsigned failures = 0;
     struct sigaction action;

@@ -2,6 +2,7 @@
 //! last of them at a limit of document 01 or 02.
 
 use crate::files::{self, Files, Keys};
+use crate::searches;
 use crate::texts::{self, Join};
 use boundary::compare::name_of;
 use second::generate::build;
@@ -17,7 +18,9 @@ pub struct Family {
     pub unit: &'static str,
     /// The largest size.
     pub most: usize,
-    make: Box<dyn Fn(usize) -> Files>,
+    /// What the calls answer: 0, but for searches that find nothing.
+    pub number: u32,
+    make: Box<dyn Fn(usize) -> Case>,
 }
 
 impl Family {
@@ -31,8 +34,7 @@ impl Family {
     }
 
     pub fn case(&self, size: usize) -> Case {
-        let (table, other) = (self.make)(size);
-        Case::new(self.entry, &table, &other)
+        (self.make)(size)
     }
 }
 
@@ -44,7 +46,18 @@ fn family(
     most: usize,
     make: impl Fn(usize) -> Files + 'static,
 ) -> Family {
-    Family { key: format!("{}-{word}", name_of(entry)), title, entry, unit, most, make: Box::new(make) }
+    let make = move |size| {
+        let (table, other) = make(size);
+        Case::new(entry, &table, &other)
+    };
+    Family { key: format!("{}-{word}", name_of(entry)), title, entry, unit, most, number: 0, make: Box::new(make) }
+}
+
+/// A search, sized by its steps, that answers that number.
+fn search(word: &str, title: &'static str, number: u32, make: impl Fn(usize) -> Case + 'static) -> Family {
+    let entry = Entry::Search;
+    let key = format!("{}-{word}", name_of(entry));
+    Family { key, title, entry, unit: "steps", most: 4_096, number, make: Box::new(make) }
 }
 
 /// All of them, entry by entry.
@@ -58,6 +71,7 @@ pub fn all() -> Vec<Family> {
         Entry::ReadText,
         Entry::WriteText,
         Entry::Run,
+        Entry::Search,
     ];
     for entry in entries {
         list.push(family(entry, "small", "document 01's first example", "file", 1, move |_| files::small(entry)));
@@ -67,6 +81,7 @@ pub fn all() -> Vec<Family> {
             Entry::CheckFlat => list.extend([of_rules(entry), of_check_flat()].into_iter().flatten()),
             Entry::WriteProof => list.extend([of_rules(entry), of_write_proof()].into_iter().flatten()),
             Entry::Run => list.extend(of_run()),
+            Entry::Search => list.extend(of_search()),
             Entry::ReadText => list.extend([of_chains(entry), of_labels(entry), of_read_text()].into_iter().flatten()),
             Entry::WriteText => list.extend([of_chains(entry), of_labels(entry)].into_iter().flatten()),
         }
@@ -179,6 +194,27 @@ fn of_run() -> Vec<Family> {
     ]
 }
 
+/// Searches that find late, that find nothing, and that go on to the end of their budget.
+fn of_search() -> Vec<Family> {
+    let by_demand =
+        Family { most: 1, ..search("demand", "T5 ⊗ T6 on three goals", 0, |_| searches::split_by_demand()) };
+    vec![
+        by_demand,
+        search("late", "an evaluation that is found late", 0, searches::found_late),
+        search("proof", "a proof of as many fields", 0, searches::large_proof),
+        search("alternatives", "alternatives that fail late", 41, searches::failing_alternatives),
+        search("goals", "failing alternatives on 256 goals", 41, searches::alternatives_on_many_goals),
+        search("back", "back into left parts that have ended", 24, searches::back_into_the_left),
+        search("splits", "splits of 256 goals", 24, searches::splits_of_many_goals),
+        search("splits-left", "splits within splits", 24, searches::splits_in_splits),
+        search("joins", "joined lists of 256 goals", 24, searches::long_joins),
+        search("height", "sequences of height 64", 24, searches::high_sequences),
+        search("rules", "the last of as many rules", 24, searches::last_rules_tried),
+        search("sums", "missing rules, names and goals of one sum", 24, searches::missing_rules),
+        search("definitions", "the last definition, one for 16 steps", 24, searches::last_definition),
+    ]
+}
+
 #[cfg(test)]
 mod tests {
     use super::*;
@@ -192,13 +228,29 @@ mod tests {
     }
 
     #[test]
-    fn every_call_succeeds() {
+    fn every_call_is_answered_as_its_family_says() {
         for family in &all() {
+            assert!(family.number == 0 || family.entry == Entry::Search, "{}", family.key);
             for size in family.sizes() {
                 let outcome = family.case(size).outcome();
-                assert_eq!(outcome.answer.number, 0, "{} {size}", family.key);
+                assert_eq!(outcome.answer.number, family.number, "{} {size}", family.key);
             }
         }
+    }
+
+    /// All but a few of the steps that a size names are taken, at every size.
+    #[test]
+    fn searches_take_the_steps_of_their_size() {
+        for family in all().iter().filter(|family| family.entry == Entry::Search && family.most > 1) {
+            for size in family.sizes() {
+                let steps = family.case(size).outcome().answer.steps as usize;
+                assert!((size - 4..=size).contains(&steps), "{} {size}: {steps}", family.key);
+            }
+        }
+        assert_eq!(largest("search-small").0.steps, 20);
+        assert_eq!(largest("search-demand").0.steps, 56);
+        assert_eq!(largest("search-rules").1.table.len(), 9 * 4_096);
+        assert_eq!(largest("search-definitions").1.table.len(), 8 * 255 + 18);
     }
 
     #[test]

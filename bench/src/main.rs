@@ -5,6 +5,7 @@ mod files;
 mod measure;
 mod page;
 mod plot;
+mod searches;
 mod texts;
 
 use boundary::library::Library;
@@ -64,7 +65,7 @@ fn call_once(options: &Options, library: &Library, key: &str) -> Result<(), Stri
     let size = options.number("--size", family.most)?;
     let name = options.text("--engine").unwrap_or("library");
     let engine = Engine::of_name(name).ok_or(format!("no engine is named {name}"))?;
-    let answer = Measured::new(library, family.case(size)).call(engine);
+    let answer = Measured::new(library, &family, size).call(engine);
     println!("{key} {size} {name}: {answer:?}");
     Ok(())
 }

@@ -32,14 +32,17 @@ impl Engine {
 pub struct Measured<'a> {
     library: &'a Library,
     case: Case,
+    /// What the call must answer.
+    number: u32,
     work: Vec<u8>,
     output: Vec<u8>,
 }
 
 impl<'a> Measured<'a> {
-    pub fn new(library: &'a Library, case: Case) -> Measured<'a> {
+    pub fn new(library: &'a Library, family: &Family, size: usize) -> Measured<'a> {
+        let case = family.case(size);
         let (work, output) = (vec![165; case.work_length], vec![90; case.output_length]);
-        Measured { library, case, work, output }
+        Measured { library, case, number: family.number, work, output }
     }
 
     pub fn call(&mut self, engine: Engine) -> Answer {
@@ -53,7 +56,7 @@ impl<'a> Measured<'a> {
         let start = Instant::now();
         let answer = hitac_bench_call(self, engine);
         let time = start.elapsed().as_nanos() as f64;
-        assert_eq!(answer.number, 0, "the call was refused");
+        assert_eq!(answer.number, self.number, "the call was answered otherwise than its family says");
         time
     }
 
@@ -62,6 +65,7 @@ impl<'a> Measured<'a> {
             entry: self.case.entry,
             table: (self.case.table.as_ptr(), self.case.table.len()),
             other: (self.case.other.as_ptr(), self.case.other.len()),
+            height: self.case.height,
             budget: self.case.budget,
             work: (self.work.as_mut_ptr(), self.work.len()),
             output: (self.output.as_mut_ptr(), self.output.len()),
@@ -81,6 +85,7 @@ impl<'a> Measured<'a> {
             Entry::WriteProof => second::write_proof(&case.table, &case.other, work, output),
             Entry::ReadText => second::read_text(&case.other, work, output),
             Entry::WriteText => second::write_text(&case.other, work, output),
+            Entry::Search => second::search(&case.table, &case.other, case.height, case.budget, work, output),
         }
     }
 }
@@ -106,7 +111,7 @@ pub struct Times {
 
 /// Both engines in turn, so that whatever else the machine does falls on both.
 pub fn times(library: &Library, family: &Family, rounds: usize) -> Times {
-    let mut measured = Measured::new(library, family.case(family.most));
+    let mut measured = Measured::new(library, family, family.most);
     let pairs: Vec<(f64, f64)> =
         (0..rounds).map(|_| (measured.time(Engine::Library), measured.time(Engine::Second))).collect();
     let ratios = pairs.iter().map(|(ours, seconds)| ours / seconds).collect();

@@ -148,3 +148,26 @@ pub unsafe extern "C" fn hitac_run(
     let answer = second::run(table, job, budget, spaces.0, spaces.1);
     spoil(answer, work, work_length, out, out_length)
 }
+
+/// # Safety
+/// Every pointer is good for its length.
+#[no_mangle]
+#[allow(clippy::too_many_arguments)]
+pub unsafe extern "C" fn hitac_search(
+    table: *const u8,
+    table_length: usize,
+    job: *const u8,
+    job_length: usize,
+    height: u32,
+    budget: u32,
+    work: Space,
+    work_length: usize,
+    out: Space,
+    out_length: usize,
+) -> Answer {
+    look_at(work, work_length);
+    let (table, job) = (from_raw_parts(table, table_length), from_raw_parts(job, job_length));
+    let spaces = (from_raw_parts_mut(work, work_length), from_raw_parts_mut(out, out_length));
+    let answer = second::search(table, job, height, budget, spaces.0, spaces.1);
+    spoil(answer, work, work_length, out, out_length)
+}

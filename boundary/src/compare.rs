@@ -72,6 +72,7 @@ impl Comparer {
             entry: case.entry,
             table: (self.table.pointer(), self.table.len()),
             other: (self.other.pointer(), self.other.len()),
+            height: case.height,
             budget: case.budget,
             work: (self.work.pointer(), self.work.len()),
             output: (self.output.pointer(), self.output.len()),
@@ -112,5 +113,6 @@ pub fn name_of(entry: Entry) -> &'static str {
         Entry::WriteProof => "write_proof",
         Entry::ReadText => "read_text",
         Entry::WriteText => "write_text",
+        Entry::Search => "search",
     }
 }

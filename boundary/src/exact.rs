@@ -59,6 +59,7 @@ pub fn compare_exactly(library: &Library, case: &Case) -> Comparison {
         entry: case.entry,
         table: (table.start, table.length),
         other: (other.start, other.length),
+        height: case.height,
         budget: case.budget,
         work: (work.start, work.length),
         output: (output.start, output.length),

@@ -18,6 +18,10 @@ pub type WriteFunction =
 pub type RunFunction =
     unsafe extern "C" fn(*const u8, usize, *const u8, usize, u32, *mut u8, usize, *mut u8, usize) -> Answer;
 
+/// As a run, with a height in front of the budget.
+pub type SearchFunction =
+    unsafe extern "C" fn(*const u8, usize, *const u8, usize, u32, u32, *mut u8, usize, *mut u8, usize) -> Answer;
+
 /// Takes one file and no table, and writes.
 pub type TextFunction = unsafe extern "C" fn(*const u8, usize, *mut u8, usize, *mut u8, usize) -> Answer;
 
@@ -32,6 +36,7 @@ pub struct Library {
     pub write_proof: WriteFunction,
     pub read_text: TextFunction,
     pub write_text: TextFunction,
+    pub search: SearchFunction,
 }
 
 /// What one call is given.
@@ -39,6 +44,7 @@ pub struct Call {
     pub entry: Entry,
     pub table: File,
     pub other: File,
+    pub height: u32,
     pub budget: u32,
     pub work: Lent,
     pub output: Lent,
@@ -74,6 +80,7 @@ impl Library {
                 write_proof: transmute::<*mut c_void, WriteFunction>(symbol(handle, c"hitac_write_proof")?),
                 read_text: transmute::<*mut c_void, TextFunction>(symbol(handle, c"hitac_read_text")?),
                 write_text: transmute::<*mut c_void, TextFunction>(symbol(handle, c"hitac_write_text")?),
+                search: transmute::<*mut c_void, SearchFunction>(symbol(handle, c"hitac_search")?),
             })
         }
     }
@@ -83,7 +90,7 @@ impl Library {
     /// # Safety
     /// Every pointer is good for its length, and no two regions overlap.
     pub unsafe fn call(&self, call: &Call) -> Answer {
-        let Call { entry, table, other, budget, work, output } = *call;
+        let Call { entry, table, other, height, budget, work, output } = *call;
         match entry {
             Entry::Check => (self.check)(table.0, table.1, other.0, other.1, work.0, work.1),
             Entry::CheckFlat => (self.check_flat)(table.0, table.1, other.0, other.1, work.0, work.1),
@@ -94,6 +101,10 @@ impl Library {
             Entry::ReadText => (self.read_text)(other.0, other.1, work.0, work.1, output.0, output.1),
             Entry::WriteText => (self.write_text)(other.0, other.1, work.0, work.1, output.0, output.1),
             Entry::Run => (self.run)(table.0, table.1, other.0, other.1, budget, work.0, work.1, output.0, output.1),
+            Entry::Search => {
+                let (table, length, other, other_length) = (table.0, table.1, other.0, other.1);
+                (self.search)(table, length, other, other_length, height, budget, work.0, work.1, output.0, output.1)
+            }
         }
     }
 }

@@ -123,7 +123,7 @@ fn fitting(entry: Entry, size: Size, random: &mut Random) -> (RandomTable, Case)
 
 /// A case whose spaces are still to be lent; `Case::new` would run it first.
 fn bare_case(entry: Entry, table: Vec<u8>, other: Vec<u8>) -> Case {
-    Case { entry, table, other, budget: 0, work_length: entry.work_size(), output_length: 0 }
+    Case { entry, table, other, budget: 0, height: 0, work_length: entry.work_size(), output_length: 0 }
 }
 
 /// Whether it is the table that is to be spoilt: the other file twice as often as
@@ -274,6 +274,18 @@ mod tests {
             let places: BTreeSet<u32> =
                 answers.iter().filter(|answer| answer.number == number).map(|answer| answer.place).collect();
             assert!(places.len() > 4, "{number} at {places:?}");
+        }
+    }
+
+    /// Heights and budgets are near the borders where the answer changes, so that every ending comes often.
+    #[test]
+    fn every_ending_of_a_search_comes() {
+        let mix = Mix::new(4);
+        let cases = (0..6_000).map(|number| mix.case(number).1).filter(|case| case.entry == Entry::Search);
+        let answers: Vec<_> = cases.map(|case| case.outcome().answer).collect();
+        for number in [0, 24, 25, 26, 29, 41, 42] {
+            let count = answers.iter().filter(|answer| answer.number == number).count();
+            assert!(count > 9, "{number}: {count}");
         }
     }
 }

@@ -25,10 +25,11 @@ fn cannot_write(path: &Path, error: std::io::Error) -> String {
 
 fn describe(case: &Case, differences: &[String], vector: &Path) -> String {
     let mut text = format!(
-        "{}: table of {} bytes, other file of {} bytes, budget {}, work space of {} bytes, output space of {} bytes\n",
+        "{}: table of {} bytes, other file of {} bytes, height {}, budget {}, work space of {} bytes, output space of {} bytes\n",
         name_of(case.entry),
         case.table.len(),
         case.other.len(),
+        case.height,
         case.budget,
         case.work_length,
         case.output_length,

@@ -48,6 +48,16 @@ impl Tally {
         self.answers.iter().filter(|((its, _), _)| *its == number).map(|(_, count)| count).sum()
     }
 
+    /// How many cases of that entry got that answer.
+    pub fn answered_by(&self, entry: Entry, number: u32) -> u64 {
+        self.answers.get(&(number, entry.code())).copied().unwrap_or(0)
+    }
+
+    /// How many cases of that entry there were.
+    pub fn cases_of(&self, entry: Entry) -> u64 {
+        self.answers.iter().filter(|((_, code), _)| *code == entry.code()).map(|(_, count)| count).sum()
+    }
+
     /// The refusals that occurred, in order.
     pub fn refusals(&self) -> Vec<u32> {
         let numbers: BTreeSet<u32> = self.answers.keys().map(|(number, _)| *number).filter(|&n| n != 0).collect();
@@ -122,6 +132,8 @@ mod tests {
         tally.count(Entry::Run, Answer { number: 23, ..Answer::default() }, true);
         assert_eq!((tally.cases, tally.differences, tally.answered(0)), (2, 1, 1));
         assert_eq!(tally.refusals(), [23]);
-        assert!(tally.table().ends_with("| all | 1 | 1 | 0 | 0 | 0 | 0 | 0 |\n"));
+        assert_eq!((tally.answered_by(Entry::Run, 23), tally.answered_by(Entry::Check, 23)), (1, 0));
+        assert_eq!((tally.cases_of(Entry::Run), tally.cases_of(Entry::Flatten)), (1, 0));
+        assert!(tally.table().ends_with("| all | 1 | 1 | 0 | 0 | 0 | 0 | 0 | 0 |\n"));
     }
 }

@@ -1,6 +1,6 @@
 //! Line 2: tactics with failing alternatives, in every position of a tactic. A
-//! second alternative must not be taken too early, nor a first one dropped after
-//! it has worked.
+//! run must not take a second alternative too early, nor drop a first one after it
+//! has worked; a search goes back to the second one, and finds what a run finds.
 
 use crate::inspector::Inspector;
 use crate::tree::{alternation, label, sequence, tensor, Parts, Tree};
@@ -10,6 +10,8 @@ use second::generate::examples;
 use second::generate::random::Random;
 use second::generate::random_file::random_job;
 use second::generate::random_table::{RandomTable, Size};
+use second::limits::MOST_HEIGHT;
+use second::Answer;
 
 /// Names, goals and tactic numbers that no table here has.
 const NO_NAME: u16 = 64_001;
@@ -22,17 +24,21 @@ pub fn inspect(inspector: &mut Inspector) -> Result<String, String> {
         unchanged += whole_tactic(inspector, &table, &job);
         every_position(inspector, &table, &job);
     }
-    let [proofs, failed, spent] = [0, 23, 24].map(|number| inspector.tally.answered(number));
-    if [unchanged, proofs, failed, spent].contains(&0) {
+    let runs = [0, 23, 24].map(|number| inspector.tally.answered_by(Entry::Run, number));
+    let searches = [0, 41, 24].map(|number| inspector.tally.answered_by(Entry::Search, number));
+    if [runs, searches].concat().contains(&0) || unchanged == 0 {
         return Err("a kind of ending did not occur".to_string());
     }
+    let of = |entry| with_commas(inspector.tally.cases_of(entry));
+    let [proofs, failed, spent] = runs.map(with_commas);
+    let [found, none, ended] = searches.map(with_commas);
+    let unchanged = with_commas(unchanged);
     Ok(format!(
-        "{} runs: {} proofs, {} failed, {} out of budget; {} proofs not altered by a failing alternative",
-        with_commas(inspector.tally.cases),
-        with_commas(proofs),
-        with_commas(failed),
-        with_commas(spent),
-        with_commas(unchanged)
+        "{} runs: {proofs} proofs, {failed} failed, {spent} out of budget; \
+         {unchanged} proofs not altered by a failing alternative; \
+         {} searches: {found} proofs, {none} without an evaluation, {ended} out of budget",
+        of(Entry::Run),
+        of(Entry::Search)
     ))
 }
 
@@ -90,9 +96,27 @@ fn whole_tactic(inspector: &mut Inspector, table: &[u8], job: &[u8]) -> u64 {
                 inspector.demand(same == proof, &case, "a failing alternative altered the proof");
                 unchanged += 1;
             }
+            search(inspector, &case, with_alternative);
         }
     }
     unchanged
+}
+
+/// A search on the files of a run. An evaluation is no higher than the terms that
+/// the run has begun, so that one of at most 64 steps has an evaluation that the
+/// search meets, unless its budget ends before. Whatever it finds is accepted.
+fn search(inspector: &mut Inspector, run: &Case, ran: Answer) {
+    let case = Case::new(Entry::Search, &run.table, &run.other);
+    let (found, proof) = inspector.call(&case);
+    let within_height = ran.number == 0 && ran.steps <= MOST_HEIGHT;
+    inspector.demand(!within_height || found.number != 41, &case, "a search did not meet what a run found");
+    if found.number == 0 {
+        let (checked, _) = inspector.call_with_room(Entry::Check, &run.table, &proof);
+        inspector.demand(checked.number == 0, &case, "a search found a proof that is not accepted");
+    }
+    for budget in [found.steps.saturating_sub(1), found.steps / 2] {
+        inspector.call(&case.clone().with_budget(budget));
+    }
 }
 
 /// A failing alternative at every position, on either side, with budgets that
@@ -116,6 +140,7 @@ fn every_position(inspector: &mut Inspector, table: &[u8], job: &[u8]) {
             for budget in [answer.steps.saturating_sub(1), answer.steps / 2] {
                 inspector.call(&case.clone().with_budget(budget));
             }
+            search(inspector, &case, answer);
         }
     }
 }

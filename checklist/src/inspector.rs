@@ -165,6 +165,21 @@ mod tests {
         Answer::default()
     }
 
+    unsafe extern "C" fn no_search(
+        _: *const u8,
+        _: usize,
+        _: *const u8,
+        _: usize,
+        _: u32,
+        _: u32,
+        _: *mut u8,
+        _: usize,
+        _: *mut u8,
+        _: usize,
+    ) -> Answer {
+        Answer::default()
+    }
+
     unsafe extern "C" fn no_text(_: *const u8, _: usize, _: *mut u8, _: usize, _: *mut u8, _: usize) -> Answer {
         Answer::default()
     }
@@ -179,6 +194,7 @@ mod tests {
             write_proof: no_write,
             read_text: no_text,
             write_text: no_text,
+            search: no_search,
         };
         Inspector::new(library, 1, &std::env::temp_dir().join(folder)).unwrap()
     }

@@ -35,7 +35,7 @@ pub fn inspect(inspector: &mut Inspector) -> Result<String, String> {
 fn good_file(entry: Entry) -> Vec<u8> {
     match entry {
         Entry::Check | Entry::Flatten => reading::proof_with_every_term(),
-        Entry::Run => reading::job_with_tactic_terms(),
+        Entry::Run | Entry::Search => reading::job_with_tactic_terms(),
         Entry::CheckFlat | Entry::WriteProof => reading::flat_with_every_entry(),
         Entry::ReadText => texts::EVERY_MARK.as_bytes().to_vec(),
         Entry::WriteText => texts::term_with_every_field(),
@@ -61,10 +61,10 @@ fn damaged_files(inspector: &mut Inspector, entry: Entry) {
 }
 
 /// Every truncation of both files of random pairs, and every piece that is lost
-/// in front. A run is lent so much that fewer pairs must do.
+/// in front. A run and a search are lent so much that fewer pairs must do.
 fn torn_files(inspector: &mut Inspector, entry: Entry) {
     let random = &mut Random::new(100 + u64::from(entry.code()));
-    for _ in 0..if entry == Entry::Run { 4 } else { 12 } {
+    for _ in 0..if entry.most_budget() > 0 { 4 } else { 12 } {
         let table = RandomTable::make(random, Size::Small);
         let (bytes, other) = (table.bytes(), other_file(entry, random, &table));
         for cut in (0..bytes.len()).filter(|_| entry.takes_table()) {
@@ -108,7 +108,7 @@ fn foreign_files(inspector: &mut Inspector, entry: Entry) {
     }
 }
 
-/// 29, 25 and 26 with spaces and budgets around their borders.
+/// 29, 25, 42 and 26 with spaces, budgets and heights around their borders.
 fn lent_spaces(inspector: &mut Inspector, entry: Entry) {
     let (table, other) = (reading::table_with_every_field(), good_file(entry));
     let good = Case::new(entry, &table, &other);
@@ -121,14 +121,16 @@ fn lent_spaces(inspector: &mut Inspector, entry: Entry) {
             inspector.call(&good.clone().with_output(output));
         }
     }
-    if entry == Entry::Run {
-        for budget in [0, 1, 2, 4_095, 4_096, 4_097, 65_536, u32::MAX] {
-            inspector.call(&good.clone().with_budget(budget));
+    let budgets = [0, 1, 2, 4_095, 4_096, 4_097, 65_536, u32::MAX];
+    for budget in budgets.into_iter().filter(|_| entry.most_budget() > 0) {
+        inspector.call(&good.clone().with_budget(budget));
+        for height in [0, 1, 2, 63, 64, 65, 256 + 10, 65_536, u32::MAX].into_iter().filter(|_| entry == Entry::Search) {
+            inspector.call(&good.clone().with_budget(budget).with_height(height));
         }
     }
 }
 
-/// The refusals that only larger files bring about, 22 and 28, and those of texts.
+/// The refusals that only larger files bring about, 22 and 28, and those of texts; in a search 22 becomes 41.
 fn refusals_of_the_walk(inspector: &mut Inspector) {
     let eights = examples::table_of_eight();
     let side_by_side = |count: usize| build::tensor_of(&vec![build::atomic(4); count]);
@@ -137,6 +139,7 @@ fn refusals_of_the_walk(inspector: &mut Inspector) {
         inspector.call_with_room(Entry::Check, &eights, &examples::eights(count));
         inspector.call_with_room(Entry::Flatten, &eights, &examples::eights(count));
         inspector.call_with_room(Entry::Run, &eights, &job);
+        inspector.call_with_room(Entry::Search, &eights, &job);
     }
     for (entry, files, table) in [
         (Entry::Check, limit_files::proofs(), eights.clone()),
@@ -144,6 +147,7 @@ fn refusals_of_the_walk(inspector: &mut Inspector) {
         (Entry::CheckFlat, limit_files::flats(), limit_files::chain_table()),
         (Entry::WriteProof, limit_files::flats(), limit_files::chain_table()),
         (Entry::Run, limit_files::jobs(), examples::table_a()),
+        (Entry::Search, limit_files::jobs(), examples::table_a()),
         (Entry::ReadText, texts::limit_texts(), Vec::new()),
         (Entry::WriteText, texts::limit_terms(), Vec::new()),
     ] {

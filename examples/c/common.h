@@ -1,4 +1,4 @@
-/* What the programs share: loading a file, printing bytes, and telling a refusal. */
+/* What the programs share: loading a file, printing bytes, the length of a field, and telling a refusal. */
 #ifndef COMMON_H
 #define COMMON_H
 
@@ -37,6 +37,12 @@ static inline void print_bytes(const uint8_t *bytes, size_t length)
     for (size_t i = 0; i < length; i++)
         printf("%s%02x", i == 0 ? "" : " ", bytes[i]);
     printf("\n");
+}
+
+/* Bytes of a field, with its header. */
+static inline size_t field_length(const uint8_t *field)
+{
+    return 3 + 256u * field[1] + field[2];
 }
 
 /* Whether the call succeeded; a refusal is printed. */

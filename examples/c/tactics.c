@@ -12,11 +12,6 @@ static uint8_t term[HITAC_LONGEST_TERM], text[HITAC_LONGEST_TEXT], proof[HITAC_L
 /* A job: a goal list, then a term. */
 static uint8_t job[3 + 2 * HITAC_MOST_GOALS + HITAC_LONGEST_TERM];
 
-static size_t field_length(const uint8_t *field)
-{
-    return 3 + 256u * field[1] + field[2];
-}
-
 /* Puts the goals in front of a line's colon into the job; hands on what stands behind the colon and a blank. */
 static const char *put_goals(const char *line)
 {

@@ -11,7 +11,7 @@ from typing import NamedTuple
 
 # The version of the header that this module follows.
 VERSION_MAJOR = 1
-VERSION_MINOR = 2
+VERSION_MINOR = 3
 
 CHECK_WORK = 65536
 RUN_WORK = 1290752
@@ -20,6 +20,7 @@ CHECK_FLAT_WORK = 65536
 WRITE_PROOF_WORK = 65536
 READ_TEXT_WORK = 196608
 WRITE_TEXT_WORK = 36864
+SEARCH_WORK = 2496256
 
 # Machine stack that each call needs, in bytes, besides what Python takes: for threads with small stacks.
 CHECK_STACK = 1536
@@ -29,6 +30,7 @@ CHECK_FLAT_STACK = 1536
 WRITE_PROOF_STACK = 172032
 READ_TEXT_STACK = 512
 WRITE_TEXT_STACK = 1024
+SEARCH_STACK = 1536
 
 LONGEST_PROOF = 21510
 LONGEST_FLAT = 16131
@@ -60,6 +62,8 @@ class Cause(enum.IntEnum):
     WORK_TOO_SHORT = 29
     TEXT_WRONG = 36
     VALUE_TOO_LARGE = 37
+    NO_EVALUATION = 41
+    HEIGHT_OUTSIDE = 42
 
 
 class Refusal(Exception):
@@ -96,7 +100,7 @@ class Right(NamedTuple):
 
 
 class Ran(NamedTuple):
-    """The proof file that a run gives, and the terms that it began."""
+    """The proof file that a run or a search gives, and the terms that it began."""
 
     proof: bytes
     steps: int
@@ -119,6 +123,7 @@ _CALLS = {
     "hitac_write_proof": _FILE + _FILE + _SPACE + _SPACE,
     "hitac_read_text": _FILE + _SPACE + _SPACE,
     "hitac_write_text": _FILE + _SPACE + _SPACE,
+    "hitac_search": _FILE + _FILE + [ctypes.c_uint32, ctypes.c_uint32] + _SPACE + _SPACE,
 }
 
 
@@ -148,7 +153,8 @@ class Engine:
 
     def __init__(self):
         self._library = _load()
-        self._work = ctypes.create_string_buffer(RUN_WORK)
+        # the most demanding call is the search
+        self._work = ctypes.create_string_buffer(SEARCH_WORK)
         self._out = ctypes.create_string_buffer(max(LONGEST_PROOF, LONGEST_FLAT, LONGEST_TERM, LONGEST_TEXT))
 
     def version(self):
@@ -162,9 +168,16 @@ class Engine:
 
     def run(self, table, job, budget):
         """Runs the tactic of the job in at most so many steps, of which 4,096 are the most."""
-        if not 0 <= budget <= 0xFFFFFFFF:
-            raise ValueError("a budget is a number of 32 bits")
+        _need_32_bits("a budget", budget)
         answer = self._writes("hitac_run", RUN_WORK, table, job, budget)
+        return Ran(self._result(answer), answer.steps)
+
+    def search(self, table, job, height, budget):
+        """Looks for an evaluation of the job's tactic that is at most so many rules high, 64 at most, in at most so many steps,
+        of which 4,096 are the most."""
+        _need_32_bits("a height", height)
+        _need_32_bits("a budget", budget)
+        answer = self._writes("hitac_search", SEARCH_WORK, table, job, height, budget)
         return Ran(self._result(answer), answer.steps)
 
     def flatten(self, table, proof):
@@ -194,10 +207,10 @@ class Engine:
         call = getattr(self._library, name)
         return _succeeded(call(table, len(table), other, len(other), self._work, size))
 
-    def _writes(self, name, size, table, other, *budget):
+    def _writes(self, name, size, table, other, *numbers):
         call = getattr(self._library, name)
         spaces = (self._work, size, self._out, len(self._out))
-        return _succeeded(call(table, len(table), other, len(other), *budget, *spaces))
+        return _succeeded(call(table, len(table), other, len(other), *numbers, *spaces))
 
     def _converts(self, name, size, file):
         call = getattr(self._library, name)
@@ -205,6 +218,11 @@ class Engine:
 
     def _result(self, answer):
         return self._out[: answer.length]
+
+
+def _need_32_bits(what, number):
+    if not 0 <= number <= 0xFFFFFFFF:
+        raise ValueError(f"{what} is a number of 32 bits")
 
 
 def _succeeded(answer):

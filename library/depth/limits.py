@@ -6,7 +6,7 @@ import re
 OUTSIDE = {name: 64 for name in ("memset", "memcpy", "memmove", "memcmp")}
 
 # The most that an entry may take.
-LIMITS = {"check": 4096, "check_flat": 4096, "flatten": 4096, "read_text": 4096, "write_text": 4096}
+LIMITS = {"check": 4096, "check_flat": 4096, "flatten": 4096, "read_text": 4096, "write_text": 4096, "search": 4096}
 
 
 def bounds_of(constants):

@@ -182,7 +182,7 @@ class Judging(unittest.TestCase):
         self.assertEqual(judged("run", 5000, {"RUN_STACK": 5000}), ([], []))
         self.assertEqual(len(judged("run", 5001, {"RUN_STACK": 5000})[0]), 1)
         self.assertEqual(len(judged("run", 5000, {})[0]), 1)
-        for entry in ("check", "check_flat", "flatten", "read_text", "write_text"):
+        for entry in ("check", "check_flat", "flatten", "read_text", "write_text", "search"):
             self.assertEqual(len(judged(entry, 5000, {f"{entry.upper()}_STACK": 5000})[0]), 1)
         self.assertEqual(judged("check", 2000, {"CHECK_STACK": 4096})[0], [])
         self.assertEqual(len(judged("check", 2000, {"CHECK_STACK": 4096})[1]), 1)

@@ -7,7 +7,8 @@ use std::fmt;
 
 /// Machine stack that each call needs, in bytes, besides what this wrapper takes: for threads with small stacks.
 pub use raw::{
-    CHECK_FLAT_STACK, CHECK_STACK, FLATTEN_STACK, READ_TEXT_STACK, RUN_STACK, WRITE_PROOF_STACK, WRITE_TEXT_STACK,
+    CHECK_FLAT_STACK, CHECK_STACK, FLATTEN_STACK, READ_TEXT_STACK, RUN_STACK, SEARCH_STACK, WRITE_PROOF_STACK,
+    WRITE_TEXT_STACK,
 };
 pub use refusal::{Cause, File, Refusal};
 
@@ -48,7 +49,7 @@ pub struct Right {
     pub open: u32,
 }
 
-/// The proof file that a run gives, and the terms that it began.
+/// The proof file that a run or a search gives, and the terms that it began.
 #[derive(Clone, Debug, PartialEq, Eq)]
 pub struct Ran {
     pub proof: Vec<u8>,
@@ -71,7 +72,8 @@ impl Engine {
             "the library has version {major}.{minor}, not {VERSION}"
         );
         let longest = [raw::LONGEST_PROOF, raw::LONGEST_FLAT, raw::LONGEST_TERM, raw::LONGEST_TEXT];
-        Engine { work: vec![0; raw::RUN_WORK], out: vec![0; longest.into_iter().fold(0, usize::max)] }
+        // The most demanding call is the search.
+        Engine { work: vec![0; raw::SEARCH_WORK], out: vec![0; longest.into_iter().fold(0, usize::max)] }
     }
 
     // Each call is lent no more work space than it needs, because it clears all that it was lent.
@@ -87,6 +89,14 @@ impl Engine {
     pub fn run(&mut self, table: &[u8], job: &[u8], budget: u32) -> Result<Ran, Refusal> {
         let work = &mut self.work[..raw::RUN_WORK];
         let answer = succeeded(raw::run(table, job, budget, work, &mut self.out))?;
+        Ok(Ran { proof: self.result(answer), steps: answer.steps })
+    }
+
+    /// Looks for an evaluation of the job's tactic that is at most so many rules high, 64 at most, in at most so many steps, of
+    /// which 4,096 are the most.
+    pub fn search(&mut self, table: &[u8], job: &[u8], height: u32, budget: u32) -> Result<Ran, Refusal> {
+        let work = &mut self.work[..raw::SEARCH_WORK];
+        let answer = succeeded(raw::search(table, job, height, budget, work, &mut self.out))?;
         Ok(Ran { proof: self.result(answer), steps: answer.steps })
     }
 

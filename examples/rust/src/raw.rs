@@ -2,7 +2,7 @@
 
 /// The version of the header that this file follows.
 pub const VERSION_MAJOR: u32 = 1;
-pub const VERSION_MINOR: u32 = 2;
+pub const VERSION_MINOR: u32 = 3;
 
 /// The answer of every call.
 #[repr(C)]
@@ -25,6 +25,7 @@ pub const CHECK_FLAT_WORK: usize = 65536;
 pub const WRITE_PROOF_WORK: usize = 65536;
 pub const READ_TEXT_WORK: usize = 196608;
 pub const WRITE_TEXT_WORK: usize = 36864;
+pub const SEARCH_WORK: usize = 2496256;
 
 // Machine stack that each call needs, in bytes; include/hitac.h says what is counted.
 pub const CHECK_STACK: usize = 1536;
@@ -34,6 +35,7 @@ pub const CHECK_FLAT_STACK: usize = 1536;
 pub const WRITE_PROOF_STACK: usize = 172032;
 pub const READ_TEXT_STACK: usize = 512;
 pub const WRITE_TEXT_STACK: usize = 1024;
+pub const SEARCH_STACK: usize = 1536;
 
 pub const LONGEST_PROOF: usize = 21510;
 pub const LONGEST_FLAT: usize = 16131;
@@ -75,6 +77,11 @@ extern "C" {
 
     fn hitac_write_text(
         term: *const u8, term_length: usize,
+        work: *mut u8, work_length: usize, out: *mut u8, out_length: usize,
+    ) -> Answer;
+
+    fn hitac_search(
+        table: *const u8, table_length: usize, job: *const u8, job_length: usize, height: u32, budget: u32,
         work: *mut u8, work_length: usize, out: *mut u8, out_length: usize,
     ) -> Answer;
 }
@@ -151,6 +158,16 @@ pub fn write_text(term: &[u8], work: &mut [u8], out: &mut [u8]) -> Answer {
     unsafe {
         hitac_write_text(
             term.as_ptr(), term.len(),
+            work.as_mut_ptr(), work.len(), out.as_mut_ptr(), out.len(),
+        )
+    }
+}
+
+pub fn search(table: &[u8], job: &[u8], height: u32, budget: u32, work: &mut [u8], out: &mut [u8]) -> Answer {
+    // SAFETY: as said above.
+    unsafe {
+        hitac_search(
+            table.as_ptr(), table.len(), job.as_ptr(), job.len(), height, budget,
             work.as_mut_ptr(), work.len(), out.as_mut_ptr(), out.len(),
         )
     }

@@ -26,9 +26,11 @@ pub enum Cause {
     WorkTooShort = 29,
     TextWrong = 36,
     ValueTooLarge = 37,
+    NoEvaluation = 41,
+    HeightOutside = 42,
 }
 
-const CAUSES: [Cause; 21] = [
+const CAUSES: [Cause; 23] = [
     Cause::InputTooLong,
     Cause::FieldTorn,
     Cause::TagNotAllowed,
@@ -50,6 +52,8 @@ const CAUSES: [Cause; 21] = [
     Cause::WorkTooShort,
     Cause::TextWrong,
     Cause::ValueTooLarge,
+    Cause::NoEvaluation,
+    Cause::HeightOutside,
 ];
 
 /// The file that a refusal points into.
@@ -67,7 +71,7 @@ pub struct Refusal {
     pub file: File,
     /// Byte offset in that file.
     pub place: u32,
-    /// Terms begun, of a run.
+    /// Terms begun, of a run or a search.
     pub steps: u32,
 }
 
