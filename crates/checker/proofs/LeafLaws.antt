@@ -55,17 +55,17 @@ pub looked-up : (T : Table) (a : RuleName) (γ : Goal) (x y : ℕ) → a .0 ≡ 
 looked-up T a γ x y p q = λ i. findRule T (record { 0 = p i }) (record { 0 = q i })
 
 module _ (T : Table) (at : ℕ) (w : List ℕ) (n : Next) where
-  refuses : (t : Term) (c : Cause) → number c ≡ 20 → walkIn T t at w n ≡ refused c at → Acts T t at w w n A.Refused
+  refuses : (t : Term) (c : Cause) (k : ℕ) → number c ≡ k → walkIn T t at w n ≡ refused c at → Acts T t at w w n (A.Refused k)
   unfolding Acts
-  refuses t c m e = (c, m, e, refl)
+  refuses t c k m e = (c, m, e, refl)
 
-  pub atomic-not-one : (a : RuleName) → (n .count ≡ 1 → ⊥) → Acts T (atomic a) at w w n A.Refused
+  pub atomic-not-one : (a : RuleName) → (n .count ≡ 1 → ⊥) → Acts T (atomic a) at w w n (A.Refused 34)
   unfolding walk number
-  atomic-not-one a h = refuses (atomic a) goalCountWrong refl (not-one (λ γ. premisesOr ruleMissing at (findRule T a γ)) at w (n .top) (n .count) h)
+  atomic-not-one a h = refuses (atomic a) goalCountWrong 34 refl (not-one (λ γ. premisesOr ruleMissing at (findRule T a γ)) at w (n .top) (n .count) h)
 
-  pub atomic-missing : (a : RuleName) → n .count ≡ 1 → findRule T a (goal (word w (n .top))) ≡ none → Acts T (atomic a) at w w n A.Refused
+  pub atomic-missing : (a : RuleName) → n .count ≡ 1 → findRule T a (goal (word w (n .top))) ≡ none → Acts T (atomic a) at w w n (A.Refused 20)
   unfolding walk number premisesOr
-  atomic-missing a h e = refuses (atomic a) ruleMissing refl (one (λ γ. premisesOr ruleMissing at (findRule T a γ)) at w (n .top) (n .count) h ∙ ap (premisesOr ruleMissing at) e)
+  atomic-missing a h e = refuses (atomic a) ruleMissing 20 refl (one (λ γ. premisesOr ruleMissing at (findRule T a γ)) at w (n .top) (n .count) h ∙ ap (premisesOr ruleMissing at) e)
 
   -- the premises of a rule, copied from the table
   pub atomic-copied : (a : RuleName) (table : List ℕ) (place k : ℕ) (w′ : List ℕ) → w′ ≡ paste w (n .low) (drop place table) (k * 2) → n .count ≡ 1 → findRule T a (goal (word w (n .top))) ≡ some (foundRule (goalsAt table place k))
@@ -80,9 +80,9 @@ module _ (T : Table) (at : ℕ) (w : List ℕ) (n : Next) where
         kept = subst (λ (v : List ℕ). Kept w v (n .low) (n .top + n .count * 2)) (sym is) (kept-copy w table (n .low) place (k * 2) (n .low) (n .top + n .count * 2) (omega arith) i (omega arith) (omega arith));
       }
 
-  pub id-not-one : (n .count ≡ 1 → ⊥) → Acts T id at w w n A.Refused
+  pub id-not-one : (n .count ≡ 1 → ⊥) → Acts T id at w w n (A.Refused 34)
   unfolding walk number
-  id-not-one h = refuses id goalCountWrong refl (not-one (λ γ. gives (γ ∷ [])) at w (n .top) (n .count) h)
+  id-not-one h = refuses id goalCountWrong 34 refl (not-one (λ γ. gives (γ ∷ [])) at w (n .top) (n .count) h)
 
   pub id-one : (v : ℕ) (w′ : List ℕ) → n .count ≡ 1 → v ≡ word w (n .top) → w′ ≡ putWord w (n .low) v → n .low ≤ n .top → n .top + n .count * 2 ≤ length w → Acts T id at w w′ n (A.Gives 1 0)
   unfolding Acts walk atomics
@@ -93,26 +93,26 @@ module _ (T : Table) (at : ℕ) (w : List ℕ) (n : Next) where
     kept = subst (λ (s : List ℕ). Kept w s (n .low) (n .top + n .count * 2)) (sym is) (kept-put w (n .low) v (n .low) (n .top + n .count * 2) (omega arith) (omega arith));
   }
 
-  pub empty-not-none : (n .count ≡ 0 → ⊥) → Acts T empty at w w n A.Refused
+  pub empty-not-none : (n .count ≡ 0 → ⊥) → Acts T empty at w w n (A.Refused 34)
   unfolding walk number
-  empty-not-none h = refuses empty goalCountWrong refl (not-none at w (n .top) (n .count) h)
+  empty-not-none h = refuses empty goalCountWrong 34 refl (not-none at w (n .top) (n .count) h)
 
   pub empty-none : n .count ≡ 0 → Acts T empty at w w n (A.Gives 0 0)
   unfolding Acts walk atomics goalsAt
   empty-none h = record { outcome = no-goal at w (n .top) (n .count) h; used-is = refl; few = omega arith; kept = kept-same w _ _ }
 
   -- a term that stands in no hiproof
-  pub other-alternation : (t u : Term) → Acts T (alternation t u) at w w n A.Refused
+  pub other-alternation : (t u : Term) → Acts T (alternation t u) at w w n (A.Refused 34)
   unfolding walk number
-  other-alternation t u = refuses (alternation t u) goalCountWrong refl refl
+  other-alternation t u = refuses (alternation t u) goalCountWrong 34 refl refl
 
-  pub other-assert : (γ : Goal) → Acts T (assert γ) at w w n A.Refused
+  pub other-assert : (γ : Goal) → Acts T (assert γ) at w w n (A.Refused 34)
   unfolding walk number
-  other-assert γ = refuses (assert γ) goalCountWrong refl refl
+  other-assert γ = refuses (assert γ) goalCountWrong 34 refl refl
 
-  pub other-defined : (m : TacticNo) → Acts T (defined m) at w w n A.Refused
+  pub other-defined : (m : TacticNo) → Acts T (defined m) at w w n (A.Refused 34)
   unfolding walk number
-  other-defined m = refuses (defined m) goalCountWrong refl refl
+  other-defined m = refuses (defined m) goalCountWrong 34 refl refl
 
 -- an atomic that is ready: where its name is, and its room
 pub some-atomic : (s : List ℕ) (at : ℕ) (w : List ℕ) (n : Next) (t : Term) → LeafReady s at t w n → getD s at 0 ≡ 16 → (at + 4 < length s) × (n .low + 14 ≤ n .top)

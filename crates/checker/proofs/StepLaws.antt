@@ -51,12 +51,12 @@ module _ (T : Table) (x : Aim) (s w : List ℕ) (n : Next) (at : ℕ) (b : Begin
   unfolding goalAct
   on-values r e = ap (λ (g : List Goal). ofGoals [] (walk T (b .0) at g)) (same-goals (goalsAt w (n .top) (n .count))) ∙ ap (ofGoals []) e
 
-  pub leaf-stops : (w′ : List ℕ) (r : Acted) → r ≡ A.Refused → Acts T (b .0) at w w′ n r → Steps (goalAct T) x [] s w w′ (at + 1) (U.Refused 20 at)
+  pub leaf-stops : (w′ : List ℕ) (r : Acted) (k : ℕ) → r ≡ A.Refused k → Acts T (b .0) at w w′ n r → Steps (goalAct T) x [] s w w′ (at + 1) (U.Refused k at)
   unfolding Acts ofGoals
-  leaf-stops w′ r e a =
+  leaf-stops w′ r k e a =
       let y = subst (Acts T (b .0) at w w′ n) e a in
       record {
-        turned = loops.leaf-refused (goalAct T) x [] s w (placed n at) b l (y .0) 20 at (y .1) (omega (arith, known s at (b .0) (b .2 .stands) .inside)) (on-values _ (y .2)) w′ (at + 1);
+        turned = loops.leaf-refused (goalAct T) x [] s w (placed n at) b l (y .0) k at (y .1) (omega (arith, known s at (b .0) (b .2 .stands) .inside)) (on-values _ (y .2)) w′ (at + 1);
         kept = subst (λ (v : List ℕ). Kept w v 0 framesEnd) (sym (y .3)) (kept-same w _ _);
       }
 

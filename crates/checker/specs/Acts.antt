@@ -54,7 +54,7 @@ pub record Given (T : Table) (t : Term) (at : ℕ) (w w′ : List ℕ) (n : Next
   pub few : given ≤ n .count + 7 * used
   pub kept : Kept w w′ (n .low) (n .top + n .count * 2)
 
--- the code's answer: 20 at the term's place, with nothing written; or what it gave
+-- the code's answer: the refusal's number, at the term's place, with nothing written; or what it gave
 unfoldable pub Acts : Table → Term → (at : ℕ) → (w w′ : List ℕ) → Next → Acted → Type 0
-Acts T t at w w′ n A.Refused = (c : Cause) × (number c ≡ 20) × (walkIn T t at w n ≡ refused c at) × (w′ ≡ w)
+Acts T t at w w′ n (A.Refused k) = (c : Cause) × (number c ≡ k) × (walkIn T t at w n ≡ refused c at) × (w′ ≡ w)
 Acts T t at w w′ n (A.Gives given used) = Given T t at w w′ n given used

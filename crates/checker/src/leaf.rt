@@ -1,4 +1,4 @@
-// The terms that have no inner term, on goals. One that cannot take its goals is refused with 20 at its own place.
+// The terms that have no inner term, on goals. One that cannot take its goals is refused at its own place: 34 for another number of goals, 20 for one goal without a rule.
 ghost use mathlib.Core.Path.{_≡_};
 ghost use mathlib.Core.List.{List};
 ghost use Prim.Native.Nat.{ℕ, _+_, _*_, _≤_, _<_};
@@ -21,9 +21,9 @@ use words::copy_in;
 use words::load16;
 use words::store16;
 
-// What such a term comes to: it cannot take its goals; or the number of goals that it gives, and that of its uses.
+// What such a term comes to: the number of the refusal; or the number of goals that it gives, and that of its uses.
 pub enum Acted {
-    Refused,
+    Refused(u8),
     Gives(usize, usize),
 }
 
@@ -33,13 +33,13 @@ fn take_rule(table: &[u8], first: usize, proof: &[u8], at: usize, work: &mut [u8
     ensures { λ r. ⌜ ((T : Table) → TableStands (now (table .entry)) first T → Acts T (atomic (ruleName (word (now (proof .entry)) (at + 3)))) at (now (work .entry)) (now (work .exit)) n r) ⌝ }
 {
     if n.count != 1 {
-        return Acted::Refused;
+        return Acted::Refused(34);
     }
     let name = rule_name_at(proof, at + 3);
     let goal = goal_at(work, n.top);
     let found = find_rule(table, first, work, ARITIES_END, name, goal);
     match found {
-        RuleFound::Missing => Acted::Refused,
+        RuleFound::Missing => Acted::Refused(20),
         RuleFound::Premises(place, premises) => {
             copy_in(work, n.low, table, place, premises * 2);
             Acted::Gives(premises, 1)
@@ -53,7 +53,7 @@ fn keep_goal(work: &mut [u8], n: Next) -> Acted
     ensures { λ r. ⌜ ((T : Table) (at : ℕ) → Acts T id at (now (work .entry)) (now (work .exit)) n r) ⌝ }
 {
     if n.count != 1 {
-        return Acted::Refused;
+        return Acted::Refused(34);
     }
     let goal = load16(work, n.top);
     store16(work, n.low, goal);
@@ -65,7 +65,7 @@ fn take_nothing(n: Next) -> Acted
     ensures { λ r. ⌜ ((T : Table) (at : ℕ) (w : List ℕ) → Acts T empty at w w n r) ⌝ }
 {
     if n.count != 0 {
-        return Acted::Refused;
+        return Acted::Refused(34);
     }
     Acted::Gives(0, 0)
 }
@@ -85,5 +85,5 @@ pub fn act(table: &[u8], first: usize, proof: &[u8], at: usize, work: &mut [u8],
     if tag == 21 {
         return take_nothing(n);
     }
-    Acted::Refused
+    Acted::Refused(34)
 }

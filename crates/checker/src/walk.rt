@@ -34,7 +34,7 @@ fn begin_leaf(table: &[u8], first: usize, proof: &[u8], at: usize, work: &mut [u
 {
     let acted = act(table, first, proof, at, work, n);
     match acted {
-        Acted::Refused => Turn::Refused(20, at),
+        Acted::Refused(number) => Turn::Refused(number, at),
         Acted::Gives(given, used) => {
             let behind = at + 3 + load16(proof, at + 1) as usize;
             resume(proof, work, n, behind, given, n.uses + used)
@@ -48,7 +48,7 @@ fn step(table: &[u8], first: usize, proof: &[u8], work: &mut [u8], n: Next) -> T
     ensures { λ r. ⌜ ((T : Table) (x : Aim) → TableStands (now (table .entry)) first T → Begins (goalAct T) x [] (now (proof .entry)) (now (work .entry)) n → Steps (goalAct T) x [] (now (proof .entry)) (now (work .entry)) (now (work .exit)) (n .at + 1) r) ⌝ }
 {
     if label_count_wrong(proof, n.at, n.count) {
-        return Turn::Refused(20, n.at);
+        return Turn::Refused(34, n.at);
     }
     let at = unlabelled(proof, n.at);
     let tag = proof[at];

@@ -56,15 +56,15 @@ some-node p A [] z = absurd (z refl)
 some-node p A (n ∷ ns) z = refl
 
 module _ (T : Table) (at : ℕ) (w : List ℕ) (n : Next) (next : ℕ) where
-  pub atomic-count : (a : RuleName) → (n .count ≡ 1 → ⊥) → Takes T (atomic a) at w w w n next A.Refused
+  pub atomic-count : (a : RuleName) → (n .count ≡ 1 → ⊥) → Takes T (atomic a) at w w w n next (A.Refused 34)
   unfolding Takes nodeAct number
   atomic-count a z = (goalCountWrong, refl, not-one at _ (valuesAt w (n .top) (n .count)) (λ e. z (sym (length-values w (n .top) (n .count)) ∙ e)), refl)
 
-  pub id-count : (n .count ≡ 1 → ⊥) → Takes T id at w w w n next A.Refused
+  pub id-count : (n .count ≡ 1 → ⊥) → Takes T id at w w w n next (A.Refused 34)
   unfolding Takes nodeAct number
   id-count z = (goalCountWrong, refl, not-one at _ (valuesAt w (n .top) (n .count)) (λ e. z (sym (length-values w (n .top) (n .count)) ∙ e)), refl)
 
-  pub empty-count : (n .count ≡ 0 → ⊥) → Takes T empty at w w w n next A.Refused
+  pub empty-count : (n .count ≡ 0 → ⊥) → Takes T empty at w w w n next (A.Refused 34)
   unfolding Takes nodeAct number
   empty-count z = (goalCountWrong, refl, some-node at _ (valuesAt w (n .top) (n .count)) (λ e. z (sym (length-values w (n .top) (n .count)) ∙ e)), refl)
 
@@ -109,7 +109,7 @@ module _ (T : Table) (a : RuleName) (at : ℕ) (w : List ℕ) (n : Next) (next :
         let m : length A₀ + 7 < mostNodes = omega (arith, nodeFits .1, length-cells next w indexEnd) in
         rw (one-value w (n .top) (n .count) one, lt-ltb node (length A₀) l, lt-ltb (length A₀ + 7) mostNodes m, goal-there there)
 
-    pub atomic-missing : findRule T a goalHere ≡ none → Takes T (atomic a) at w w w n next A.Refused
+    pub atomic-missing : findRule T a goalHere ≡ none → Takes T (atomic a) at w w w n next (A.Refused 20)
     unfolding Takes useFound number
     atomic-missing e = (ruleMissing, refl, looked-up ∙ ap (useFound a at A₀ node) e, refl)
 
@@ -200,7 +200,7 @@ empty-gives T at w n next z = record { comes = rw z; used-is = refl; few = omega
 
 -- no term without inner terms that is none of the three can take its nodes
 module _ (T : Table) (at : ℕ) (w : List ℕ) (n : Next) (next : ℕ) (s : List ℕ) where
-  pub other-refused : (getD s at 0 ≡ 16 → ⊥) → (getD s at 0 ≡ 17 → ⊥) → (getD s at 0 ≡ 21 → ⊥) → Leaf s at → (t : Term) → Stands s at t → Takes T t at w w w n next A.Refused
+  pub other-refused : (getD s at 0 ≡ 16 → ⊥) → (getD s at 0 ≡ 17 → ⊥) → (getD s at 0 ≡ 21 → ⊥) → Leaf s at → (t : Term) → Stands s at t → Takes T t at w w w n next (A.Refused 34)
   unfolding Takes nodeAct number tagOf
   other-refused a b c l (atomic x) st = absurd (a (known s at (atomic x) st .tag-is))
   other-refused a b c l id st = absurd (b (known s at id st .tag-is))

@@ -99,10 +99,10 @@ module _ (T : Table) (x : Aim) (table : List ℕ) (first : ℕ) (s w : List ℕ)
           let z = leaf-refused (nodeAct T) x A₀ s w (placed n at) b l inputTooLong 1 at refl leaf-inside e w at in
           omega (arith, k .sound (z .0) at (z .2), z .1)
 
-      pub refused-goes : (v w′ : List ℕ) → Takes T (b .0) at w v w′ n next A.Refused → Goes T x s w w′ (at + 1) (record { turn = U.Refused 20 at; next = next })
+      pub refused-goes : (v w′ : List ℕ) (k : ℕ) → Takes T (b .0) at w v w′ n next (A.Refused k) → Goes T x s w w′ (at + 1) (record { turn = U.Refused k at; next = next })
       unfolding Takes
-      refused-goes v w′ t = subst (λ (y : List ℕ). Goes T x s w y (at + 1) (record { turn = U.Refused 20 at; next = next })) (sym (t .3)) (record {
-        turned = leaf-refused (nodeAct T) x A₀ s w (placed n at) b l (t .0) 20 at (t .1) leaf-inside (t .2) w (at + 1);
+      refused-goes v w′ k t = subst (λ (y : List ℕ). Goes T x s w y (at + 1) (record { turn = U.Refused k at; next = next })) (sym (t .3)) (record {
+        turned = leaf-refused (nodeAct T) x A₀ s w (placed n at) b l (t .0) k at (t .1) leaf-inside (t .2) w (at + 1);
         index-kept = λ i p q. refl;
       })
 

@@ -41,7 +41,7 @@ Fitting T t at w n next = actIn T t at w n next ≡ refused inputTooLong at → 
 abbrev pub Through : List ℕ → (List ℕ → Type 0) → Type 0
 Through w P = (between : List ℕ) × Kept w between indexEnd cellsEnd × P between
 
--- the code's answer: 20 at the term's place; or the term wrote on the stacks, and so many cells are made
+-- the code's answer: the refusal's number, at the term's place; or the term wrote on the stacks, and so many cells are made
 unfoldable pub Takes : Table → Term → (at : ℕ) → (w between w′ : List ℕ) → Next → (next : ℕ) → Taken → Type 0
-Takes T t at w v w′ n next A.Refused = (c : Cause) × (number c ≡ 20) × (actIn T t at w n next ≡ refused c at) × (w′ ≡ w)
+Takes T t at w v w′ n next (A.Refused k) = (c : Cause) × (number c ≡ k) × (actIn T t at w n next ≡ refused c at) × (w′ ≡ w)
 Takes T t at w v w′ n next (A.Gives given uses made) = Acted (nodeAct T) (cellsOf w next) (cellsOf w′ made) v w′ (placed n at) t given uses

@@ -30,9 +30,9 @@ use walks::state::Next;
 use words::load16;
 use words::store16;
 
-// What such a term comes to: it cannot take its nodes; or the number of nodes that it gives, that of its uses, and the first node that is free behind it.
+// What such a term comes to: the number of the refusal; or the number of nodes that it gives, that of its uses, and the first node that is free behind it.
 pub enum Taken {
-    Refused,
+    Refused(u8),
     Gives(usize, usize, usize),
 }
 
@@ -69,14 +69,14 @@ fn use_rule(
     ensures { λ r. ⌜ Through (now (work .entry)) (λ (v : List ℕ). (T : Table) → TableStands (now (table .entry)) first T → Takes T (atomic (ruleName (word (now (proof .entry)) (at + 3)))) at (now (work .entry)) v (now (work .exit)) n next r) ⌝ }
 {
     if n.count != 1 {
-        return Taken::Refused;
+        return Taken::Refused(34);
     }
     let node = load16(work, n.top) as usize;
     let name = rule_name_at(proof, at + 3);
     let goal = goal_at(work, CELLS + node * 8);
     let found = find_rule(table, first, work, ARITIES_END, name, goal);
     match found {
-        RuleFound::Missing => Taken::Refused,
+        RuleFound::Missing => Taken::Refused(20),
         RuleFound::Premises(place, count) => {
             let made = next + count;
             grow(work, node, name, next, table, place, count, n.low);
@@ -91,7 +91,7 @@ fn keep_node(work: &mut [u8], n: Next, next: usize) -> Taken
     ensures { λ r. ⌜ ((T : Table) (at : ℕ) → Takes T id at (now (work .entry)) (now (work .entry)) (now (work .exit)) n next r) ⌝ }
 {
     if n.count != 1 {
-        return Taken::Refused;
+        return Taken::Refused(34);
     }
     let node = load16(work, n.top);
     store16(work, n.low, node);
@@ -103,7 +103,7 @@ fn take_nothing(n: Next, next: usize) -> Taken
     ensures { λ r. ⌜ ((T : Table) (at : ℕ) (w : List ℕ) → Takes T empty at w w w n next r) ⌝ }
 {
     if n.count != 0 {
-        return Taken::Refused;
+        return Taken::Refused(34);
     }
     Taken::Gives(0, 0, next)
 }
@@ -131,5 +131,5 @@ pub fn act(
     if tag == 21 {
         return take_nothing(n, next);
     }
-    Taken::Refused
+    Taken::Refused(34)
 }

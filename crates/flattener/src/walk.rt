@@ -43,8 +43,8 @@ fn begin_leaf(
 {
     let taken = act(table, first, proof, at, work, n, next);
     match taken {
-        Taken::Refused => Stepped {
-            turn: Turn::Refused(20, at),
+        Taken::Refused(number) => Stepped {
+            turn: Turn::Refused(number, at),
             next,
         },
         Taken::Gives(given, used, made) => {
@@ -64,7 +64,7 @@ fn step(table: &[u8], first: usize, proof: &[u8], work: &mut [u8], n: Next, next
     let place = n.at;
     if label_count_wrong(proof, place, n.count) {
         return Stepped {
-            turn: Turn::Refused(20, place),
+            turn: Turn::Refused(34, place),
             next,
         };
     }

@@ -1,4 +1,4 @@
--- The causes of a refusal, and their numbers: document 01, "What the bytes bring about" and "What the state brings about"; document 02, P8 (36, 37) and P13 (41, 42).
+-- The causes of a refusal, and their numbers: document 01, "What the bytes bring about" and "What the state brings about"; document 02, P5 (34, 35), P8 (36, 37) and P13 (41, 42).
 use Prim.Native.Nat.{ℕ}
 
 pub data Cause : Type 0 where
@@ -12,8 +12,6 @@ pub data Cause : Type 0 where
   tacticRedefined : Cause
   labelRepeated : Cause
   ruleMissing : Cause
-  goalCountWrong : Cause
-  goalsTooFew : Cause
   remainingDiffer : Cause
   joinedTooLong : Cause
   tacticFailed : Cause
@@ -24,12 +22,14 @@ pub data Cause : Type 0 where
   goalsPending : Cause
   entriesTooMany : Cause
   workTooShort : Cause
+  goalCountWrong : Cause
+  goalsTooFew : Cause
   textWrong : Cause
   valueTooLarge : Cause
   noEvaluation : Cause
   heightOutside : Cause
 
--- Three causes have the number 20, and two the number 27: a term that cannot take its goals, a flat file that is wrong.
+-- Two causes have the number 27, a flat file that is wrong; every other number has one.
 unfoldable pub number : Cause → ℕ
 number inputTooLong = 1
 number fieldTorn = 2
@@ -41,8 +41,6 @@ number premiseCountDiffers = 7
 number tacticRedefined = 8
 number labelRepeated = 9
 number ruleMissing = 20
-number goalCountWrong = 20
-number goalsTooFew = 20
 number remainingDiffer = 21
 number joinedTooLong = 22
 number tacticFailed = 23
@@ -53,6 +51,8 @@ number entryWrong = 27
 number goalsPending = 27
 number entriesTooMany = 28
 number workTooShort = 29
+number goalCountWrong = 34
+number goalsTooFew = 35
 number textWrong = 36
 number valueTooLarge = 37
 number noEvaluation = 41

@@ -4,6 +4,7 @@ pub mod DroppedLabels
 pub mod InputArities
 pub mod WalkValidates
 pub mod WalkStops
+pub mod StopReasons
 pub mod Substitution
 pub mod DerivesLaws
 pub mod FlatWalks

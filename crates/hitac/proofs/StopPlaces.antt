@@ -1,4 +1,4 @@
--- A walk that is refused has the number 20 or 22, and its place is that of a field inside the term; a flat walk's is that of a field among the entries.
+-- A walk that is refused has the number 20, 22, 34 or 35, and its place is that of a field inside the term; a flat walk's is that of a field among the entries.
 -- By induction over the rules of `Stops`; for a flat walk from the entries before the first wrong one. Assumes nothing.
 use Prim.Native.Nat.{ℕ, _+_, _≤_}
 use native.Mathlib.Omega.{arith}
@@ -15,25 +15,25 @@ use Rattle.hitac.specs.Premises.{Finds}
 use Rattle.hitac.specs.Validates.{System}
 use Rattle.hitac.specs.Walk.{walk}
 use Rattle.hitac.specs.FlatWalk.{flatWalk}
-use Rattle.hitac.specs.Stops.{Stops, S-Atomic-Goals, S-Atomic-Rule, S-Identity-Goals, S-Empty-Goals, S-Label-Goals, S-Label-Inner, S-Sequence-Left, S-Sequence-Right, S-Tensor-Goals, S-Tensor-Left, S-Tensor-Right, S-Tensor-Joined}
+use Rattle.hitac.specs.Stops.{StopNumber, Stops, S-Atomic-Goals, S-Atomic-Rule, S-Identity-Goals, S-Empty-Goals, S-Label-Goals, S-Label-Inner, S-Sequence-Left, S-Sequence-Right, S-Tensor-Goals, S-Tensor-Left, S-Tensor-Right, S-Tensor-Joined}
 use Rattle.hitac.specs.FirstWrong.{entriesSize, FirstWrong, U-First}
 use Rattle.hitac.proofs.WalkValidates.{finds-agrees}
 use Rattle.hitac.proofs.WalkStops.{walk→stops}
 use Rattle.hitac.proofs.FlatWalks.{flatWalk→firstWrong}
 
-pub stops-number : {S : System} {s : Term} {p : ℕ} {g : List Goal} {n q : ℕ} → Stops S s p g n q → (n ≡ 20) ⊎ (n ≡ 22)
-stops-number (S-Atomic-Goals z) = inl refl
+pub stops-number : {S : System} {s : Term} {p : ℕ} {g : List Goal} {n q : ℕ} → Stops S s p g n q → StopNumber n
+stops-number (S-Atomic-Goals z) = inr (inr (inl refl))
 stops-number (S-Atomic-Rule z) = inl refl
-stops-number (S-Identity-Goals z) = inl refl
-stops-number (S-Empty-Goals z) = inl refl
-stops-number (S-Label-Goals z) = inl refl
+stops-number (S-Identity-Goals z) = inr (inr (inl refl))
+stops-number (S-Empty-Goals z) = inr (inr (inl refl))
+stops-number (S-Label-Goals z) = inr (inr (inl refl))
 stops-number (S-Label-Inner x) = stops-number x
 stops-number (S-Sequence-Left x) = stops-number x
 stops-number (S-Sequence-Right v x) = stops-number x
-stops-number (S-Tensor-Goals i l) = inl refl
+stops-number (S-Tensor-Goals i l) = inr (inr (inr refl))
 stops-number (S-Tensor-Left g₂ i x) = stops-number x
 stops-number (S-Tensor-Right v x) = stops-number x
-stops-number (S-Tensor-Joined v w l) = inr refl
+stops-number (S-Tensor-Joined v w l) = inr (inl refl)
 
 -- The place q has a field's header within n bytes from p on.
 pub record Inside (p n q : ℕ) : Type 0 where
@@ -56,7 +56,7 @@ stops-place (S-Tensor-Right v x) = let i = stops-place x in record { from = omeg
 stops-place (S-Tensor-Joined v w l) = record { from = omega arith; to = omega arith }
 
 module _ (T : Table) (s : Term) (hiproof : Hiproof s) (p : ℕ) (g : List Goal) {c : Cause} {q : ℕ} (stopped : walk T s p g ≡ refused c q) where
-  pub walk-number : (number c ≡ 20) ⊎ (number c ≡ 22)
+  pub walk-number : StopNumber (number c)
   walk-number = stops-number (walk→stops T (Finds T) (finds-agrees T) s hiproof p g stopped)
 
   pub walk-place : Inside p (size s) q

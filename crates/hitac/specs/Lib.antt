@@ -4,6 +4,7 @@ pub mod Validates
 pub mod Premises
 pub mod Walk
 pub mod Stops
+pub mod Reaches
 pub mod Forest
 pub mod Flattens
 pub mod FlatWalk

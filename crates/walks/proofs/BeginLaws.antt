@@ -195,7 +195,7 @@ module _ (act : Act) (x : Aim) (A : List Cell) (s w : List ℕ) (n : Next) (z : 
           kept = wide w′ (b .1) fit _ st;
         }
 
-    few : (a c : Term) (f : List Waiting) → n .count < share → B (tensor a c) f → Turned act x A s w (n .at + 1) (U.Refused 20 (n .at))
+    few : (a c : Term) (f : List Waiting) → n .count < share → B (tensor a c) f → Turned act x A s w (n .at + 1) (U.Refused 35 (n .at))
     unfolding Turned walkOf arities number
     few a c f h q =
         let y = ahead-first w (n .arity) (inputArity a) (arities a (arities c (later f))) (q .ahead) in (
@@ -205,8 +205,8 @@ module _ (act : Act) (x : Aim) (A : List Cell) (s w : List ℕ) (n : Next) (z : 
           omega (arith, known s (n .at) (tensor a c) (q .stands) .inside),
         )
 
-    pub tensor-few : n .count < share → Steps act x A s w w (n .at + 1) (U.Refused 20 (n .at))
+    pub tensor-few : n .count < share → Steps act x A s w w (n .at + 1) (U.Refused 35 (n .at))
     tensor-few h = record {
-      turned = by-tag s (n .at) (λ t. B t (b .1) → Turned act x A s w (n .at + 1) (U.Refused 20 (n .at))) 20 (λ a c y q. few a c (b .1) h q) e (b .0) (b .2 .stands) (b .2);
+      turned = by-tag s (n .at) (λ t. B t (b .1) → Turned act x A s w (n .at + 1) (U.Refused 35 (n .at))) 20 (λ a c y q. few a c (b .1) h q) e (b .0) (b .2 .stands) (b .2);
       kept = kept-same w _ _;
     }

@@ -76,10 +76,10 @@ module _ (act : Act) (x : Aim) (A : List Cell) (s w : List ℕ) (n : Next) where
   unfolding Turned
   refused-with t f c k p m l b e w′ at = (c, m, b .same ∙ ap (resumed act f) e ∙ resumed-refused act f c p, l)
 
-  pub label-stops : (b : Begins act x A s w n) → labelCountWrong (b .0) (n .count) ≡ true → (at : ℕ) → Steps act x A s w w at (U.Refused 20 (n .at))
+  pub label-stops : (b : Begins act x A s w n) → labelCountWrong (b .0) (n .count) ≡ true → (at : ℕ) → Steps act x A s w w at (U.Refused 34 (n .at))
   unfolding number
   label-stops b e at = record {
-    turned = refused-with (b .0) (b .1) goalCountWrong 20 (n .at) refl (omega (arith, known s (n .at) (b .0) (b .2 .stands) .inside)) (b .2) (label-refused act A _ (n .count) (length-values w (n .top) (n .count)) (b .0) (n .at) e) w at;
+    turned = refused-with (b .0) (b .1) goalCountWrong 34 (n .at) refl (omega (arith, known s (n .at) (b .0) (b .2 .stands) .inside)) (b .2) (label-refused act A _ (n .count) (length-values w (n .top) (n .count)) (b .0) (n .at) e) w at;
     kept = kept-same w _ _;
   }
 

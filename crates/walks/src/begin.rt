@@ -53,7 +53,7 @@ pub fn begin_tensor(work: &mut [u8], n: Next, at: usize) -> Turn
 {
     let share = load16(work, n.arity) as usize;
     if n.count < share {
-        return Turn::Refused(20, at);
+        return Turn::Refused(35, at);
     }
     push(work, n.frames, at, n.top + n.count * 2);
     Turn::Begin(Next {

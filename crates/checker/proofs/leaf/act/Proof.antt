@@ -75,7 +75,7 @@ returns-4 : tie.Need-returns-4
 returns-4 c =
     let i = c .before .before .before .before .before .before .before in
     let l = i .pre .2 in
-    λ T t st r. if-other _ _ (ActsAt i T (now (i .args .work)) A.Refused) (other-alternation T _ _ _) (other-assert T _ _ _) (other-defined T _ _ _) (c .before .before .if1 .left) (c .before .if2 .left) (l .0) (l .1) (l .2) (c .if3 .left) t (r .stands)
+    λ T t st r. if-other _ _ (ActsAt i T (now (i .args .work)) (A.Refused 34)) (other-alternation T _ _ _) (other-assert T _ _ _) (other-defined T _ _ _) (c .before .before .if1 .left) (c .before .if2 .left) (l .0) (l .1) (l .2) (c .if3 .left) t (r .stands)
 
 pub act-spec : {M : Type 1} → statement M
 act-spec =

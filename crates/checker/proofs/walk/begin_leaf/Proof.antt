@@ -51,11 +51,11 @@ act-requires c κs =
     let i = c .before .before .before .before in
     ((i .pre .0 .0, i .pre .0 .2), (whole i .0, leaf-ready (i .pre .0 .0) (i .pre .0 .1) _ _ (i .args .n) _ (whole i) (i .pre .2) (i .pre .1 .space)), i .pre .2, i .pre .3)
 
-enum-told : tie.Need-enum-told
-enum-told c = search needs
-
 enum-known-acted : tie.Need-enum-known-acted
 enum-known-acted c = search needs
+
+enum-known-acted-2 : tie.Need-enum-known-acted-2
+enum-known-acted-2 c = search needs
 
 add-behind : tie.Need-add-behind
 add-behind c = let i = c .before .before .before .before .before .before .before .before .before .before in omega (arith, head i .inside, head i .three, i .pre .1 .file)
@@ -76,7 +76,7 @@ add-resume : tie.Need-add-resume
 add-resume c =
     let a = c .before .before .before .before .before .before .before .before in
     let i = entry a in
-    let g = leaf-gave (i .pre .0 .0) (i .pre .0 .1) _ _ (i .args .n) _ (whole i) (i .pre .2) _ _ _ _ (c .before .before .before .before .acted .given .1) (acts a (i .pre .0 .0) (i .pre .0 .1) (i .pre .0 .2) (whole i)) (i .args .at + 3 + c .before .before .load16 .result) (omega (arith, head i .length-is, c .before .before .load16 .ensures)) in
+    let g = leaf-gave (i .pre .0 .0) (i .pre .0 .1) _ _ (i .args .n) _ (whole i) (i .pre .2) _ _ _ _ (c .before .before .before .before .acted2 .given .1) (acts a (i .pre .0 .0) (i .pre .0 .1) (i .pre .0 .2) (whole i)) (i .args .at + 3 + c .before .before .load16 .result) (omega (arith, head i .length-is, c .before .before .load16 .ensures)) in
     omega (arith, g .1)
 
 resume-requires : tie.Need-resume-requires
@@ -85,16 +85,16 @@ resume-requires c κs =
     let i = entry a in
     let T = i .pre .0 .0 in
     let x = i .pre .0 .1 in
-    ((goalAct T, x, [], leaf-gave T x _ _ (i .args .n) _ (whole i) (i .pre .2) _ _ _ _ (c .before .before .before .before .acted .given .1) (acts a T x (i .pre .0 .2) (whole i)) (i .args .at + 3 + c .before .before .load16 .result) (omega (arith, head i .length-is, c .before .before .load16 .ensures)) .0), roomy a)
+    ((goalAct T, x, [], leaf-gave T x _ _ (i .args .n) _ (whole i) (i .pre .2) _ _ _ _ (c .before .before .before .before .acted2 .given .1) (acts a T x (i .pre .0 .2) (whole i)) (i .args .at + 3 + c .before .before .load16 .result) (omega (arith, head i .length-is, c .before .before .load16 .ensures)) .0), roomy a)
 
 same-length : tie.Need-same-length
 same-length c = search needs
 
 returns : tie.Need-returns
 returns c =
-    let a = c .before .before .before .before in
+    let a = c .before .before .before .before .before in
     let i = entry a in
-    λ T x tst b. leaf-stops T x _ _ (i .args .n) _ b (i .pre .2) _ _ (c .enum-told .given .1) (acts a T x tst b)
+    λ T x tst b. leaf-stops T x _ _ (i .args .n) _ b (i .pre .2) _ _ _ (c .before .acted .given .1) (acts a T x tst b)
 
 same-length-2 : tie.Need-same-length-2
 same-length-2 c = search needs
@@ -103,15 +103,15 @@ returns-2 : tie.Need-returns-2
 returns-2 c =
     let a = c .before .before .before .before .before .before .before .before .before .before .before in
     let i = entry a in
-    λ T x tst b. leaf-resumed T x _ _ (i .args .n) _ b (i .pre .2) _ _ _ _ (c .before .before .before .before .before .before .before .acted .given .1) (acts a T x tst b) _ (omega (arith, known _ _ _ (b .2 .stands) .length-is, c .before .before .before .before .before .load16 .ensures)) _ _ (λ g. c .before .before .resume .ensures (goalAct T) x [] g)
+    λ T x tst b. leaf-resumed T x _ _ (i .args .n) _ b (i .pre .2) _ _ _ _ (c .before .before .before .before .before .before .before .acted2 .given .1) (acts a T x tst b) _ (omega (arith, known _ _ _ (b .2 .stands) .length-is, c .before .before .before .before .before .load16 .ensures)) _ _ (λ g. c .before .before .resume .ensures (goalAct T) x [] g)
 
 pub begin-leaf-spec : {M : Type 1} → statement M
 begin-leaf-spec =
     tie.close
     (tie.spec
     act-requires
-    enum-told
     enum-known-acted
+    enum-known-acted-2
     add-behind
     add-load16
     load16-requires

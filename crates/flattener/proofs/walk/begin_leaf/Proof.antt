@@ -29,33 +29,33 @@ act-requires c κs =
       l,
     )
 
-enum-told : tie.Need-enum-told
-enum-told c = search needs
-
 enum-known-taken : tie.Need-enum-known-taken
 enum-known-taken c = search needs
 
+enum-known-taken-2 : tie.Need-enum-known-taken-2
+enum-known-taken-2 c = search needs
+
 -- what the term gave
-gives : (c : tie.After-known-told) (T : Table) → let i = c .before .before .before .before .before .before .before .before .before .before in let a = c .before .before .before .before .before .act in TableStands (now (i .args .table)) (i .args .first) T
+gives : (c : tie.After-known-told2) (T : Table) → let i = c .before .before .before .before .before .before .before .before .before .before in let a = c .before .before .before .before .before .act in TableStands (now (i .args .table)) (i .args .first) T
     → (t : Term) → Stands (now (i .args .proof)) (i .args .at) t
-    → Takes T t (i .args .at) (now (i .args .work)) (a .ensures .0) (a .last .1 .1 .1 .1 .0) (i .args .n) (i .args .next) (A.Gives (c .before .taken .given .0 .0) (c .before .taken .given .0 .1 .0) (c .before .taken .given .0 .1 .1 .0))
+    → Takes T t (i .args .at) (now (i .args .work)) (a .ensures .0) (a .last .1 .1 .1 .1 .0) (i .args .n) (i .args .next) (A.Gives (c .before .taken2 .given .0 .0) (c .before .taken2 .given .0 .1 .0) (c .before .taken2 .given .0 .1 .1 .0))
 gives c T ts t st =
     let i = c .before .before .before .before .before .before .before .before .before .before in
     let a = c .before .before .before .before .before .act in
-    subst (Takes T t (i .args .at) (now (i .args .work)) (a .ensures .0) (a .last .1 .1 .1 .1 .0) (i .args .n) (i .args .next)) (c .before .taken .given .1) (a .ensures .2 T t ts st)
+    subst (Takes T t (i .args .at) (now (i .args .work)) (a .ensures .0) (a .last .1 .1 .1 .1 .0) (i .args .n) (i .args .next)) (c .before .taken2 .given .1) (a .ensures .2 T t ts st)
 
 -- where the walk stands behind it
-module _ (c : tie.After-known-told) (T : Table) (x : Aim) (k : let i = c .before .before .before .before .before .before .before .before .before .before in Walkable T x (now (i .args .table)) (i .args .first) (now (i .args .proof)) (now (i .args .work)))
+module _ (c : tie.After-known-told2) (T : Table) (x : Aim) (k : let i = c .before .before .before .before .before .before .before .before .before .before in Walkable T x (now (i .args .table)) (i .args .first) (now (i .args .proof)) (now (i .args .work)))
     (b : let i = c .before .before .before .before .before .before .before .before .before .before in Begins (nodeAct T) x (cellsOf (now (i .args .work)) (i .args .next)) (now (i .args .proof)) (now (i .args .work)) (placed (i .args .n) (i .args .at)))
     (l : let i = c .before .before .before .before .before .before .before .before .before .before in Leaf (now (i .args .proof)) (i .args .at)) where
   abbrev place : ℕ
-  place = (c .before .before .before .before .before .before .before .before .before .before) .args .at + 3 + c .before .taken .given .0 .1 .0 * 2
+  place = (c .before .before .before .before .before .before .before .before .before .before) .args .at + 3 + c .before .taken2 .given .0 .1 .0 * 2
 
   behind : place ≤ 65535
   behind = leaf-behind T x _ _ _ _ k _ ((c .before .before .before .before .before .before .before .before .before .before) .args .n) _ b l _ _ (c .before .before .before .before .before .act .ensures .1) _ _ _ (gives c T (k .table-stands))
 
-  stands : let i = c .before .before .before .before .before .before .before .before .before .before in let n = i .args .n in let u = n .uses + c .before .taken .given .0 .1 .0 in let w = c .before .before .before .before .before .act .last .1 .1 .1 .1 .0 in
-      Gave (nodeAct T) x (cellsOf w (c .before .taken .given .0 .1 .1 .0)) (now (i .args .proof)) w place (n .low) (c .before .taken .given .0 .0) (n .top + n .count * 2) (n .frames) (n .arity) u × (u ≤ 65535)
+  stands : let i = c .before .before .before .before .before .before .before .before .before .before in let n = i .args .n in let u = n .uses + c .before .taken2 .given .0 .1 .0 in let w = c .before .before .before .before .before .act .last .1 .1 .1 .1 .0 in
+      Gave (nodeAct T) x (cellsOf w (c .before .taken2 .given .0 .1 .1 .0)) (now (i .args .proof)) w place (n .low) (c .before .taken2 .given .0 .0) (n .top + n .count * 2) (n .frames) (n .arity) u × (u ≤ 65535)
   stands = leaf-gives T x _ _ _ _ k _ ((c .before .before .before .before .before .before .before .before .before .before) .args .n) _ b l _ _ (c .before .before .before .before .before .act .ensures .1) _ _ _ (gives c T (k .table-stands))
 
 add-behind : tie.Need-add-behind
@@ -83,10 +83,10 @@ same-length c = search needs
 
 returns : tie.Need-returns
 returns c =
-    let i = c .before .before .before .before .before .before .before .before .before in
-    let a = c .before .before .before .before .act in
-    λ T x k b l. refused-goes T x _ _ _ _ k _ (i .args .n) _ b l (a .ensures .0) _
-    (subst (Takes T (b .0) (i .args .at) (now (i .args .work)) (a .ensures .0) (a .last .1 .1 .1 .1 .0) (i .args .n) (i .args .next)) (c .enum-told .given .1) (a .ensures .2 T (b .0) (k .table-stands) (b .2 .stands)))
+    let i = c .before .before .before .before .before .before .before .before .before .before in
+    let a = c .before .before .before .before .before .act in
+    λ T x k b l. refused-goes T x _ _ _ _ k _ (i .args .n) _ b l (a .ensures .0) _ _
+    (subst (Takes T (b .0) (i .args .at) (now (i .args .work)) (a .ensures .0) (a .last .1 .1 .1 .1 .0) (i .args .n) (i .args .next)) (c .before .taken .given .1) (a .ensures .2 T (b .0) (k .table-stands) (b .2 .stands)))
 
 same-length-2 : tie.Need-same-length-2
 same-length-2 c = search needs
@@ -103,8 +103,8 @@ begin-leaf-spec =
     tie.close
     (tie.spec
     act-requires
-    enum-told
     enum-known-taken
+    enum-known-taken-2
     add-behind
     mul-behind
     add-behind-2
