@@ -61,7 +61,7 @@ use Rattle.entries.specs.Worked.{sideBySide, sideBySideOr, starredLines,
 
 pub starred : AllHold starredLines
 unfolding word termBytes goalBytes goalsAt goalsOf readGoals headerAt leaf pair closed contents termOf readTerm number andThen rows findRow rowOf kindOf leastOf mostOf innerOf lengthFits size fields findRuleIn findRule findBodyIn findBody matches fullTable lowest ruleOf definitionOf fieldOf readField withRule withDefinition fieldsOf readFields readTable ruleSize definitionSize rulesSize placedRules placedTactics placedLabels labelsOf clashesAny firstClash repeatsRule recountsRule repeatsTactic repeatsLabel refuseAt wholeTable searchedTag stepAt besides clashAt places clashTold jobTermPlace fullFlat withEntry entriesOf readEntries derivationOf readFlat entryBytes entriesBytes flatBytes entriesPlace lastTermOf readLastTerm jobOf readJob jobBytes remainingOf hiproofOf proofOf readProof proofBytes termPlace remainingPlace taken flatWalk forest inputArity atomics dropLabels Unlabelled unwind begin stepFrom step run start arityIn arityAfter tacticArity onOneGoal onNoGoal premisesOr tooLong joined walk treeTerms written sameGoals remainingAre checked onProof proofCounts forestFile check flatten nonePending right flatCounts checkFlatOutcome writtenProof writtenFile writeOutcome checkFlat writeProof checkIn writeOut writeIn Holds digits acceptedLine refusedLine printedLine runEnd runResult runOutcome runTactic beside sideBySide sideBySideOr starredLines edgeLines
-starred = refl & refl & refl & refl & refl & refl & refl & refl & refl & refl & refl & refl & no-more
+starred = refl & refl & refl & refl & refl & refl & refl & refl & refl & refl & refl & refl & refl & no-more
 
 -- a table of more bytes than a file may have is refused unread
 too-long : (s p : List ℕ) → mostBytes < length s → onProof proofCounts s p ≡ refusal inputTooLong tableFile 0 0
@@ -76,7 +76,7 @@ edges =
     & refl & refl & refl & refl & refl & refl & refl & refl & refl & refl & refl & refl
     & refl & refl & refl & refl & refl & refl & refl & refl & refl & refl & refl & refl
     & refl & refl & refl & refl & refl & refl & refl & refl & refl & refl & refl & refl
-    & no-more
+    & refl & refl & refl & refl & no-more
 
 pub texts : AllHold textLines
 unfolding word termBytes headerAt leaf pair closed contents termOf readTerm number andThen rows findRow rowOf kindOf leastOf mostOf innerOf lengthFits size fields lastTermOf readLastTerm readTermFile isDigit chain bracketedIf marksOf digits decimal markBytes textOf N.written numberIn markAt withMark marksIn reducedTerm reducedFrames unbracket onMark stateOf wholeOf F.termOf completes beginsNumbered isSign onDue onHad digitMore leafEnds onDigits labelEnds onLabelDigits onBegun onLabelBegun onHalf stepIn S.step finished endIn atEnd scan termFound parse Holds readTextOutcome writeTextOutcome textLines

@@ -8,7 +8,7 @@ use Rattle.tables.specs.Tables.{Table}
 use Rattle.files.specs.Derivations.{Derivation}
 use Rattle.answers.specs.declared.Answer.{Answer}
 use Rattle.entries.specs.Outcomes.{Outcome}
-use Rattle.entries.specs.LentSpace.{Counts, Checked, Written, writeOut}
+use Rattle.entries.specs.LentSpace.{Counts, Checked, countedAnswer, Written, writeOut}
 use Rattle.entries.specs.Check.{onProof, proofCounts, forestFile, check}
 use Rattle.entries.specs.CheckFlat.{checkFlatOutcome, writeOutcome, writtenFile}
 use Rattle.entries.specs.Run.{runOutcome, runTactic}
@@ -19,6 +19,7 @@ use Rattle.entries.specs.PrintedLine.{printedLine}
 pub data Line : Type 0 where
   ofBytes : (file : List ℕ) → (bytes : ℕ) → Line
   checks : (table proof : List ℕ) → Outcome Counts → Line
+  checksAs : (table proof : List ℕ) → Answer → Line
   flattens : (table proof : List ℕ) → Outcome (List ℕ) → Line
   checksFlat : (table flat : List ℕ) → Outcome Counts → Line
   writes : (table flat : List ℕ) → Outcome (List ℕ) → Line
@@ -38,6 +39,8 @@ pub data Line : Type 0 where
 unfoldable pub Holds : Line → Type 0
 Holds (ofBytes s n) = length s ≡ n
 Holds (checks t p o) = onProof proofCounts t p ≡ o
+-- the answer, by its number, of a check that was lent enough work space
+Holds (checksAs t p a) = countedAnswer (onProof proofCounts t p) ≡ a
 Holds (flattens t p o) = onProof forestFile t p ≡ o
 Holds (checksFlat t f o) = checkFlatOutcome t f ≡ o
 Holds (writes t f o) = writeOutcome t f ≡ o

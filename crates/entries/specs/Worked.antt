@@ -2,7 +2,7 @@
 use Prim.Native.Nat.{ℕ, zero, suc}
 use mathlib.Core.List.{List, [], _∷_, _++_}
 use lib.ListN.{replicate}
-use Rattle.format.specs.Refusals.{inputTooLong, fieldTorn, tagNotAllowed, lengthWrong, limitPassed, ruleRepeated, premiseCountDiffers, tacticRedefined, labelRepeated, ruleMissing, goalCountWrong, goalsTooFew, remainingDiffer, joinedTooLong, tacticFailed, budgetSpent, budgetTooLarge, entryWrong, goalsPending, entriesTooMany, textWrong, noEvaluation, heightOutside}
+use Rattle.format.specs.Refusals.{inputTooLong, fieldTorn, tagNotAllowed, lengthWrong, limitPassed, ruleRepeated, premiseCountDiffers, tacticRedefined, labelRepeated, goalCountWrong, remainingDiffer, joinedTooLong, tacticFailed, budgetSpent, budgetTooLarge, entryWrong, goalsPending, entriesTooMany, textWrong, noEvaluation, heightOutside}
 use Rattle.format.specs.Results.{refused}
 use Rattle.format.specs.Values.{goal}
 use Rattle.format.specs.Terms.{id, alternation}
@@ -13,7 +13,7 @@ use Rattle.search.specs.Worked.{beside}
 use Rattle.answers.specs.Answers as answer
 use Rattle.entries.specs.Outcomes.{success, refusal, done, tableFile, otherFile, noFile}
 use Rattle.entries.specs.LentSpace.{Counts}
-use Rattle.entries.specs.Lines.{Line, ofBytes, checks, flattens, checksFlat, writes, writesOf, runs, runsInto, runsWith, searches, searchesInto, searchesWith, checksWith, prints, readsText, writesText}
+use Rattle.entries.specs.Lines.{Line, ofBytes, checks, checksAs, flattens, checksFlat, writes, writesOf, runs, runsInto, runsWith, searches, searchesInto, searchesWith, checksWith, prints, readsText, writesText}
 
 abbrev pub counts : (fields uses remaining : ℕ) → Counts
 counts t u o = record { fields = t; uses = u; remaining = o }
@@ -81,11 +81,13 @@ starredLines =
     -- "(id | 2) ; empty on 20: 23 after 4 steps."
     ∷ runs tableA (3 ∷ 0 ∷ 2 ∷ 0 ∷ 20 ∷ 19 ∷ 0 ∷ 14 ∷ 22 ∷ 0 ∷ 8 ∷ 17 ∷ 0 ∷ 0 ∷ 16 ∷ 0 ∷ 2 ∷ 0 ∷ 2 ∷ 21 ∷ 0 ∷ 0 ∷ []) 4096 (refusal tacticFailed noFile 0 4)
     -- "Proof with goal 10 and term 2: 20 at 5."
-    ∷ checks tableA (3 ∷ 0 ∷ 2 ∷ 0 ∷ 10 ∷ 16 ∷ 0 ∷ 2 ∷ 0 ∷ 2 ∷ 3 ∷ 0 ∷ 0 ∷ []) (refusal ruleMissing otherFile 5 0)
-    -- "id ⊗ id on 10: 20 at 11."
-    ∷ checks tableA (3 ∷ 0 ∷ 2 ∷ 0 ∷ 10 ∷ 20 ∷ 0 ∷ 6 ∷ 17 ∷ 0 ∷ 0 ∷ 17 ∷ 0 ∷ 0 ∷ 3 ∷ 0 ∷ 2 ∷ 0 ∷ 10 ∷ []) (refusal goalCountWrong otherFile 11 0)
-    -- "(id ⊗ id) ⊗ id on 10: 20 at 5."
-    ∷ checks tableA (3 ∷ 0 ∷ 2 ∷ 0 ∷ 10 ∷ 20 ∷ 0 ∷ 12 ∷ 20 ∷ 0 ∷ 6 ∷ 17 ∷ 0 ∷ 0 ∷ 17 ∷ 0 ∷ 0 ∷ 17 ∷ 0 ∷ 0 ∷ 3 ∷ 0 ∷ 2 ∷ 0 ∷ 10 ∷ []) (refusal goalsTooFew otherFile 5 0)
+    ∷ checksAs tableA (3 ∷ 0 ∷ 2 ∷ 0 ∷ 10 ∷ 16 ∷ 0 ∷ 2 ∷ 0 ∷ 2 ∷ 3 ∷ 0 ∷ 0 ∷ []) (answer.refusal 20 2 5 0)
+    -- document 02, P5: "The starred lines with 20 at 11 and at 5 for the nested tensor become 34 and 35", which are "id ⊗ id on 10: 20 at 11"
+    ∷ checksAs tableA (3 ∷ 0 ∷ 2 ∷ 0 ∷ 10 ∷ 20 ∷ 0 ∷ 6 ∷ 17 ∷ 0 ∷ 0 ∷ 17 ∷ 0 ∷ 0 ∷ 3 ∷ 0 ∷ 2 ∷ 0 ∷ 10 ∷ []) (answer.refusal 34 2 11 0)
+    -- and "(id ⊗ id) ⊗ id on 10: 20 at 5"
+    ∷ checksAs tableA (3 ∷ 0 ∷ 2 ∷ 0 ∷ 10 ∷ 20 ∷ 0 ∷ 12 ∷ 20 ∷ 0 ∷ 6 ∷ 17 ∷ 0 ∷ 0 ∷ 17 ∷ 0 ∷ 0 ∷ 17 ∷ 0 ∷ 0 ∷ 3 ∷ 0 ∷ 2 ∷ 0 ∷ 10 ∷ []) (answer.refusal 35 2 5 0)
+    -- "the unstarred label case becomes 34", "[1]empty on 10: 20 at 10"
+    ∷ checksAs tableA (3 ∷ 0 ∷ 2 ∷ 0 ∷ 10 ∷ 18 ∷ 0 ∷ 5 ∷ 0 ∷ 1 ∷ 21 ∷ 0 ∷ 0 ∷ 3 ∷ 0 ∷ 0 ∷ []) (answer.refusal 34 2 10 0)
     ∷ []
 
 -- One line for each refusal, and edges that the readings settle.
@@ -137,8 +139,16 @@ edgeLines =
     ∷ checks (2 ∷ 0 ∷ 15 ∷ 0 ∷ 1 ∷ 18 ∷ 0 ∷ 10 ∷ 0 ∷ 5 ∷ 18 ∷ 0 ∷ 5 ∷ 0 ∷ 5 ∷ 17 ∷ 0 ∷ 0 ∷ []) [] (refusal labelRepeated tableFile 10 0)
     -- 9: a label of an earlier body, at the label
     ∷ checks (2 ∷ 0 ∷ 10 ∷ 0 ∷ 1 ∷ 18 ∷ 0 ∷ 5 ∷ 0 ∷ 5 ∷ 17 ∷ 0 ∷ 0 ∷ 2 ∷ 0 ∷ 16 ∷ 0 ∷ 2 ∷ 19 ∷ 0 ∷ 11 ∷ 17 ∷ 0 ∷ 0 ∷ 18 ∷ 0 ∷ 5 ∷ 0 ∷ 5 ∷ 17 ∷ 0 ∷ 0 ∷ []) [] (refusal labelRepeated tableFile 24 0)
-    -- 20: a label has arity 1 whatever is inside
-    ∷ checks [] (3 ∷ 0 ∷ 2 ∷ 0 ∷ 10 ∷ 18 ∷ 0 ∷ 5 ∷ 0 ∷ 1 ∷ 21 ∷ 0 ∷ 0 ∷ 3 ∷ 0 ∷ 0 ∷ []) (refusal goalCountWrong otherFile 10 0)
+    -- 34 before 20: an atomic that no rule has the name of, on no goal
+    ∷ checksAs [] (3 ∷ 0 ∷ 0 ∷ 16 ∷ 0 ∷ 2 ∷ 0 ∷ 9 ∷ 3 ∷ 0 ∷ 0 ∷ []) (answer.refusal 34 2 3 0)
+    -- 34: a label on two goals
+    ∷ checksAs [] (3 ∷ 0 ∷ 4 ∷ 0 ∷ 10 ∷ 0 ∷ 10 ∷ 18 ∷ 0 ∷ 5 ∷ 0 ∷ 1 ∷ 17 ∷ 0 ∷ 0 ∷ 3 ∷ 0 ∷ 0 ∷ []) (answer.refusal 34 2 7 0)
+    -- goals too many for a tensor fall on a term of its right part: id ⊗ id on three
+    ∷ checksAs [] (3 ∷ 0 ∷ 6 ∷ 0 ∷ 10 ∷ 0 ∷ 10 ∷ 0 ∷ 10 ∷ 20 ∷ 0 ∷ 6 ∷ 17 ∷ 0 ∷ 0 ∷ 17 ∷ 0 ∷ 0 ∷ 3 ∷ 0 ∷ 0 ∷ []) (answer.refusal 34 2 15 0)
+    -- 35 before the left part is walked: (9 ⊗ id) ⊗ id on one goal, where the walk of 9 would be 20
+    ∷ checksAs [] (3 ∷ 0 ∷ 2 ∷ 0 ∷ 10 ∷ 20 ∷ 0 ∷ 14 ∷ 20 ∷ 0 ∷ 8 ∷ 16 ∷ 0 ∷ 2 ∷ 0 ∷ 9 ∷ 17 ∷ 0 ∷ 0 ∷ 17 ∷ 0 ∷ 0 ∷ 3 ∷ 0 ∷ 0 ∷ []) (answer.refusal 35 2 5 0)
+    -- a flattener that is lent enough has the same numbers
+    ∷ flattens [] (3 ∷ 0 ∷ 0 ∷ 17 ∷ 0 ∷ 0 ∷ 3 ∷ 0 ∷ 0 ∷ []) (refusal goalCountWrong otherFile 3 0)
     -- a label inside a tensor takes one goal
     ∷ checks tableA (3 ∷ 0 ∷ 4 ∷ 0 ∷ 20 ∷ 0 ∷ 30 ∷ 20 ∷ 0 ∷ 15 ∷ 18 ∷ 0 ∷ 7 ∷ 0 ∷ 7 ∷ 16 ∷ 0 ∷ 2 ∷ 0 ∷ 2 ∷ 16 ∷ 0 ∷ 2 ∷ 0 ∷ 3 ∷ 3 ∷ 0 ∷ 0 ∷ []) (done (counts 4 2 0))
     -- 21: the remaining goals in another order

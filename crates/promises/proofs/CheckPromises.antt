@@ -20,10 +20,11 @@ use Rattle.files.proofs.RefusedFiles.{Proof-refused}
 use Rattle.files.proofs.WhatStands.{proof-stands}
 use Rattle.hitac.specs.Hiproofs.{atomics}
 use Rattle.hitac.specs.Validates.{AtMost256, Validates}
-use Rattle.hitac.specs.Stops.{Stops}
+use Rattle.hitac.specs.Stops.{Stops, StopNumber}
 use Rattle.hitac.specs.Walk.{walk}
 use Rattle.hitac.proofs.WalkValidates.{walk↔validates}
 use Rattle.hitac.proofs.WalkStops.{walk↔stops}
+use Rattle.hitac.proofs.StopReasons.{reached-stops, stops-reached}
 use Rattle.hitac.proofs.StopPlaces.{walk-number, walk-place}
 use Rattle.answers.specs.declared.Answer.{Answer}
 use Rattle.answers.specs.Answers as answer
@@ -122,23 +123,21 @@ check-accepts t p w h = (
 pub check-counts : Check-counts
 check-counts t p w h a = answered t p w h ∙ accepted-answer t p a
 
--- 20, 21, 22
+-- 20, 22, 34 and 35, and 21
 module _ (t p w : List ℕ) (T : Table) (x : Proof) (h : checkWork ≤ length w) (e : readTable t ≡ gives T) (f : readProof p ≡ gives x) where
   abbrev result : Result (List Goal)
   result = walk T (x .term) (termPlace x) (x .goals)
 
-  the-stop : (n q : ℕ) → (n ≡ 20) ⊎ (n ≡ 22) → A t p ≡ answer.refusal n 2 q 0 → (r : Result (List Goal)) → result ≡ r → (c : Cause) × (result ≡ refused c q) × (number c ≡ n)
+  the-stop : (n q : ℕ) → (n ≡ 21 → ⊥) → A t p ≡ answer.refusal n 2 q 0 → (r : Result (List Goal)) → result ≡ r → (c : Cause) × (result ≡ refused c q) × (number c ≡ n)
   the-stop n q k a (refused c q′) g =
       let b = sym (walk-refuses t p T x e f g) ∙ a in
       let m : q′ ≡ q = ap (λ (y : Answer). y .place) b in
       (c, g ∙ ap (refused c) m, ap (λ (y : Answer). y .number) b)
-  the-stop n q k a (gives l) g = by-comparison (sameGoals l (x .remaining)) refl k
+  the-stop n q k a (gives l) g = by-comparison (sameGoals l (x .remaining)) refl
     where
-      by-comparison : (b : Bool) → sameGoals l (x .remaining) ≡ b → (n ≡ 20) ⊎ (n ≡ 22) → (c : Cause) × (result ≡ refused c q) × (number c ≡ n)
-      by-comparison true s (inl m) = absurd (omega (arith, ap (λ (y : Answer). y .number) (sym (accepts t p T x e f l g s) ∙ a)))
-      by-comparison true s (inr m) = absurd (omega (arith, ap (λ (y : Answer). y .number) (sym (accepts t p T x e f l g s) ∙ a)))
-      by-comparison false s (inl m) = absurd (omega (arith, ap (λ (y : Answer). y .number) (sym (differs t p T x e f l g s) ∙ a)))
-      by-comparison false s (inr m) = absurd (omega (arith, ap (λ (y : Answer). y .number) (sym (differs t p T x e f l g s) ∙ a)))
+      by-comparison : (b : Bool) → sameGoals l (x .remaining) ≡ b → (c : Cause) × (result ≡ refused c q) × (number c ≡ n)
+      by-comparison true s = absurd (omega (arith, ap (λ (y : Answer). y .file) (sym (accepts t p T x e f l g s) ∙ a)))
+      by-comparison false s = absurd (k (sym (ap (λ (y : Answer). y .number) (sym (differs t p T x e f l g s) ∙ a))))
 
   other-list : (l : List Goal) → (l ≡ x .remaining → ⊥) → (b : Bool) → sameGoals l (x .remaining) ≡ b → sameGoals l (x .remaining) ≡ false
   other-list l ne true s = absurd (ne (same-equal l (x .remaining) s))
@@ -150,21 +149,34 @@ module _ (t p w : List ℕ) (T : Table) (x : Proof) (h : checkWork ≤ length w)
   the-list : A t p .number ≡ 21 → (r : Result (List Goal)) → result ≡ r → (l : List Goal) × Validates (HasRule T) AtMost256 (x .term) (x .goals) l × (l ≡ x .remaining → ⊥)
   the-list a (refused c q) g = absurd (no-21 (walk-number T (x .term) (hiproof t p T x e f) (termPlace x) (x .goals) g) (sym (ap (λ (y : Answer). y .number) (walk-refuses t p T x e f g)) ∙ a))
     where
-      no-21 : (number c ≡ 20) ⊎ (number c ≡ 22) → number c ≡ 21 → ⊥
+      no-21 : StopNumber (number c) → number c ≡ 21 → ⊥
       no-21 (inl m) n = omega arith
-      no-21 (inr m) n = omega arith
+      no-21 (inr (inl m)) n = omega arith
+      no-21 (inr (inr (inl m))) n = omega arith
+      no-21 (inr (inr (inr m))) n = omega arith
   the-list a (gives l) g = by-comparison (sameGoals l (x .remaining)) refl
     where
       by-comparison : (b : Bool) → sameGoals l (x .remaining) ≡ b → (l : List Goal) × Validates (HasRule T) AtMost256 (x .term) (x .goals) l × (l ≡ x .remaining → ⊥)
       by-comparison true s = absurd (omega (arith, a, ap (λ (y : Answer). y .number) (accepts t p T x e f l g s)))
       by-comparison false s = (l, validated t p T x e f l .0 g, not-same l s)
 
+  abbrev StopsSo : (number stop : ℕ) → Type 0
+  StopsSo n q = Stops (HasRule T) (x .term) (termPlace x) (x .goals) n q
+
+  so-stops : (n q : ℕ) → StopsSo n q → check t p w .answer ≡ answer.refusal n 2 q 0
+  so-stops n q s =
+      let (c, g, m) = stopped-at t p T x e f n q .0 s in
+      answered t p w h ∙ walk-refuses t p T x e f g ∙ ap (λ (k : ℕ). answer.refusal k 2 q 0) m
+
+  so-stopped : (n q : ℕ) → (n ≡ 21 → ⊥) → check t p w .answer ≡ answer.refusal n 2 q 0 → StopsSo n q
+  so-stopped n q k a = stopped-at t p T x e f n q .1 (the-stop n q k (sym (answered t p w h) ∙ a) result refl)
+
   refuses : Refuses t p w T x
   refuses = record {
-    stops = λ n q s.
-        let (c, g, m) = stopped-at t p T x e f n q .0 s in
-        answered t p w h ∙ walk-refuses t p T x e f g ∙ ap (λ (k : ℕ). answer.refusal k 2 q 0) m;
-    stopped = λ n q k a. stopped-at t p T x e f n q .1 (the-stop n q k (sym (answered t p w h) ∙ a) result refl);
+    stops = so-stops;
+    stopped = so-stopped;
+    reasons = λ n q r. so-stops n q (reached-stops (r .2) (r .3));
+    reasoned = λ n q k l a. stops-reached l (so-stopped n q k a);
     differs = λ l v ne. answered t p w h ∙ differs t p T x e f l (validated t p T x e f l .1 v) (other-list l ne (sameGoals l (x .remaining)) refl);
     differed = λ a. the-list (sym (ap (λ (y : Answer). y .number) (answered t p w h)) ∙ a) result refl;
   }
@@ -179,9 +191,8 @@ remaining-behind x = refl
 
 -- demand 1, for every entry that checks a proof: its own refusals are those of the walk, then 21
 module _ {B : Type 0} (t p : List ℕ) (T : Table) (x : Proof) (f : readProof p ≡ gives x) (v : B) where
-  in-range : (c : Cause) (q : ℕ) → (number c ≡ 20) ⊎ (number c ≡ 22) → q < length p → CheckRefuses p (number c) q
-  in-range c q (inl m) l = (omega arith, omega arith, l)
-  in-range c q (inr m) l = (omega arith, omega arith, l)
+  in-range : (c : Cause) (q : ℕ) → StopNumber (number c) → q < length p → CheckRefuses p (number c) q
+  in-range c q m l = (inl m, l)
 
   agreeing : (l : List Goal) → sameGoals l (x .remaining) ≡ true → remainingAre x v l ≡ gives v
   unfolding remainingAre
@@ -193,7 +204,7 @@ module _ {B : Type 0} (t p : List ℕ) (T : Table) (x : Proof) (f : readProof p 
 
   own-21 : CheckRefuses p (number remainingDiffer) (remainingPlace x)
   unfolding number
-  own-21 = (omega arith, omega arith, omega (arith, proof-stands p x f .end-is))
+  own-21 = (inr refl, omega (arith, proof-stands p x f .end-is))
 
   moved : (b c : Cause) (i q : ℕ) → _≡_ {A = Result B} (refused b i) (refused c q) → CheckRefuses p (number b) i → CheckRefuses p (number c) q
   moved b c i q e k = subst (λ (d : Cause). CheckRefuses p (number d) q) (same-cause e) (subst (λ (j : ℕ). CheckRefuses p (number b) j) (same-place e) k)

@@ -26,7 +26,7 @@ use Rattle.hitac.specs.Walk.{onOneGoal, onNoGoal, premisesOr, tooLong, joined, 
 use Rattle.answers.specs.declared.Answer.{Answer}
 use Rattle.answers.specs.Answers as answer
 use Rattle.entries.specs.Outcomes.{Outcome, success, refusal, inFile, done, tableFile, otherFile}
-use Rattle.entries.specs.LentSpace.{Counts, countedAnswer, checkIn, writeOut, writeIn}
+use Rattle.entries.specs.LentSpace.{Counts, countedAnswer, checkIn, Written, writeOut, writeIn}
 use Rattle.entries.specs.Check.{sameGoals, remainingAre, checked, onProof, proofCounts, forestFile, checkWork, flattenWork, check, flatten}
 use Rattle.promises.specs.Finer.{oneGoalBefore, noGoalBefore, walkBefore, onProofBefore, checkBefore, flattenBefore, Finer, unchanged, refined, Check-finer, Flatten-finer}
 
@@ -145,18 +145,47 @@ unfolding number
 twenty c q k = refined (number c) q k
 
 -- an entry that writes nothing, with any work space
-module _ (size : ℕ) (w : List ℕ) where
-  counted-finer : {o o′ : Outcome Counts} → FinerOutcome o o′ → Finer (countedAnswer o) (countedAnswer o′)
-  counted-finer (same-success c) = unchanged _ (omega arith) (λ z. omega arith)
-  counted-finer (same-outcome c f q k) = same-answer (number c) f q 0 k
-  counted-finer (finer-outcome c q k) = twenty c q k
+counted-finer : {o o′ : Outcome Counts} → FinerOutcome o o′ → Finer (countedAnswer o) (countedAnswer o′)
+counted-finer (same-success c) = unchanged (answer.counted (c .fields) (c .uses) (c .remaining)) (omega arith) (λ z. omega arith)
+counted-finer (same-outcome c f q k) = same-answer (number c) f q 0 k
+counted-finer (finer-outcome c q k) = twenty c q k
 
-  checked-finer : {o o′ : Outcome Counts} → FinerOutcome o o′ → Finer (checkIn size w o .answer) (checkIn size w o′ .answer) × (checkIn size w o .work ≡ checkIn size w o′ .work)
-  unfolding checkIn number
-  checked-finer {o} {o′} x = by-space (ltb (length w) size)
+checked-finer : (size : ℕ) (w : List ℕ) {o o′ : Outcome Counts} → FinerOutcome o o′ → Finer (checkIn size w o .answer) (checkIn size w o′ .answer) × (checkIn size w o .work ≡ checkIn size w o′ .work)
+unfolding checkIn number
+checked-finer size w {o} {o′} x = by-space (decLt (length w) size)
+  where
+    by-space : Dec (length w < size) → Finer (checkIn size w o .answer) (checkIn size w o′ .answer) × (checkIn size w o .work ≡ checkIn size w o′ .work)
+    by-space (yes h) = rw (lt-ltb (length w) size h) (same-answer 29 0 0 0 (omega arith, (λ z. omega arith)), refl)
+    by-space (no h) = rw (le-ltb (length w) size (omega arith)) (counted-finer x, refl)
+
+pub check-finer : Check-finer
+unfolding checkBefore check
+check-finer t p w = checked-finer checkWork w (on-proof proofCounts t p)
+
+-- an entry that writes, with any lent space
+module _ (w v : List ℕ) where
+  abbrev FinerWritten : Written → Written → Type 0
+  FinerWritten x y = Finer (x .answer) (y .answer) × (x .work ≡ y .work) × (x .out ≡ y .out)
+
+  by-output : (b : List ℕ) → Dec (length v < length b) → FinerWritten (writeOut w v (done b)) (writeOut w v (done b))
+  unfolding writeOut number
+  by-output b (yes h) = rw (lt-ltb (length v) (length b) h) (same-answer 26 0 0 0 (omega arith, (λ z. omega arith)), refl, refl)
+  by-output b (no h) = rw (le-ltb (length v) (length b) (omega arith)) (unchanged (answer.wrote (length b) 0) (omega arith) (λ z. omega arith), refl, refl)
+
+  by-outcome : {o o′ : Outcome (List ℕ)} → FinerOutcome o o′ → FinerWritten (writeOut w v o) (writeOut w v o′)
+  unfolding writeOut
+  by-outcome (same-success b) = by-output b (decLt (length v) (length b))
+  by-outcome (same-outcome c f q k) = (same-answer (number c) f q 0 k, refl, refl)
+  by-outcome (finer-outcome c q k) = (twenty c q k, refl, refl)
+
+  written-finer : (size : ℕ) {o o′ : Outcome (List ℕ)} → FinerOutcome o o′ → FinerWritten (writeIn size w v o) (writeIn size w v o′)
+  unfolding writeIn number
+  written-finer size {o} {o′} x = by-space (decLt (length w) size)
     where
-      by-space : (b : Bool)
-          → Finer (cond b (record { answer = answer.refusal 29 0 0 0; work = w }) (record { answer = countedAnswer o; work = _ }) .answer) (cond b (record { answer = answer.refusal 29 0 0 0; work = w }) (record { answer = countedAnswer o′; work = _ }) .answer)
-          × (cond b (record { answer = answer.refusal 29 0 0 0; work = w }) (record { answer = countedAnswer o; work = _ }) .work ≡ cond b (record { answer = answer.refusal 29 0 0 0; work = w }) (record { answer = countedAnswer o′; work = _ }) .work)
-      by-space true = (same-answer 29 0 0 0 (omega arith, (λ z. omega arith)), refl)
-      by-space false = (counted-finer x, refl)
+      by-space : Dec (length w < size) → FinerWritten (writeIn size w v o) (writeIn size w v o′)
+      by-space (yes h) = rw (lt-ltb (length w) size h) (same-answer 29 0 0 0 (omega arith, (λ z. omega arith)), refl, refl)
+      by-space (no h) = rw (le-ltb (length w) size (omega arith)) (by-outcome x)
+
+pub flatten-finer : Flatten-finer
+unfolding flattenBefore flatten
+flatten-finer t p w o = written-finer w o flattenWork (on-proof forestFile t p)

@@ -3,17 +3,20 @@
 use Prim.Native.Nat.{ℕ, _+_, _*_, _≤_}
 use native.Mathlib.Omega.{arith}
 use mathlib.Core.Path.{_≡_, refl, sym, subst, ap, _∙_}
+use mathlib.Core.Bool.{Bool, true, false, cond}
 use mathlib.Core.List.{List, []}
 use lib.ListN.{length}
 use borrow.Author.Tests.{le-ltb}
 use Rattle.format.specs.declared.values.Goal.{Goal}
 use Rattle.format.specs.Encoding.{Bytes}
+use Rattle.format.specs.Refusals.{Cause, remainingDiffer}
 use Rattle.format.specs.Results.{Result, gives, refused, andThen}
 use Rattle.format.specs.Terms.{fields}
 use Rattle.tables.specs.Tables.{Table, HasRule, UniqueRules}
+use Rattle.tables.specs.ReadTables.{readTable}
 use Rattle.tables.proofs.ReadsTable.{reads-unique-rules, reads-table}
 use Rattle.files.specs.Derivations.{Derivation, Entry, readFlat, flatBytes}
-use Rattle.files.specs.Proofs.{Proof, readProof, proofBytes, termPlace}
+use Rattle.files.specs.Proofs.{Proof, readProof, proofBytes, termPlace, remainingPlace}
 use Rattle.files.specs.Within.{ProofWithin, FlatWithin}
 use Rattle.files.proofs.ReadsProof.{reads-proof, proof-back}
 use Rattle.files.proofs.ReadsFlat.{flat-back}
@@ -29,17 +32,20 @@ use Rattle.hitac.proofs.FlatWalks.{flatWalk↔derives}
 use Rattle.hitac.proofs.ForestRules.{forest↔flattens}
 use Rattle.hitac.proofs.TermBounds.{atomics-fields}
 use Rattle.hitac.proofs.WalkValidates.{walk↔validates}
-use Rattle.entries.specs.Outcomes.{done}
-use Rattle.entries.specs.LentSpace.{writeOut, writeIn}
-use Rattle.entries.specs.Check.{remainingAre, checked, onProof, forestFile, flattenWork, flatten}
+use Rattle.answers.specs.declared.Answer.{Answer}
+use Rattle.entries.specs.Outcomes.{Outcome, refusal, inFile, done, tableFile, otherFile}
+use Rattle.entries.specs.LentSpace.{Counts, countedAnswer, Written, writeOut, writeIn}
+use Rattle.entries.specs.Left.{leftIn}
+use Rattle.entries.specs.Check.{sameGoals, remainingAre, checked, onProof, proofCounts, forestFile, checkWork, flattenWork, check, flatten}
+use Rattle.entries.proofs.LeftLaws.{long-enough}
 use Rattle.entries.proofs.SameGoals.{equal-same}
 use Rattle.promises.specs.Accepted.{Accepted}
 use Rattle.promises.specs.Right.{Right}
 use Rattle.promises.specs.Ended.{InOther}
 use Rattle.promises.specs.CheckPromises.{CheckRefuses}
 use Rattle.promises.specs.WriteProofPromises.{wrote}
-use Rattle.promises.specs.FlattenPromises.{derivationOf, plain, FlattensRight, Flattens-right, Flatten-ends}
-use Rattle.promises.proofs.LentLaws.{ends-written}
+use Rattle.promises.specs.FlattenPromises.{derivationOf, plain, FlattensRight, Flattens-right, Flatten-refuses, Flatten-ends}
+use Rattle.promises.proofs.LentLaws.{answered, ends-written}
 use Rattle.promises.proofs.OutcomeLaws.{written-ends}
 use Rattle.promises.proofs.CheckPromises.{proof-comes}
 use Rattle.promises.proofs.FlattenedWithin.{derived-values, plain-values}
@@ -145,6 +151,51 @@ module _ (t p : List ℕ) (table-bytes : Bytes t) (proof-bytes : Bytes p) (a : A
 
 pub flattens-right : Flattens-right
 flattens-right t p table-bytes proof-bytes a = flattened t p table-bytes proof-bytes a
+
+-- two calls on one proof are refused alike, whatever they give for an accepted one
+data Alike {A B : Type 0} : Outcome A → Outcome B → Type 0 where
+  both-done : (a : A) (b : B) → Alike (done a) (done b)
+  both-refused : (c : Cause) (f q : ℕ) → Alike (refusal c f q 0) (refusal c f q 0)
+
+module _ {A B : Type 0} (value : Table → Proof → A) (other : Table → Proof → B) where
+  checked-alike : (T : Table) (x : Proof) → Alike (inFile otherFile (checked T x (value T x)) done) (inFile otherFile (checked T x (other T x)) done)
+  unfolding checked andThen remainingAre
+  checked-alike T x = by-walk (walk T (x .term) (termPlace x) (x .goals))
+    where
+      by-comparison : (b : Bool)
+          → Alike (inFile otherFile (cond b (gives (value T x)) (refused remainingDiffer (remainingPlace x))) done) (inFile otherFile (cond b (gives (other T x)) (refused remainingDiffer (remainingPlace x))) done)
+      by-comparison true = both-done (value T x) (other T x)
+      by-comparison false = both-refused remainingDiffer otherFile (remainingPlace x)
+
+      by-walk : (r : Result (List Goal)) → Alike (inFile otherFile (andThen r (remainingAre x (value T x))) done) (inFile otherFile (andThen r (remainingAre x (other T x))) done)
+      by-walk (gives h) = by-comparison (sameGoals h (x .remaining))
+      by-walk (refused c q) = both-refused c otherFile q
+
+  proof-alike : (T : Table) (r : Result Proof) → Alike (inFile otherFile r (λ x. inFile otherFile (checked T x (value T x)) done)) (inFile otherFile r (λ x. inFile otherFile (checked T x (other T x)) done))
+  proof-alike T (gives x) = checked-alike T x
+  proof-alike T (refused c q) = both-refused c otherFile q
+
+  table-alike : (p : List ℕ) (r : Result Table)
+      → Alike (inFile tableFile r (λ T. inFile otherFile (readProof p) (λ x. inFile otherFile (checked T x (value T x)) done))) (inFile tableFile r (λ T. inFile otherFile (readProof p) (λ x. inFile otherFile (checked T x (other T x)) done)))
+  table-alike p (gives T) = proof-alike T (readProof p)
+  table-alike p (refused c q) = both-refused c tableFile q
+
+  alike : (t p : List ℕ) → Alike (onProof value t p) (onProof other t p)
+  unfolding onProof
+  alike t p = table-alike p (readTable t)
+
+refused-alike : (o : List ℕ) {c : Outcome Counts} {f : Outcome (List ℕ)} → Alike c f → (countedAnswer c .number ≡ 0 → ⊥) → leftIn o f .answer ≡ countedAnswer c
+unfolding writeOut
+refused-alike o (both-done a b) z = absurd (z refl)
+refused-alike o (both-refused c f q) z = refl
+
+pub flatten-refuses : Flatten-refuses
+unfolding check flatten
+flatten-refuses t p w v o h k z =
+    let a = answered checkWork w (onProof proofCounts t p) h in
+    ap (λ (x : Written). x .answer) (long-enough flattenWork v o (onProof forestFile t p) k)
+    ∙ refused-alike o (alike proofCounts forestFile t p) (λ e. z (ap (λ (x : Answer). x .number) a ∙ e))
+    ∙ sym a
 
 pub flatten-ends : Flatten-ends
 unfolding flatten

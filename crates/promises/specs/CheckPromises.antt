@@ -12,7 +12,8 @@ use Rattle.tables.specs.ReadTables.{readTable}
 use Rattle.files.specs.Proofs.{Proof, readProof, termPlace, remainingPlace}
 use Rattle.hitac.specs.Hiproofs.{atomics}
 use Rattle.hitac.specs.Validates.{AtMost256, Validates}
-use Rattle.hitac.specs.Stops.{Stops}
+use Rattle.hitac.specs.Stops.{Stops, StopNumber}
+use Rattle.hitac.specs.Reaches.{FirstRefused}
 use Rattle.answers.specs.Answers as answer
 use Rattle.entries.specs.Check.{checkWork, check}
 use Rattle.promises.specs.Accepted.{Accepted}
@@ -27,19 +28,22 @@ abbrev pub Check-counts : Type 0
 Check-counts = (t p w : List ℕ) → checkWork ≤ length w → (a : Accepted t p)
     → check t p w .answer ≡ answer.counted (fields (a .the-proof .term)) (atomics (a .the-proof .term)) (length (a .the-proof .remaining))
 
--- 20 and 22 with their places, and 21, exactly where the rules say
+-- 20, 22, 34 and 35 with their places exactly where the rules of `Stops` say; 20, 34 or 35 exactly by the reason why the first term in the walk that cannot take its goals cannot;
+-- and 21 exactly if the walk gives other goals than the remaining ones
 pub record Refuses (t p w : List ℕ) (T : Table) (x : Proof) : Type 0 where
   pub stops : (n q : ℕ) → Stops (HasRule T) (x .term) (termPlace x) (x .goals) n q → check t p w .answer ≡ answer.refusal n 2 q 0
-  pub stopped : (n q : ℕ) → (n ≡ 20) ⊎ (n ≡ 22) → check t p w .answer ≡ answer.refusal n 2 q 0 → Stops (HasRule T) (x .term) (termPlace x) (x .goals) n q
+  pub stopped : (n q : ℕ) → (n ≡ 21 → ⊥) → check t p w .answer ≡ answer.refusal n 2 q 0 → Stops (HasRule T) (x .term) (termPlace x) (x .goals) n q
+  pub reasons : (n q : ℕ) → FirstRefused (HasRule T) (x .term) (termPlace x) (x .goals) n q → check t p w .answer ≡ answer.refusal n 2 q 0
+  pub reasoned : (n q : ℕ) → (n ≡ 21 → ⊥) → (n ≡ 22 → ⊥) → check t p w .answer ≡ answer.refusal n 2 q 0 → FirstRefused (HasRule T) (x .term) (termPlace x) (x .goals) n q
   pub differs : (h : List Goal) → Validates (HasRule T) AtMost256 (x .term) (x .goals) h → (h ≡ x .remaining → ⊥) → check t p w .answer ≡ answer.refusal 21 2 (remainingPlace x) 0
   pub differed : check t p w .answer .number ≡ 21 → (h : List Goal) × Validates (HasRule T) AtMost256 (x .term) (x .goals) h × (h ≡ x .remaining → ⊥)
 
 abbrev pub Check-refuses : Type 0
 Check-refuses = (t p w : List ℕ) (T : Table) (x : Proof) → checkWork ≤ length w → readTable t ≡ gives T → readProof p ≡ gives x → Refuses t p w T x
 
--- 20 and 22 in the walk, then 21: at a field of the proof file
+-- 20, 22, 34 and 35 in the walk, then 21: at a field of the proof file
 abbrev pub CheckRefuses : (proof : List ℕ) → (number place : ℕ) → Type 0
-CheckRefuses proof n q = (20 ≤ n) × (n ≤ 22) × (q < length proof)
+CheckRefuses proof n q = (StopNumber n ⊎ (n ≡ 21)) × (q < length proof)
 
 abbrev pub Check-ends : Type 0
 Check-ends = (t p w : List ℕ) → EndsChecked t p w checkWork (CheckRefuses p) (check t p w)

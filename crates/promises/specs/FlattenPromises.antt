@@ -15,7 +15,7 @@ use Rattle.hitac.specs.Counts.{uses, thisUse, taken}
 use Rattle.hitac.specs.Flattens.{Flattens}
 use Rattle.hitac.specs.Forest.{Tree, entries, leaves}
 use Rattle.hitac.specs.Hiproofs.{dropLabels}
-use Rattle.entries.specs.Check.{flattenWork, flatten}
+use Rattle.entries.specs.Check.{checkWork, flattenWork, check, flatten}
 use Rattle.promises.specs.Accepted.{Accepted}
 use Rattle.promises.specs.Right.{Right}
 use Rattle.promises.specs.Ended.{InOther, EndsWritten}
@@ -49,6 +49,10 @@ pub record FlattensRight (t p : List ℕ) (a : Accepted t p) : Type 0 where
 -- the bytes of the table are needed: a value of a rule's premises is written
 abbrev pub Flattens-right : Type 0
 Flattens-right = (t p : List ℕ) → Bytes t → Bytes p → (a : Accepted t p) → FlattensRight t p a
+
+-- "Given both, the flattener refuses no accepted proof": any other it refuses as check does, in number, file and place
+abbrev pub Flatten-refuses : Type 0
+Flatten-refuses = (t p w v o : List ℕ) → checkWork ≤ length w → flattenWork ≤ length v → (check t p w .answer .number ≡ 0 → ⊥) → flatten t p v o .answer ≡ check t p w .answer
 
 -- Demand 1: check's refusals, then 26
 abbrev pub Flatten-ends : Type 0

@@ -3,6 +3,7 @@ pub mod Right
 pub mod Ended
 pub mod Results
 pub mod CheckPromises
+pub mod Finer
 pub mod CheckFlatPromises
 pub mod WriteProofPromises
 pub mod FlattenPromises
