@@ -169,7 +169,7 @@ struct hitac_answer hitac_search(const uint8_t *table, size_t table_length,
 #define HITAC_ENTRIES_TOO_MANY 28 /* the flat file has more than 2,048 entries and cannot be written as a proof */
 #define HITAC_WORK_TOO_SHORT 29   /* the work space is shorter than the size named for the call */
 
-/* Refusals of a hiproof in which goals are miscounted. 34 comes before 20: of a missing rule nothing is said without one goal. */
+/* Refusals of a hiproof in which goals are miscounted. An atomic without exactly one goal is 34, whether it has a rule or not. */
 #define HITAC_GOAL_COUNT_WRONG 34 /* an atomic, id or label gets no goal or more than one, or an empty gets a goal */
 #define HITAC_GOALS_TOO_FEW 35    /* a tensor gets fewer goals than its left term takes */
 
