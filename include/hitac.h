@@ -158,7 +158,7 @@ struct hitac_answer hitac_search(const uint8_t *table, size_t table_length,
 #define HITAC_LABEL_REPEATED 9        /* a label stands a second time in the definitions of the table */
 
 /* Refusals of what the files say, and of what was lent. */
-#define HITAC_NOT_VALID 20        /* a term of the hiproof cannot take its goals */
+#define HITAC_RULE_MISSING 20     /* the table has no rule of this name for the goal that the atomic gets */
 #define HITAC_REMAINING_DIFFER 21 /* the hiproof gives other goals than those stated as remaining */
 #define HITAC_JOINED_TOO_LONG 22  /* a tensor joins more than 256 goals */
 #define HITAC_TACTIC_FAILED 23    /* the tactic failed */
@@ -168,6 +168,17 @@ struct hitac_answer hitac_search(const uint8_t *table, size_t table_length,
 #define HITAC_FLAT_WRONG 27       /* an entry of the flat file does not apply, or goals are pending at its end */
 #define HITAC_ENTRIES_TOO_MANY 28 /* the flat file has more than 2,048 entries and cannot be written as a proof */
 #define HITAC_WORK_TOO_SHORT 29   /* the work space is shorter than the size named for the call */
+
+/* Refusals of a hiproof in which goals are miscounted. An atomic without exactly one goal is 34, whether it has a rule or not. */
+#define HITAC_GOAL_COUNT_WRONG 34 /* an atomic, id or label gets no goal or more than one, or an empty gets a goal */
+#define HITAC_GOALS_TOO_FEW 35    /* a tensor gets fewer goals than its left term takes */
+
+/*
+ * The earlier name of 20, from when it stood for all three: HITAC_RULE_MISSING, HITAC_GOAL_COUNT_WRONG and HITAC_GOALS_TOO_FEW.
+ * A program that tests for it wants to test for the other two as well. A library that was built before answers 20 in place of
+ * 34 and 35, also with version 1.3: they came without a new call.
+ */
+#define HITAC_NOT_VALID HITAC_RULE_MISSING
 
 /* Refusals of a text. */
 #define HITAC_TEXT_WRONG 36      /* no text of the notation goes on with this byte, or the text ends early */

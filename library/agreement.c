@@ -208,13 +208,10 @@ static void refusals_of_tables(void)
     is("9", answer(CHECK), HITAC_LABEL_REPEATED, HITAC_TABLE, 18);
 }
 
-/* 20 to 28, but for 26. */
+/* 21 to 27, but for 22 and 26. */
 static void refusals_of_meaning(void)
 {
     small_table();
-    small_proof(1, 10, 2, 0);
-    is("20", answer(CHECK), HITAC_NOT_VALID, HITAC_OTHER_FILE, 5);
-    is("20 when flattening", answer(FLATTEN), HITAC_NOT_VALID, HITAC_OTHER_FILE, 5);
     small_proof(1, 10, 1, 1);
     is("21", answer(CHECK), HITAC_REMAINING_DIFFER, HITAC_OTHER_FILE, 10);
     good_files(RUN);
@@ -227,6 +224,82 @@ static void refusals_of_meaning(void)
     is("27 with a goal pending", answer(CHECK_FLAT), HITAC_FLAT_WRONG, HITAC_OTHER_FILE, 19);
     entry(&other, 1, 20);
     is("27", answer(CHECK_FLAT), HITAC_FLAT_WRONG, HITAC_OTHER_FILE, 19);
+}
+
+/* A term on so many goals 10, and the reason why it does not validate; the place counts from the first byte of the term. */
+struct reason {
+    const char *term;
+    uint32_t goals, number, place;
+};
+
+/* Leaves a job of the goals and the term. */
+static void job_of(const struct reason *reason)
+{
+    marks(reason->term, 1, "");
+    struct hitac_answer read = answer(READ_TEXT);
+    is(reason->term, read, HITAC_SUCCESS, HITAC_NO_FILE, 0);
+    other.length = 0;
+    field(&other, 3, reason->goals, 10);
+    for (size_t i = 0; i < read.length; i++)
+        put(&other, out[i]);
+}
+
+/* The reason when checking and when flattening; a run of the term fails, and a search finds no evaluation. */
+static void holds(const struct reason *reason)
+{
+    uint32_t place = 3 + 2 * reason->goals + reason->place;
+    job_of(reason);
+    is(reason->term, answer(RUN), HITAC_TACTIC_FAILED, HITAC_NO_FILE, 0);
+    is(reason->term, answer(SEARCH), HITAC_NO_EVALUATION, HITAC_NO_FILE, 0);
+    field(&other, 3, 0, 0);
+    is(reason->term, answer(CHECK), reason->number, HITAC_OTHER_FILE, place);
+    is(reason->term, answer(FLATTEN), reason->number, HITAC_OTHER_FILE, place);
+}
+
+/* Rule 1 takes 10 and gives two goals, rule 2 takes no goal 10, and no rule has the name 9. */
+static const struct reason REASONS[] = {
+    {"a2", 1, HITAC_RULE_MISSING, 0},
+    {"a9", 1, HITAC_RULE_MISSING, 0},
+    {"[7]a2", 1, HITAC_RULE_MISSING, 5},
+    {"id ; a2", 1, HITAC_RULE_MISSING, 6},
+    {"id * a2", 2, HITAC_RULE_MISSING, 6},
+    {"a2 * id", 1, HITAC_RULE_MISSING, 3},
+    /* whether there is a rule or not */
+    {"a1", 0, HITAC_GOAL_COUNT_WRONG, 0},
+    {"a1", 2, HITAC_GOAL_COUNT_WRONG, 0},
+    {"a9", 0, HITAC_GOAL_COUNT_WRONG, 0},
+    {"a9", 2, HITAC_GOAL_COUNT_WRONG, 0},
+    {"id", 0, HITAC_GOAL_COUNT_WRONG, 0},
+    {"id", 2, HITAC_GOAL_COUNT_WRONG, 0},
+    {"[7]id", 2, HITAC_GOAL_COUNT_WRONG, 0},
+    {"<>", 1, HITAC_GOAL_COUNT_WRONG, 0},
+    /* the label takes one goal, whatever is inside */
+    {"[7]<>", 0, HITAC_GOAL_COUNT_WRONG, 0},
+    {"[7]<>", 1, HITAC_GOAL_COUNT_WRONG, 5},
+    {"[7]id * id", 2, HITAC_GOAL_COUNT_WRONG, 0},
+    /* never at a sequence, and never at a tensor for too many goals */
+    {"id ; id", 0, HITAC_GOAL_COUNT_WRONG, 3},
+    {"a1 ; id", 1, HITAC_GOAL_COUNT_WRONG, 8},
+    {"id * id", 1, HITAC_GOAL_COUNT_WRONG, 6},
+    {"id * id", 3, HITAC_GOAL_COUNT_WRONG, 6},
+    {"<> * <>", 1, HITAC_GOAL_COUNT_WRONG, 6},
+    {"(id * id) * id", 2, HITAC_GOAL_COUNT_WRONG, 12},
+    {"id * id", 0, HITAC_GOALS_TOO_FEW, 0},
+    {"(id * id) * id", 1, HITAC_GOALS_TOO_FEW, 0},
+    {"id * id * id", 1, HITAC_GOALS_TOO_FEW, 6},
+    {"[7](id * id) * id", 1, HITAC_GOALS_TOO_FEW, 5},
+    {"a1 ; (id * id * id) * id", 1, HITAC_GOALS_TOO_FEW, 8},
+    /* before the left term is walked */
+    {"(a9 * id) * id", 1, HITAC_GOALS_TOO_FEW, 0},
+};
+
+/* 20, 34 and 35 at every sort of term. */
+static void refusals_of_hiproofs(void)
+{
+    small_table();
+    for (size_t i = 0; i < sizeof REASONS / sizeof REASONS[0]; i++)
+        holds(&REASONS[i]);
+    expect("the earlier name of 20", HITAC_NOT_VALID == HITAC_RULE_MISSING);
 }
 
 /* Rule 4 on 40 gives eight times 40: 32 of it side by side give 256 goals, 33 give 264. */
@@ -502,6 +575,7 @@ int main(void)
     refusals_of_reading();
     refusals_of_tables();
     refusals_of_meaning();
+    refusals_of_hiproofs();
     joined_lists();
     limits_of_tables();
     limits_of_terms();

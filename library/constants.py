@@ -11,7 +11,7 @@ def found(pattern, path):
 
 
 def upper(name):
-    """NotValid as NOT_VALID."""
+    """RuleMissing as RULE_MISSING."""
     return re.sub(r"(?<!^)(?=[A-Z])", "_", name).upper()
 
 

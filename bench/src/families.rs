@@ -18,7 +18,7 @@ pub struct Family {
     pub unit: &'static str,
     /// The largest size.
     pub most: usize,
-    /// What the calls answer: 0, but for searches that find nothing.
+    /// What the calls answer: 0, but for searches that find nothing and proofs that are refused late.
     pub number: u32,
     make: Box<dyn Fn(usize) -> Case>,
 }
@@ -126,6 +126,14 @@ fn of_check() -> Vec<Family> {
     vec![
         family(entry, "table", "a long table, a short proof", "bytes of table", 65_535, files::long_table),
         family(entry, "definitions", "labels in a definition", "term fields", 4_096, files::labels_in_a_definition),
+        Family {
+            number: 34,
+            ..family(entry, "miscount", "a miscount at the end", "leaves", 2_048, files::miscounted_at_the_end)
+        },
+        Family {
+            number: 35,
+            ..family(entry, "too-few", "too few goals at the end", "leaves", 2_048, files::too_few_at_the_end)
+        },
     ]
 }
 
@@ -230,7 +238,7 @@ mod tests {
     #[test]
     fn every_call_is_answered_as_its_family_says() {
         for family in &all() {
-            assert!(family.number == 0 || family.entry == Entry::Search, "{}", family.key);
+            assert!(family.number == 0 || [Entry::Check, Entry::Search].contains(&family.entry), "{}", family.key);
             for size in family.sizes() {
                 let outcome = family.case(size).outcome();
                 assert_eq!(outcome.answer.number, family.number, "{} {size}", family.key);
@@ -273,6 +281,19 @@ mod tests {
             assert_eq!(largest(&format!("check-{shape}")).0.fields, 4_095);
             assert_eq!(largest(&format!("flatten-{shape}")).1.other, largest(&format!("check-{shape}")).1.other);
         }
+    }
+
+    /// 4,095 fields, refused at the last field or at the last but four: a tensor of three ids.
+    #[test]
+    fn proofs_are_refused_at_their_last_term() {
+        let place_from_the_end = |key: &str| {
+            let (answer, case) = largest(key);
+            case.other.len() - 5 - answer.place as usize
+        };
+        assert_eq!(place_from_the_end("check-miscount"), 3);
+        assert_eq!(place_from_the_end("check-too-few"), 15);
+        assert_eq!(largest("check-miscount").1.other.len(), 5 + 3 * 4_095 + 5);
+        assert_eq!(largest("check-too-few").1.other.len(), 5 + 3 * 4_095 + 5);
     }
 
     /// The longest text and the longest term file; 65,535 bytes of text; 2,048 leaves of five bytes and 2,047

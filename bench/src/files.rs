@@ -118,6 +118,19 @@ pub fn sequences_to_the_left(ids: usize) -> Files {
     proof_of(&[10], &(1..ids).fold(id(), |left, _| sequence(&left, &id())))
 }
 
+/// All terms but the last take the goal and give it back; the last is empty and takes none (34).
+pub fn miscounted_at_the_end(leaves: usize) -> Files {
+    let terms = [vec![id(); leaves - 1], vec![empty()]].concat();
+    proof_of(&[10], &sequence_of(&terms))
+}
+
+/// The last term is a tensor whose left term has arity 2, and there is one goal (35).
+pub fn too_few_at_the_end(leaves: usize) -> Files {
+    let last = tensor(&tensor(&id(), &id()), &id());
+    let terms = [vec![id(); leaves - 3], vec![last]].concat();
+    proof_of(&[10], &sequence_of(&terms))
+}
+
 pub fn tensors_to_the_right(empties: usize) -> Files {
     proof_of(&[], &tensor_of(&vec![empty(); empties]))
 }

@@ -277,6 +277,20 @@ mod tests {
         }
     }
 
+    /// Mistakes that are made on purpose, damage and foreign tables bring every reason for which a hiproof does not validate.
+    #[test]
+    fn every_reason_of_a_refused_proof_comes_at_several_places() {
+        let mix = Mix::new(5);
+        let takes_proof = |case: &Case| [Entry::Check, Entry::Flatten].contains(&case.entry);
+        let cases = (0..12_000).map(|number| mix.case(number).1).filter(takes_proof);
+        let answers: Vec<_> = cases.map(|case| case.outcome().answer).collect();
+        for number in [20, 34, 35] {
+            let places: BTreeSet<u32> =
+                answers.iter().filter(|answer| answer.number == number).map(|answer| answer.place).collect();
+            assert!(places.len() > 4, "{number} at {places:?}");
+        }
+    }
+
     /// Heights and budgets are near the borders where the answer changes, so that every ending comes often.
     #[test]
     fn every_ending_of_a_search_comes() {

@@ -33,8 +33,9 @@ pub fn inspect(inspector: &mut Inspector) -> Result<String, String> {
     for (table, job) in &jobs {
         labels_of_job(inspector, table, job, &mut count);
     }
-    if [count.added, count.removed].contains(&0) {
-        return Err("no label was added, or none removed".to_string());
+    let refused = [34, 35].map(|number| inspector.tally.answered(number));
+    if [count.added, count.removed].iter().chain(&refused).any(|&times| times == 0) {
+        return Err("no label was added, none removed, or none refused with 34 or with 35".to_string());
     }
     Ok(format!(
         "{} calls: {} proofs and {} tactics, {} labels added, {} removed",
@@ -73,7 +74,8 @@ fn labels_of_proof(inspector: &mut Inspector, table: &[u8], proof: &[u8], count:
 }
 
 /// Two labels round the subterm of that number. A label takes one goal; round a
-/// term that takes more or none it is refused.
+/// term that takes more or none it is refused. All that is walked before the first
+/// miscount has the goals that it had without the labels, so no rule is missing.
 fn label_at(inspector: &mut Inspector, table: &[u8], plain: &Parts, number: usize, flat: &[u8], count: &mut Count) {
     let takes_one_goal = Cell::new(false);
     let term = plain.term.changed_at(number, |inner| {
@@ -87,7 +89,22 @@ fn label_at(inspector: &mut Inspector, table: &[u8], plain: &Parts, number: usiz
     }
     let case = Case::new(Entry::Check, table, &labelled.proof());
     let (answer, _) = inspector.call(&case);
-    inspector.demand(answer.number == 20, &case, "a label was accepted round a term that does not take one goal");
+    let counted = labelled.term.counted(labelled.goals.len(), &|name| premises_of(table, name));
+    let refused = counted == Err(answer.number);
+    inspector.demand(refused, &case, "a label round a term that does not take one goal is no miscount of that sort");
+}
+
+/// The count of premises of a rule; all rules of its name have it. The rules stand in front of the table.
+fn premises_of(table: &[u8], name: u16) -> usize {
+    let mut place = 0;
+    while table[place..].first() == Some(&1) {
+        let length = usize::from(u16::from_be_bytes([table[place + 1], table[place + 2]]));
+        if table[place + 3..place + 5] == name.to_be_bytes() {
+            return (length - 4) / 2;
+        }
+        place += 3 + length;
+    }
+    0
 }
 
 fn labelled_if_one_goal(term: Tree) -> Tree {

@@ -20,6 +20,7 @@ pub fn inspect(inspector: &mut Inspector) -> Result<String, String> {
         lent_spaces(inspector, entry);
     }
     refusals_of_the_walk(inspector);
+    reasons(inspector);
     let refusals = inspector.tally.refusals().len();
     if refusals < Reason::ALL.len() {
         return Err(format!("only {refusals} of {} refusals occurred", Reason::ALL.len()));
@@ -126,6 +127,30 @@ fn lent_spaces(inspector: &mut Inspector, entry: Entry) {
         inspector.call(&good.clone().with_budget(budget));
         for height in [0, 1, 2, 63, 64, 65, 256 + 10, 65_536, u32::MAX].into_iter().filter(|_| entry == Entry::Search) {
             inspector.call(&good.clone().with_budget(budget).with_height(height));
+        }
+    }
+}
+
+/// Proofs that do not validate: 20, 34 and 35 at each sort of term that can have them.
+fn reasons(inspector: &mut Inspector) {
+    let (id, pair) = (build::id(), build::tensor(&build::id(), &build::id()));
+    let terms = [
+        build::atomic(2),
+        build::atomic(9),
+        id.clone(),
+        build::empty(),
+        build::label(1, &build::empty()),
+        build::label(1, &id),
+        build::sequence(&build::atomic(1), &id),
+        pair.clone(),
+        build::tensor(&pair, &id),
+        build::tensor(&id, &pair),
+    ];
+    for term in &terms {
+        for goals in 0..4 {
+            let proof = build::proof(&vec![10; goals], term, &vec![10; goals]);
+            inspector.call_with_room(Entry::Check, &examples::table_a(), &proof);
+            inspector.call_with_room(Entry::Flatten, &examples::table_a(), &proof);
         }
     }
 }

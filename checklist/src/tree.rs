@@ -120,6 +120,26 @@ impl Tree {
         }
     }
 
+    /// How many goals a hiproof gives for so many, or else the number of the
+    /// refusal for the first miscount in its walk: 34, or 35 at a tensor. Counts
+    /// need no goals, since all rules of a name have as many premises; a rule
+    /// that is missing for its goal (20) is not seen.
+    pub fn counted(&self, goals: usize, premises: &dyn Fn(u16) -> usize) -> Result<usize, u32> {
+        match self {
+            Empty if goals == 0 => Ok(0),
+            Sequence(left, right) => right.counted(left.counted(goals, premises)?, premises),
+            Tensor(left, _) if goals < left.arity() => Err(35),
+            Tensor(left, right) => {
+                let given = left.counted(left.arity(), premises)?;
+                Ok(given + right.counted(goals - left.arity(), premises)?)
+            }
+            Atomic(name) if goals == 1 => Ok(premises(*name)),
+            Id if goals == 1 => Ok(1),
+            Label(_, inner) if goals == 1 => inner.counted(1, premises),
+            _ => Err(34),
+        }
+    }
+
     /// The term with `change` made to every subterm, inner ones first.
     pub fn rebuilt(&self, change: &mut dyn FnMut(Tree) -> Tree) -> Tree {
         let whole = match self {
@@ -184,6 +204,19 @@ mod tests {
         for case in examples::run_cases() {
             assert_eq!(Parts::of(&case.other).job(), case.other);
         }
+    }
+
+    #[test]
+    fn miscounts_are_told_apart() {
+        let (two, none) = (|_| 2, |_| 0);
+        let pair = tensor(Id, Id);
+        assert_eq!(pair.counted(2, &none), Ok(2));
+        assert_eq!([0, 1, 3].map(|goals| pair.counted(goals, &none)), [Err(35), Err(34), Err(34)]);
+        assert_eq!(tensor(pair.clone(), Id).counted(1, &none), Err(35));
+        assert_eq!([0, 1].map(|goals| label(1, Empty).counted(goals, &none)), [Err(34), Err(34)]);
+        assert_eq!(sequence(Atomic(1), pair.clone()).counted(1, &two), Ok(2));
+        assert_eq!(sequence(Atomic(1), pair).counted(1, &none), Err(35));
+        assert_eq!([0, 2].map(|goals| Atomic(1).counted(goals, &two)), [Err(34), Err(34)]);
     }
 
     #[test]

@@ -50,7 +50,7 @@ class Cause(enum.IntEnum):
     PREMISE_COUNT_DIFFERS = 7
     TACTIC_REDEFINED = 8
     LABEL_REPEATED = 9
-    NOT_VALID = 20
+    RULE_MISSING = 20
     REMAINING_DIFFER = 21
     JOINED_TOO_LONG = 22
     TACTIC_FAILED = 23
@@ -60,10 +60,23 @@ class Cause(enum.IntEnum):
     FLAT_WRONG = 27
     ENTRIES_TOO_MANY = 28
     WORK_TOO_SHORT = 29
+    GOAL_COUNT_WRONG = 34
+    GOALS_TOO_FEW = 35
     TEXT_WRONG = 36
     VALUE_TOO_LARGE = 37
     NO_EVALUATION = 41
     HEIGHT_OUTSIDE = 42
+
+    def reason(self):
+        """Why the hiproof of a proof does not validate, for a tool's users; None for any other refusal."""
+        return _REASONS.get(self)
+
+
+_REASONS = {
+    Cause.RULE_MISSING: "the table has no rule of this name for the goal that the rule gets",
+    Cause.GOAL_COUNT_WRONG: "a rule, id or label gets no goal or more than one, or an empty gets a goal",
+    Cause.GOALS_TOO_FEW: "a tensor gets fewer goals than its left term takes",
+}
 
 
 class Refusal(Exception):

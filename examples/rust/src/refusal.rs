@@ -14,7 +14,7 @@ pub enum Cause {
     PremiseCountDiffers = 7,
     TacticRedefined = 8,
     LabelRepeated = 9,
-    NotValid = 20,
+    RuleMissing = 20,
     RemainingDiffer = 21,
     JoinedTooLong = 22,
     TacticFailed = 23,
@@ -24,13 +24,15 @@ pub enum Cause {
     FlatWrong = 27,
     EntriesTooMany = 28,
     WorkTooShort = 29,
+    GoalCountWrong = 34,
+    GoalsTooFew = 35,
     TextWrong = 36,
     ValueTooLarge = 37,
     NoEvaluation = 41,
     HeightOutside = 42,
 }
 
-const CAUSES: [Cause; 23] = [
+const CAUSES: [Cause; 25] = [
     Cause::InputTooLong,
     Cause::FieldTorn,
     Cause::TagNotAllowed,
@@ -40,7 +42,7 @@ const CAUSES: [Cause; 23] = [
     Cause::PremiseCountDiffers,
     Cause::TacticRedefined,
     Cause::LabelRepeated,
-    Cause::NotValid,
+    Cause::RuleMissing,
     Cause::RemainingDiffer,
     Cause::JoinedTooLong,
     Cause::TacticFailed,
@@ -50,11 +52,25 @@ const CAUSES: [Cause; 23] = [
     Cause::FlatWrong,
     Cause::EntriesTooMany,
     Cause::WorkTooShort,
+    Cause::GoalCountWrong,
+    Cause::GoalsTooFew,
     Cause::TextWrong,
     Cause::ValueTooLarge,
     Cause::NoEvaluation,
     Cause::HeightOutside,
 ];
+
+impl Cause {
+    /// Why the hiproof of a proof does not validate, for a tool's users; nothing for any other refusal.
+    pub fn reason(self) -> Option<&'static str> {
+        match self {
+            Cause::RuleMissing => Some("the table has no rule of this name for the goal that the rule gets"),
+            Cause::GoalCountWrong => Some("a rule, id or label gets no goal or more than one, or an empty gets a goal"),
+            Cause::GoalsTooFew => Some("a tensor gets fewer goals than its left term takes"),
+            _ => None,
+        }
+    }
+}
 
 /// The file that a refusal points into.
 #[derive(Clone, Copy, Debug, PartialEq, Eq)]
