@@ -37,7 +37,7 @@ pub enum Reason {
     PremiseCountDiffers = 7,
     TacticDefinedTwice = 8,
     LabelUsedTwice = 9,
-    DoesNotValidate = 20,
+    RuleMissing = 20,
     RemainingGoalsDiffer = 21,
     JoinedListTooLong = 22,
     TacticFailed = 23,
@@ -47,6 +47,8 @@ pub enum Reason {
     FlatFileWrong = 27,
     TooManyEntries = 28,
     WorkSpaceTooShort = 29,
+    GoalCountWrong = 34,
+    GoalsTooFew = 35,
     NotInNotation = 36,
     ValueTooLarge = 37,
     NoEvaluation = 41,
@@ -72,7 +74,7 @@ pub struct Refusal {
 }
 
 impl Reason {
-    pub const ALL: [Reason; 23] = [
+    pub const ALL: [Reason; 25] = [
         Reason::InputTooLong,
         Reason::FieldTorn,
         Reason::TagNotAllowed,
@@ -82,7 +84,7 @@ impl Reason {
         Reason::PremiseCountDiffers,
         Reason::TacticDefinedTwice,
         Reason::LabelUsedTwice,
-        Reason::DoesNotValidate,
+        Reason::RuleMissing,
         Reason::RemainingGoalsDiffer,
         Reason::JoinedListTooLong,
         Reason::TacticFailed,
@@ -92,6 +94,8 @@ impl Reason {
         Reason::FlatFileWrong,
         Reason::TooManyEntries,
         Reason::WorkSpaceTooShort,
+        Reason::GoalCountWrong,
+        Reason::GoalsTooFew,
         Reason::NotInNotation,
         Reason::ValueTooLarge,
         Reason::NoEvaluation,
@@ -118,7 +122,7 @@ impl Reason {
             Reason::PremiseCountDiffers => "a rule has the name of an earlier rule and another count of premises",
             Reason::TacticDefinedTwice => "the tactic number is defined earlier",
             Reason::LabelUsedTwice => "the label is used earlier in the table's definitions",
-            Reason::DoesNotValidate => "the proof does not validate: this term cannot take its goals",
+            Reason::RuleMissing => "the proof does not validate: the table has no rule of this name for the goal",
             Reason::RemainingGoalsDiffer => "the stated remaining goals differ from those the proof leaves",
             Reason::JoinedListTooLong => "a tensor joins to more than 256 goals",
             Reason::TacticFailed => "the tactic failed",
@@ -128,6 +132,10 @@ impl Reason {
             Reason::FlatFileWrong => "this entry does not apply, or goals are pending at the file's end",
             Reason::TooManyEntries => "over 2,048 entries cannot be written back as a proof",
             Reason::WorkSpaceTooShort => "the work space is shorter than the size named for this entry",
+            Reason::GoalCountWrong => {
+                "the proof does not validate: this atomic, id or label has not exactly one goal, or this empty has any"
+            }
+            Reason::GoalsTooFew => "the proof does not validate: this tensor has fewer goals than its left part takes",
             Reason::NotInNotation => "no text of the notation goes on with this byte, or the text ends early",
             Reason::ValueTooLarge => "a value is over 65,535",
             Reason::NoEvaluation => "no evaluation at most that high exists with lists of at most 256 goals",

@@ -34,6 +34,11 @@ fn check_is_the_walk() {
         let mut uses = Vec::new();
         let given = give(&table, &term_at(&proof, hiproof), &goals_at(&proof, 0), &mut uses);
         match given {
+            // Which number it is instead of 20 is tested in reasons.rs.
+            Err((20, place)) => {
+                assert!(matches!(answer.number, 20 | 34 | 35));
+                assert_eq!(answer, refused(answer.number, 2, place as u32));
+            }
             Err((number, place)) => assert_eq!(answer, refused(number, 2, place as u32)),
             Ok(goals) if goals != goals_at(&proof, remaining) => {
                 assert_eq!(answer, refused(21, 2, remaining as u32));

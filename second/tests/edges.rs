@@ -55,14 +55,15 @@ fn a_tensor_whose_left_has_no_arity_fails() {
     assert_eq!(run(&table_a_with_all(), &job(&[20, 20, 30], &term), 4096).0, run_refused(23, 1));
 }
 
+/// With the numbers of P5.
 #[test]
 fn proofs_that_do_not_validate() {
     let a = table_a();
     let two = tensor(&id(), &id());
     assert_eq!(check(&a, &proof(&[10], &atomic(2), &[])), refused(20, 2, 5));
-    assert_eq!(check(&a, &proof(&[10], &two, &[])), refused(20, 2, 11));
-    assert_eq!(check(&a, &proof(&[10], &tensor(&two, &id()), &[])), refused(20, 2, 5));
-    assert_eq!(check(&a, &proof(&[10], &label(1, &empty()), &[])), refused(20, 2, 10));
+    assert_eq!(check(&a, &proof(&[10], &two, &[])), refused(34, 2, 11));
+    assert_eq!(check(&a, &proof(&[10], &tensor(&two, &id()), &[])), refused(35, 2, 5));
+    assert_eq!(check(&a, &proof(&[10], &label(1, &empty()), &[])), refused(34, 2, 10));
 }
 
 #[test]
@@ -104,5 +105,5 @@ fn no_goal_list_is_searched_or_split_by_luck() {
     assert_eq!(check_flat(&table_a(), &swapped), refused(27, 2, 12));
     // "giving a label an arity of its contents": [1]empty has arity 1.
     let term = tensor(&label(1, &empty()), &id());
-    assert_eq!(check(&table_a(), &proof(&[10], &term, &[10])), refused(20, 2, 13));
+    assert_eq!(check(&table_a(), &proof(&[10], &term, &[10])), refused(34, 2, 13));
 }

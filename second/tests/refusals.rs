@@ -193,18 +193,25 @@ fn numbers_6_to_9_come_one_after_the_other() {
 }
 
 #[test]
-fn number_20_names_the_first_term() {
+fn numbers_20_and_34_and_35_name_the_first_term() {
     let a = table_a();
     let at = |term: Vec<u8>, goals: &[u16]| check(&a, &proof(goals, &term, &[]));
-    assert_eq!(at(id(), &[]), refused(20, 2, 3));
-    assert_eq!(at(id(), &[10, 10]), refused(20, 2, 7));
-    assert_eq!(at(atomic(1), &[]), refused(20, 2, 3));
     assert_eq!(at(atomic(9), &[10]), refused(20, 2, 5));
-    assert_eq!(at(empty(), &[10]), refused(20, 2, 5));
-    assert_eq!(at(label(1, &id()), &[10, 10]), refused(20, 2, 7));
+    assert_eq!(at(atomic(2), &[10]), refused(20, 2, 5));
+    assert_eq!(at(id(), &[]), refused(34, 2, 3));
+    assert_eq!(at(id(), &[10, 10]), refused(34, 2, 7));
+    assert_eq!(at(atomic(1), &[]), refused(34, 2, 3));
+    assert_eq!(at(empty(), &[10]), refused(34, 2, 5));
+    assert_eq!(at(label(1, &id()), &[10, 10]), refused(34, 2, 7));
+    // B5.2: 34 before 20.
+    assert_eq!(at(atomic(9), &[10, 10]), refused(34, 2, 7));
     // A sequence never refuses by itself, and a tensor not for too many goals.
-    assert_eq!(at(sequence(&id(), &empty()), &[10]), refused(20, 2, 11));
-    assert_eq!(at(tensor(&id(), &id()), &[10, 10, 10]), refused(20, 2, 15));
+    assert_eq!(at(sequence(&id(), &empty()), &[10]), refused(34, 2, 11));
+    assert_eq!(at(tensor(&id(), &id()), &[10, 10, 10]), refused(34, 2, 15));
+    // READINGS A26: tested before the left part is walked.
+    assert_eq!(at(tensor(&tensor(&atomic(9), &id()), &id()), &[10]), refused(35, 2, 5));
+    // READINGS A29: no list is as long as this arity.
+    assert_eq!(at(tensor(&tensor_of(&vec![id(); 257]), &empty()), &[10; 256]), refused(35, 2, 515));
     // READINGS A30: a left part of arity 0 takes no goals.
     let left = sequence(&empty(), &empty());
     assert_eq!(check(&a, &proof(&[10], &tensor(&left, &id()), &[10])), accepted(5, 0, 1));

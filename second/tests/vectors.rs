@@ -20,8 +20,8 @@ fn possible_answers(entry: Entry) -> BTreeSet<(u32, u32)> {
         answers.extend((1..=5).map(|number| (number, 2)));
     }
     answers.extend(match entry {
-        Entry::Check => vec![(20, 2), (21, 2), (22, 2)],
-        Entry::Flatten => vec![(20, 2), (21, 2), (22, 2), (26, 0)],
+        Entry::Check => vec![(20, 2), (21, 2), (22, 2), (34, 2), (35, 2)],
+        Entry::Flatten => vec![(20, 2), (21, 2), (22, 2), (34, 2), (35, 2), (26, 0)],
         Entry::Run => vec![(22, 0), (23, 0), (24, 0), (25, 0), (26, 0)],
         Entry::CheckFlat => vec![(27, 2)],
         Entry::WriteProof => vec![(27, 2), (28, 2), (26, 0)],

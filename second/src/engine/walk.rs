@@ -92,26 +92,32 @@ impl Walk<'_> {
                     self.waiting.push(Waiting::SequenceRight(right));
                     term = left;
                 }
-                // Fewer goals than the left's arity: this tensor cannot take
-                // them, and its left is not walked (READINGS A26).
-                Term::Tensor(left, right) if goals.len() >= self.arities[left.0 as usize] => {
-                    let others = goals.split_off(self.arities[left.0 as usize]);
+                Term::Tensor(left, right) => {
+                    let arity = self.arities[left.0 as usize];
+                    // Tested before the left is walked. Too many goals fall on a
+                    // term of the right part (READINGS A26, B5.3).
+                    if goals.len() < arity {
+                        return Err(self.cannot_take(Reason::GoalsTooFew, term));
+                    }
+                    let others = goals.split_off(arity);
                     self.waiting.push(Waiting::TensorRight { tensor: term, right, others });
                     term = left;
                 }
-                _ => return Err(self.cannot_take(term)),
+                // An id or label without exactly one goal, an empty with any. A
+                // proof file has no tags 22 to 24.
+                _ => return Err(self.cannot_take(Reason::GoalCountWrong, term)),
             }
         }
     }
 
     /// "atomic: exactly one goal, with a rule of that name for it; gives the
-    /// premises in order."
+    /// premises in order." The count comes first: "34 before 20".
     fn take_atomic(&mut self, term: TermNumber, name: RuleName, mut goals: Leaves) -> Result<Leaves, Refusal> {
         let [leaf] = goals[..] else {
-            return Err(self.cannot_take(term));
+            return Err(self.cannot_take(Reason::GoalCountWrong, term));
         };
         let Some(premises) = self.table.premises(name, self.forest.goal(leaf)) else {
-            return Err(self.cannot_take(term));
+            return Err(self.cannot_take(Reason::RuleMissing, term));
         };
         goals.clear();
         goals.extend(self.forest.grow(leaf, name, premises));
@@ -141,9 +147,9 @@ impl Walk<'_> {
         Ok(left_gave)
     }
 
-    /// "20: hiproof does not validate; place of the first term in the walk that
-    /// cannot take its goals."
-    fn cannot_take(&self, term: TermNumber) -> Refusal {
-        Refusal::at(Reason::DoesNotValidate, InputFile::Other, self.proof.terms.place(term))
+    /// 20, 34 or 35 of P5, all at the "place of the first term in the walk that
+    /// cannot take its goals".
+    fn cannot_take(&self, reason: Reason, term: TermNumber) -> Refusal {
+        Refusal::at(reason, InputFile::Other, self.proof.terms.place(term))
     }
 }

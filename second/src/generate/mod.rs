@@ -16,6 +16,7 @@ pub mod random_search;
 pub mod random_table;
 pub mod random_text;
 pub mod reading;
+pub mod reasons;
 pub mod searches;
 pub mod texts;
 pub mod topics;
@@ -35,19 +36,26 @@ const KINDS_OF_FILE: [Entry; 7] =
 /// The same for the files that come with a table.
 const KINDS_WITH_TABLE: [Entry; 5] = [Entry::Check, Entry::Run, Entry::Flatten, Entry::CheckFlat, Entry::WriteProof];
 
+/// Gives an entry the file it takes besides the table, or takes alone.
+type FileMaker = fn(Entry, &mut Random, &RandomTable) -> Vec<u8>;
+
 /// A case for any entry: most of them small, some large, some at a limit.
 pub fn random_case(random: &mut Random) -> Case {
     let entry = *random.pick(&Entry::ALL);
     match random.below(20) {
         0 => random_case_at_a_limit(entry, random),
-        1 => random_case_of(entry, Size::Large, random),
-        _ => random_case_of(entry, Size::Small, random),
+        1 => random_case_with(other_file, entry, Size::Large, random),
+        _ => random_case_with(other_file, entry, Size::Small, random),
     }
 }
 
 /// A case for that entry: files that fit, damaged ones and foreign ones, with
 /// lent spaces and budgets that mostly suffice.
 pub fn random_case_of(entry: Entry, size: Size, random: &mut Random) -> Case {
+    random_case_with(other_file_of_vectors, entry, size, random)
+}
+
+fn random_case_with(other_file: FileMaker, entry: Entry, size: Size, random: &mut Random) -> Case {
     if !entry.takes_table() {
         return random_case_without_table(entry, size, random);
     }
@@ -65,7 +73,7 @@ fn random_case_without_table(entry: Entry, size: Size, random: &mut Random) -> C
     let kind_of_file = if random.chance(5) { *random.pick(&KINDS_OF_FILE) } else { entry };
     let other = if kind_of_file.takes_table() {
         let table = RandomTable::make(random, Size::Small);
-        other_file(kind_of_file, random, &table)
+        other_file_of_vectors(kind_of_file, random, &table)
     } else {
         other_file_without_table(kind_of_file, random, size)
     };
@@ -104,10 +112,21 @@ fn spoil(random: &mut Random, mut case: Case) -> Case {
     vary_lent_spaces(random, case)
 }
 
-/// A file of the kind the entry takes besides the table, or takes alone. Texts and
-/// term files do not depend on the table, only on its size, and some of them are
-/// damaged.
+/// A file of the kind the entry takes besides the table, or takes alone. Of the
+/// proofs a sixth has a term that mostly takes another number of goals than there
+/// are.
 pub fn other_file(entry: Entry, random: &mut Random, table: &RandomTable) -> Vec<u8> {
+    let takes_proof = matches!(entry, Entry::Check | Entry::Flatten);
+    if takes_proof && random.below(6) == 0 {
+        return random_file::random_miscounted_proof(random, table);
+    }
+    other_file_of_vectors(entry, random, table)
+}
+
+/// The same without the share of miscounted proofs, so that the vectors that stood
+/// before P5 keep their cases. Texts and term files do not depend on the table,
+/// only on its size, and some of them are damaged.
+pub fn other_file_of_vectors(entry: Entry, random: &mut Random, table: &RandomTable) -> Vec<u8> {
     match entry {
         Entry::Check | Entry::Flatten => random_file::random_proof(random, table),
         Entry::Run => random_file::random_job(random, table),
@@ -133,7 +152,7 @@ fn make_foreign(random: &mut Random, case: &mut Case) {
         2 => case.other = case.table.clone(),
         3 => {
             let entry = *random.pick(&KINDS_WITH_TABLE);
-            case.other = other_file(entry, random, &table);
+            case.other = other_file_of_vectors(entry, random, &table);
         }
         _ => case.other = (0..random.below(40)).map(|_| random.byte() % 36).collect(),
     }

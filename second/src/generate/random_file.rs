@@ -19,16 +19,34 @@ struct TermMaker<'a> {
     mistakes: usize,
     /// The chance, in percent, of an alternation, assert or defined tactic.
     tactics: usize,
+    /// At how many terms left one is made that mostly takes another number of
+    /// goals than there are; never if None.
+    miscount_at: Option<usize>,
 }
 
 pub fn random_proof(random: &mut Random, table: &RandomTable) -> Vec<u8> {
     let goals = table.random_goals(random);
-    let (term, mut given) = make_term(random, table, &goals, 0);
+    let made = make_term(random, table, &goals, 0);
+    proof_of(random, &goals, made)
+}
+
+/// A proof with a term somewhere that mostly takes another number of goals than
+/// there are: 34 and 35 of P5, deep in terms that fit otherwise.
+pub fn random_miscounted_proof(random: &mut Random, table: &RandomTable) -> Vec<u8> {
+    let goals = table.random_goals(random);
+    let terms_left = 1 + random_terms_left(random, table);
+    // A term uses up few of those it may have, so most places are near the root.
+    let miscount_at = Some(terms_left - 1 - random.below(terms_left.min(12)));
+    let made = TermMaker { random, table, terms_left, mistakes: 0, tactics: 0, miscount_at }.term_for(&goals);
+    proof_of(random, &goals, made)
+}
+
+fn proof_of(random: &mut Random, goals: &[u16], (term, mut given): TermAndGoals) -> Vec<u8> {
     given.truncate(MOST_GOALS);
     if random.chance(5) {
         given.pop();
     }
-    build::proof(&goals, &term, &given)
+    build::proof(goals, &term, &given)
 }
 
 pub fn random_job(random: &mut Random, table: &RandomTable) -> Vec<u8> {
@@ -44,16 +62,20 @@ pub fn random_job(random: &mut Random, table: &RandomTable) -> Vec<u8> {
 /// A tactic for these goals, and the goals it gives if nothing goes otherwise.
 pub fn term_for(random: &mut Random, table: &RandomTable, goals: &[u16]) -> TermAndGoals {
     let terms_left = *random.pick(&[0, 2, 5, 10, 20]);
-    TermMaker { random, table, terms_left, mistakes: 0, tactics: 20 }.term_for(goals)
+    TermMaker { random, table, terms_left, mistakes: 0, tactics: 20, miscount_at: None }.term_for(goals)
 }
 
 fn make_term(random: &mut Random, table: &RandomTable, goals: &[u16], tactics: usize) -> TermAndGoals {
-    let terms_left = match table.size {
+    let terms_left = random_terms_left(random, table);
+    let mistakes = *random.pick(&[0, 0, 0, 2, 5]);
+    TermMaker { random, table, terms_left, mistakes, tactics, miscount_at: None }.term_for(goals)
+}
+
+fn random_terms_left(random: &mut Random, table: &RandomTable) -> usize {
+    match table.size {
         Size::Small => *random.pick(&[2, 5, 10, 20, 40, 40, 120]),
         Size::Large => random.below(1_200),
-    };
-    let mistakes = *random.pick(&[0, 0, 0, 2, 5]);
-    TermMaker { random, table, terms_left, mistakes, tactics }.term_for(goals)
+    }
 }
 
 impl TermMaker<'_> {
@@ -62,6 +84,9 @@ impl TermMaker<'_> {
             return (build::tensor_of(&vec![build::id(); goals.len()]), goals.to_vec());
         }
         self.terms_left -= 1;
+        if self.miscount_at == Some(self.terms_left) {
+            return self.miscount(goals);
+        }
         if self.random.chance(self.mistakes) {
             return self.mistake(goals);
         }
@@ -144,6 +169,25 @@ impl TermMaker<'_> {
             3 => build::label(1, &build::empty()),
             4 => build::tensor(&build::tensor(&build::id(), &build::id()), &build::empty()),
             _ => build::sequence(&build::id(), &build::atomic(name)),
+        };
+        (term, goals.to_vec())
+    }
+
+    /// A single term on whatever goals there are, a tensor whose left part takes
+    /// more than there are, or one whose right part is left with too many.
+    fn miscount(&mut self, goals: &[u16]) -> TermAndGoals {
+        let ids = |count: usize| build::tensor_of(&vec![build::id(); count]);
+        let one_or_more = 1 + self.random.below(3);
+        let term = match self.random.below(9) {
+            0 => build::atomic(*self.random.pick(&self.table.names)),
+            1 => build::atomic(self.random.value()),
+            2 => build::id(),
+            3 => build::label(1, &ids(goals.len())),
+            4 => build::empty(),
+            5 => build::tensor(&ids(goals.len() + one_or_more), &build::empty()),
+            6 => build::sequence(&build::tensor(&ids(goals.len() + one_or_more), &build::id()), &build::id()),
+            7 => ids(goals.len() + one_or_more),
+            _ => ids(goals.len().saturating_sub(one_or_more)),
         };
         (term, goals.to_vec())
     }

@@ -4,7 +4,9 @@ use super::build::*;
 use super::case::{Case, Entry};
 use super::random::Random;
 use super::random_table::{RandomTable, Size};
-use super::{damage, examples, limit_files, other_file, positions, random_case_of, reading, searches, texts};
+use super::{
+    damage, examples, limit_files, other_file_of_vectors, positions, random_case_of, reading, reasons, searches, texts,
+};
 use crate::limits::MOST_BUDGET;
 
 /// File names in the folder crates/replay_vectors/data, with their cases.
@@ -22,6 +24,7 @@ pub fn vector_set() -> Vec<(&'static str, Vec<Case>)> {
         ("read-text.vec", read_text()),
         ("write-text.vec", write_text()),
         ("search.vec", search()),
+        ("reasons.vec", reasons::cases()),
     ]
 }
 
@@ -105,7 +108,7 @@ fn damaged_cases(entry: Entry, random: &mut Random, count: usize) -> Vec<Case> {
     (0..count)
         .map(|_| {
             let table = RandomTable::make(random, Size::Small);
-            let other = other_file(entry, random, &table);
+            let other = other_file_of_vectors(entry, random, &table);
             Case::new(entry, &table.bytes(), &damage::damage(random, &other))
         })
         .collect()

@@ -5,6 +5,7 @@
 use second::generate::build;
 
 pub mod notation;
+pub mod reasons;
 pub mod search;
 
 pub enum Term {
@@ -114,7 +115,9 @@ pub fn hiproof_arity(term: &Placed) -> usize {
     }
 }
 
-/// "A term takes a goal list and gives one." The refusal is number and place.
+/// "A term takes a goal list and gives one." The refusal is number and place, as
+/// document 01 has them: 20 for every term that cannot take its goals. `reasons`
+/// has P5's numbers.
 /// Every atomic term with its goal is added to `uses` in the order of the walk.
 pub fn give(table: &Table, term: &Placed, goals: &[u16], uses: &mut Vec<(u16, u16)>) -> Result<Vec<u16>, (u32, usize)> {
     let cannot = Err((20, term.place));
