@@ -106,6 +106,7 @@ pub fn run() {
     differences += replay_file(b"read-text.vec");
     differences += replay_file(b"write-text.vec");
     differences += replay_file(b"search.vec");
+    differences += replay_file(b"reasons.vec");
     print_count(b"all differences ", differences);
     io::write_all(STDOUT_FILENO, b"\n");
 }
