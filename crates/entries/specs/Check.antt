@@ -29,7 +29,7 @@ sameGoals (γ ∷ g) (δ ∷ h) = sameGoal γ δ && sameGoals g h
 unfoldable pub remainingAre : {A : Type 0} → Proof → A → List Goal → Result A
 remainingAre p a h = cond (sameGoals h (p .remaining)) (gives a) (refused remainingDiffer (remainingPlace p))
 
--- the walk on the stated goals, with its 20 and 22, then 21
+-- the walk on the stated goals, with its 20, 22, 34 and 35, then 21
 unfoldable pub checked : {A : Type 0} → Table → Proof → A → Result A
 checked T p a = andThen (walk T (p .term) (termPlace p) (p .goals)) (remainingAre p a)
 

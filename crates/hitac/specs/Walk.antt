@@ -14,13 +14,13 @@ use Rattle.tables.specs.Tables.{Table}
 use Rattle.tables.specs.Lookup.{FoundRule, findRule}
 use Rattle.hitac.specs.Hiproofs.{inputArity}
 
--- "exactly one goal"; else the term cannot take its goals
+-- "exactly one goal"; else document 02, P5: "34, an atomic, id or label without exactly one goal"
 unfoldable pub onOneGoal : (place : ℕ) → (Goal → Result (List Goal)) → List Goal → Result (List Goal)
 onOneGoal p next [] = refused goalCountWrong p
 onOneGoal p next (γ ∷ []) = next γ
 onOneGoal p next (γ ∷ δ ∷ g) = refused goalCountWrong p
 
--- "Empty: none, gives none."
+-- "Empty: none, gives none."; 34 is for "an empty with any" too
 unfoldable pub onNoGoal : (place : ℕ) → List Goal → Result (List Goal)
 onNoGoal p [] = gives []
 onNoGoal p (γ ∷ g) = refused goalCountWrong p
@@ -39,7 +39,8 @@ joined p g = cond (tooLong g) (refused joinedTooLong p) (gives g)
 
 -- "A term takes a goal list and gives one": the term whose field is at place p, on the goals g.
 -- An inner term's field begins behind the header and the values in front of it: 5 bytes in a label, 3 in a sequence or tensor.
--- The last three forms stand in no hiproof; should one be walked, it is a term that cannot take its goals.
+-- "35, a tensor with fewer goals than its left part's arity", before that part is walked; "20 stays for one goal without a rule of that name".
+-- The last three forms stand in no hiproof; should one be walked, it is refused like a term with other goals than it takes.
 unfoldable pub walk : Table → Term → (place : ℕ) → List Goal → Result (List Goal)
 walk T (atomic a) p g = onOneGoal p (λ γ. premisesOr ruleMissing p (findRule T a γ)) g
 walk T id p g = onOneGoal p (λ γ. gives (γ ∷ [])) g
