@@ -76,7 +76,7 @@ edges =
     & refl & refl & refl & refl & refl & refl & refl & refl & refl & refl & refl & refl
     & refl & refl & refl & refl & refl & refl & refl & refl & refl & refl & refl & refl
     & refl & refl & refl & refl & refl & refl & refl & refl & refl & refl & refl & refl
-    & refl & refl & refl & refl & no-more
+    & refl & refl & refl & refl & refl & refl & refl & refl & refl & refl & no-more
 
 pub texts : AllHold textLines
 unfolding word termBytes headerAt leaf pair closed contents termOf readTerm number andThen rows findRow rowOf kindOf leastOf mostOf innerOf lengthFits size fields lastTermOf readLastTerm readTermFile isDigit chain bracketedIf marksOf digits decimal markBytes textOf N.written numberIn markAt withMark marksIn reducedTerm reducedFrames unbracket onMark stateOf wholeOf F.termOf completes beginsNumbered isSign onDue onHad digitMore leafEnds onDigits labelEnds onLabelDigits onBegun onLabelBegun onHalf stepIn S.step finished endIn atEnd scan termFound parse Holds readTextOutcome writeTextOutcome textLines

@@ -59,7 +59,7 @@ unfoldable pub sideBySideOr : ℕ → List ℕ
 sideBySideOr zero = []
 sideBySideOr (suc n) = jobBytes (record { goals = replicate (suc n) (goal 40); term = alternation (beside n) id })
 
--- "Starred ones are proved."
+-- "Starred ones are proved.", and with them the label case that P5 changes, which has no star
 unfoldable pub starredLines : List Line
 starredLines =
     -- "T3 on 10, budget 19: proof ([1](1 ; (2 ⊗ id))) ; (id ; [2]3), none remaining, 19 steps"
@@ -139,15 +139,27 @@ edgeLines =
     ∷ checks (2 ∷ 0 ∷ 15 ∷ 0 ∷ 1 ∷ 18 ∷ 0 ∷ 10 ∷ 0 ∷ 5 ∷ 18 ∷ 0 ∷ 5 ∷ 0 ∷ 5 ∷ 17 ∷ 0 ∷ 0 ∷ []) [] (refusal labelRepeated tableFile 10 0)
     -- 9: a label of an earlier body, at the label
     ∷ checks (2 ∷ 0 ∷ 10 ∷ 0 ∷ 1 ∷ 18 ∷ 0 ∷ 5 ∷ 0 ∷ 5 ∷ 17 ∷ 0 ∷ 0 ∷ 2 ∷ 0 ∷ 16 ∷ 0 ∷ 2 ∷ 19 ∷ 0 ∷ 11 ∷ 17 ∷ 0 ∷ 0 ∷ 18 ∷ 0 ∷ 5 ∷ 0 ∷ 5 ∷ 17 ∷ 0 ∷ 0 ∷ []) [] (refusal labelRepeated tableFile 24 0)
+    -- 20: one goal, and no rule of that name at all
+    ∷ checksAs tableA (3 ∷ 0 ∷ 2 ∷ 0 ∷ 10 ∷ 16 ∷ 0 ∷ 2 ∷ 0 ∷ 9 ∷ 3 ∷ 0 ∷ 0 ∷ []) (answer.refusal 20 2 5 0)
+    -- 34 before 20: an atomic that no rule has the name of, on two goals
+    ∷ checksAs tableA (3 ∷ 0 ∷ 4 ∷ 0 ∷ 10 ∷ 0 ∷ 10 ∷ 16 ∷ 0 ∷ 2 ∷ 0 ∷ 9 ∷ 3 ∷ 0 ∷ 0 ∷ []) (answer.refusal 34 2 7 0)
+    -- 34: an empty on two goals
+    ∷ checksAs [] (3 ∷ 0 ∷ 4 ∷ 0 ∷ 10 ∷ 0 ∷ 10 ∷ 21 ∷ 0 ∷ 0 ∷ 3 ∷ 0 ∷ 0 ∷ []) (answer.refusal 34 2 7 0)
+    -- 34: a label on no goal
+    ∷ checksAs [] (3 ∷ 0 ∷ 0 ∷ 18 ∷ 0 ∷ 5 ∷ 0 ∷ 1 ∷ 21 ∷ 0 ∷ 0 ∷ 3 ∷ 0 ∷ 0 ∷ []) (answer.refusal 34 2 3 0)
+    -- 35: a tensor on no goal
+    ∷ checksAs [] (3 ∷ 0 ∷ 0 ∷ 20 ∷ 0 ∷ 6 ∷ 17 ∷ 0 ∷ 0 ∷ 17 ∷ 0 ∷ 0 ∷ 3 ∷ 0 ∷ 0 ∷ []) (answer.refusal 35 2 3 0)
+    -- a sequence has neither 34 nor 35: (id ⊗ id) ; id on one goal, at the second id
+    ∷ checksAs [] (3 ∷ 0 ∷ 2 ∷ 0 ∷ 10 ∷ 19 ∷ 0 ∷ 12 ∷ 20 ∷ 0 ∷ 6 ∷ 17 ∷ 0 ∷ 0 ∷ 17 ∷ 0 ∷ 0 ∷ 17 ∷ 0 ∷ 0 ∷ 3 ∷ 0 ∷ 0 ∷ []) (answer.refusal 34 2 14 0)
     -- 34 before 20: an atomic that no rule has the name of, on no goal
     ∷ checksAs [] (3 ∷ 0 ∷ 0 ∷ 16 ∷ 0 ∷ 2 ∷ 0 ∷ 9 ∷ 3 ∷ 0 ∷ 0 ∷ []) (answer.refusal 34 2 3 0)
     -- 34: a label on two goals
     ∷ checksAs [] (3 ∷ 0 ∷ 4 ∷ 0 ∷ 10 ∷ 0 ∷ 10 ∷ 18 ∷ 0 ∷ 5 ∷ 0 ∷ 1 ∷ 17 ∷ 0 ∷ 0 ∷ 3 ∷ 0 ∷ 0 ∷ []) (answer.refusal 34 2 7 0)
-    -- goals too many for a tensor fall on a term of its right part: id ⊗ id on three
+    -- goals too many for a tensor are 34 at a term of its right part: id ⊗ id on three
     ∷ checksAs [] (3 ∷ 0 ∷ 6 ∷ 0 ∷ 10 ∷ 0 ∷ 10 ∷ 0 ∷ 10 ∷ 20 ∷ 0 ∷ 6 ∷ 17 ∷ 0 ∷ 0 ∷ 17 ∷ 0 ∷ 0 ∷ 3 ∷ 0 ∷ 0 ∷ []) (answer.refusal 34 2 15 0)
     -- 35 before the left part is walked: (9 ⊗ id) ⊗ id on one goal, where the walk of 9 would be 20
     ∷ checksAs [] (3 ∷ 0 ∷ 2 ∷ 0 ∷ 10 ∷ 20 ∷ 0 ∷ 14 ∷ 20 ∷ 0 ∷ 8 ∷ 16 ∷ 0 ∷ 2 ∷ 0 ∷ 9 ∷ 17 ∷ 0 ∷ 0 ∷ 17 ∷ 0 ∷ 0 ∷ 3 ∷ 0 ∷ 0 ∷ []) (answer.refusal 35 2 5 0)
-    -- a flattener that is lent enough has the same numbers
+    -- the flattener refuses for the same cause
     ∷ flattens [] (3 ∷ 0 ∷ 0 ∷ 17 ∷ 0 ∷ 0 ∷ 3 ∷ 0 ∷ 0 ∷ []) (refusal goalCountWrong otherFile 3 0)
     -- a label inside a tensor takes one goal
     ∷ checks tableA (3 ∷ 0 ∷ 4 ∷ 0 ∷ 20 ∷ 0 ∷ 30 ∷ 20 ∷ 0 ∷ 15 ∷ 18 ∷ 0 ∷ 7 ∷ 0 ∷ 7 ∷ 16 ∷ 0 ∷ 2 ∷ 0 ∷ 2 ∷ 16 ∷ 0 ∷ 2 ∷ 0 ∷ 3 ∷ 3 ∷ 0 ∷ 0 ∷ []) (done (counts 4 2 0))

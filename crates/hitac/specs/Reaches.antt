@@ -1,5 +1,5 @@
 -- Document 01, "20: .. place of the first term in the walk that cannot take its goals", and document 02, P5, which has a number for each reason: the terms that a walk comes to,
--- and those that cannot take the goals with which it comes. `Stops` says the same rule by rule; the two are proved equal.
+-- and those that cannot take the goals with which it comes. `Stops` says the same rule by rule, and 22 besides; but for 22 the two are proved equal.
 use Prim.Native.Nat.{ℕ, _+_, _<_}
 use mathlib.Core.Path.{_≡_}
 use mathlib.Core.List.{List, [], _∷_, _++_}

@@ -191,9 +191,6 @@ remaining-behind x = refl
 
 -- demand 1, for every entry that checks a proof: its own refusals are those of the walk, then 21
 module _ {B : Type 0} (t p : List ℕ) (T : Table) (x : Proof) (f : readProof p ≡ gives x) (v : B) where
-  in-range : (c : Cause) (q : ℕ) → StopNumber (number c) → q < length p → CheckRefuses p (number c) q
-  in-range c q m l = (inl m, l)
-
   agreeing : (l : List Goal) → sameGoals l (x .remaining) ≡ true → remainingAre x v l ≡ gives v
   unfolding remainingAre
   agreeing l s = rw s
@@ -227,7 +224,7 @@ module _ {B : Type 0} (t p : List ℕ) (T : Table) (x : Proof) (f : readProof p 
       let y = proof-stands p x f .hiproof in
       moved b c i q
       (sym (stopped-so b i g) ∙ h)
-      (in-range b i (walk-number T (x .term) y (termPlace x) (x .goals) g) (omega (arith, walk-place T (x .term) y (termPlace x) (x .goals) g, proof-stands p x f .end-is, remaining-behind x)))
+      (inl (walk-number T (x .term) y (termPlace x) (x .goals) g), omega (arith, walk-place T (x .term) y (termPlace x) (x .goals) g, proof-stands p x f .end-is, remaining-behind x))
 
 pub proof-comes : {B : Type 0} (value : Table → Proof → B) (t p : List ℕ) → Comes t p (CheckRefuses p) (onProof value t p)
 unfolding onProof

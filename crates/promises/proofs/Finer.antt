@@ -28,14 +28,17 @@ use Rattle.answers.specs.Answers as answer
 use Rattle.entries.specs.Outcomes.{Outcome, success, refusal, inFile, done, tableFile, otherFile}
 use Rattle.entries.specs.LentSpace.{Counts, countedAnswer, checkIn, Written, writeOut, writeIn}
 use Rattle.entries.specs.Check.{sameGoals, remainingAre, checked, onProof, proofCounts, forestFile, checkWork, flattenWork, check, flatten}
-use Rattle.promises.specs.Finer.{oneGoalBefore, noGoalBefore, walkBefore, onProofBefore, checkBefore, flattenBefore, Finer, unchanged, refined, Check-finer, Flatten-finer}
+use Rattle.promises.proofs.OutcomeLaws.{both-in-file}
+use Rattle.promises.specs.Finer.{oneGoalBefore, noGoalBefore, walkBefore, onProofBefore, checkBefore, flattenBefore, Reason, Finer, unchanged, refined, Check-finer, Flatten-finer}
 
--- a number of before other than 20; a number that a 20 became
+-- a number of before other than 20
 abbrev Kept : ℕ → Type 0
-Kept n = (n ≤ 29) × (n ≡ 20 → ⊥)
+Kept n = Reason n → ⊥
 
-abbrev Reason : ℕ → Type 0
-Reason n = (n ≡ 20) ⊎ ((n ≡ 34) ⊎ (n ≡ 35))
+kept : (n : ℕ) → n ≤ 29 → (n ≡ 20 → ⊥) → Kept n
+kept n l z (inl e) = z e
+kept n l z (inr (inl e)) = omega (arith, l)
+kept n l z (inr (inr e)) = omega (arith, l)
 
 -- what a walk came to before, and what it comes to
 data FinerResult {A : Type 0} : Result A → Result A → Type 0 where
@@ -79,7 +82,7 @@ unfolding joined number
 finer-joined p g = by-test (tooLong g)
   where
     by-test : (b : Bool) → FinerResult (cond b (refused joinedTooLong p) (gives g)) (cond b (refused joinedTooLong p) (gives g))
-    by-test true = same-refusal joinedTooLong p (omega arith, (λ z. omega arith))
+    by-test true = same-refusal joinedTooLong p (kept _ (omega arith) (λ z. omega arith))
     by-test false = same-value g
 
 finer-walk : (T : Table) (s : Term) (p : ℕ) (g : List Goal) → FinerResult (walkBefore T s p g) (walk T s p g)
@@ -103,7 +106,7 @@ finer-remaining {A} x a h = by-comparison (sameGoals h (x .remaining))
   where
     by-comparison : (b : Bool) → FinerResult {A = A} (cond b (gives a) (refused remainingDiffer (remainingPlace x))) (cond b (gives a) (refused remainingDiffer (remainingPlace x)))
     by-comparison true = same-value a
-    by-comparison false = same-refusal remainingDiffer (remainingPlace x) (omega arith, (λ z. omega arith))
+    by-comparison false = same-refusal remainingDiffer (remainingPlace x) (kept _ (omega arith) (λ z. omega arith))
 
 -- the same of a call on two files, before lent space is looked at
 data FinerOutcome {A : Type 0} : Outcome A → Outcome A → Type 0 where
@@ -116,29 +119,18 @@ in-proof (same-value a) = same-success a
 in-proof (same-refusal c q k) = same-outcome c otherFile q k
 in-proof (finer-refusal c q k) = finer-outcome c q k
 
-module _ {A : Type 0} (value : Table → Proof → A) (t p : List ℕ) where
-  by-proof : (T : Table) (r : Result Proof) → readProof p ≡ r
-      → FinerOutcome
-      (inFile otherFile r (λ x. inFile otherFile (andThen (walkBefore T (x .term) (termPlace x) (x .goals)) (remainingAre x (value T x))) done))
-      (inFile otherFile r (λ x. inFile otherFile (checked T x (value T x)) done))
-  unfolding checked
-  by-proof T (gives x) f = in-proof (finer-then (finer-walk T (x .term) (termPlace x) (x .goals)) (λ h. finer-remaining x (value T x) h))
-  by-proof T (refused c q) f = let b = Proof-refused p c q f in same-outcome c otherFile q (omega (arith, b .most), (λ z. omega (arith, b .most)))
-
-  on-proof : FinerOutcome (onProofBefore value t p) (onProof value t p)
-  unfolding onProofBefore onProof
-  on-proof = by-table (readTable t) refl
-    where
-      by-table : (r : Result Table) → readTable t ≡ r
-          → FinerOutcome
-          (inFile tableFile r (λ T. inFile otherFile (readProof p) (λ x. inFile otherFile (andThen (walkBefore T (x .term) (termPlace x) (x .goals)) (remainingAre x (value T x))) done)))
-          (inFile tableFile r (λ T. inFile otherFile (readProof p) (λ x. inFile otherFile (checked T x (value T x)) done)))
-      by-table (gives T) e = by-proof T (readProof p) refl
-      by-table (refused c q) e = let b = table-place t c q e in same-outcome c tableFile q (omega (arith, b .most), (λ z. omega (arith, b .most)))
+on-proof : {A : Type 0} (value : Table → Proof → A) (t p : List ℕ) → FinerOutcome (onProofBefore value t p) (onProof value t p)
+unfolding onProofBefore onProof checked
+on-proof value t p =
+    both-in-file FinerOutcome tableFile (readTable t)
+    (λ c q e. let b = table-place t c q e in same-outcome c tableFile q (kept _ (omega (arith, b .most)) (λ z. omega (arith, b .most))))
+    (λ T. both-in-file FinerOutcome otherFile (readProof p)
+    (λ c q e. let b = Proof-refused p c q e in same-outcome c otherFile q (kept _ (omega (arith, b .most)) (λ z. omega (arith, b .most))))
+    (λ x. in-proof (finer-then (finer-walk T (x .term) (termPlace x) (x .goals)) (λ h. finer-remaining x (value T x) h))))
 
 -- a refusal of before, and a 20 of before, as answers
 same-answer : (n f q k : ℕ) → Kept n → Finer (answer.refusal n f q k) (answer.refusal n f q k)
-same-answer n f q k (l, z) = unchanged (answer.refusal n f q k) l z
+same-answer n f q k z = unchanged (answer.refusal n f q k) z
 
 twenty : (c : Cause) (q : ℕ) → Reason (number c) → Finer (answer.refusal (number ruleMissing) 2 q 0) (answer.refusal (number c) 2 q 0)
 unfolding number
@@ -146,7 +138,7 @@ twenty c q k = refined (number c) q k
 
 -- an entry that writes nothing, with any work space
 counted-finer : {o o′ : Outcome Counts} → FinerOutcome o o′ → Finer (countedAnswer o) (countedAnswer o′)
-counted-finer (same-success c) = unchanged (answer.counted (c .fields) (c .uses) (c .remaining)) (omega arith) (λ z. omega arith)
+counted-finer (same-success c) = unchanged (answer.counted (c .fields) (c .uses) (c .remaining)) (kept 0 (omega arith) (λ z. omega arith))
 counted-finer (same-outcome c f q k) = same-answer (number c) f q 0 k
 counted-finer (finer-outcome c q k) = twenty c q k
 
@@ -155,7 +147,7 @@ unfolding checkIn number
 checked-finer size w {o} {o′} x = by-space (decLt (length w) size)
   where
     by-space : Dec (length w < size) → Finer (checkIn size w o .answer) (checkIn size w o′ .answer) × (checkIn size w o .work ≡ checkIn size w o′ .work)
-    by-space (yes h) = rw (lt-ltb (length w) size h) (same-answer 29 0 0 0 (omega arith, (λ z. omega arith)), refl)
+    by-space (yes h) = rw (lt-ltb (length w) size h) (same-answer 29 0 0 0 (kept _ (omega arith) (λ z. omega arith)), refl)
     by-space (no h) = rw (le-ltb (length w) size (omega arith)) (counted-finer x, refl)
 
 pub check-finer : Check-finer
@@ -169,8 +161,8 @@ module _ (w v : List ℕ) where
 
   by-output : (b : List ℕ) → Dec (length v < length b) → FinerWritten (writeOut w v (done b)) (writeOut w v (done b))
   unfolding writeOut number
-  by-output b (yes h) = rw (lt-ltb (length v) (length b) h) (same-answer 26 0 0 0 (omega arith, (λ z. omega arith)), refl, refl)
-  by-output b (no h) = rw (le-ltb (length v) (length b) (omega arith)) (unchanged (answer.wrote (length b) 0) (omega arith) (λ z. omega arith), refl, refl)
+  by-output b (yes h) = rw (lt-ltb (length v) (length b) h) (same-answer 26 0 0 0 (kept _ (omega arith) (λ z. omega arith)), refl, refl)
+  by-output b (no h) = rw (le-ltb (length v) (length b) (omega arith)) (unchanged (answer.wrote (length b) 0) (kept 0 (omega arith) (λ z. omega arith)), refl, refl)
 
   by-outcome : {o o′ : Outcome (List ℕ)} → FinerOutcome o o′ → FinerWritten (writeOut w v o) (writeOut w v o′)
   unfolding writeOut
@@ -183,7 +175,7 @@ module _ (w v : List ℕ) where
   written-finer size {o} {o′} x = by-space (decLt (length w) size)
     where
       by-space : Dec (length w < size) → FinerWritten (writeIn size w v o) (writeIn size w v o′)
-      by-space (yes h) = rw (lt-ltb (length w) size h) (same-answer 29 0 0 0 (omega arith, (λ z. omega arith)), refl, refl)
+      by-space (yes h) = rw (lt-ltb (length w) size h) (same-answer 29 0 0 0 (kept _ (omega arith) (λ z. omega arith)), refl, refl)
       by-space (no h) = rw (le-ltb (length w) size (omega arith)) (by-outcome x)
 
 pub flatten-finer : Flatten-finer

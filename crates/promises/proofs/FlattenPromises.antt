@@ -46,7 +46,7 @@ use Rattle.promises.specs.CheckPromises.{CheckRefuses}
 use Rattle.promises.specs.WriteProofPromises.{wrote}
 use Rattle.promises.specs.FlattenPromises.{derivationOf, plain, FlattensRight, Flattens-right, Flatten-refuses, Flatten-ends}
 use Rattle.promises.proofs.LentLaws.{answered, ends-written}
-use Rattle.promises.proofs.OutcomeLaws.{written-ends}
+use Rattle.promises.proofs.OutcomeLaws.{both-in-file, written-ends}
 use Rattle.promises.proofs.CheckPromises.{proof-comes}
 use Rattle.promises.proofs.FlattenedWithin.{derived-values, plain-values}
 
@@ -171,18 +171,11 @@ module _ {A B : Type 0} (value : Table → Proof → A) (other : Table → Proof
       by-walk (gives h) = by-comparison (sameGoals h (x .remaining))
       by-walk (refused c q) = both-refused c otherFile q
 
-  proof-alike : (T : Table) (r : Result Proof) → Alike (inFile otherFile r (λ x. inFile otherFile (checked T x (value T x)) done)) (inFile otherFile r (λ x. inFile otherFile (checked T x (other T x)) done))
-  proof-alike T (gives x) = checked-alike T x
-  proof-alike T (refused c q) = both-refused c otherFile q
-
-  table-alike : (p : List ℕ) (r : Result Table)
-      → Alike (inFile tableFile r (λ T. inFile otherFile (readProof p) (λ x. inFile otherFile (checked T x (value T x)) done))) (inFile tableFile r (λ T. inFile otherFile (readProof p) (λ x. inFile otherFile (checked T x (other T x)) done)))
-  table-alike p (gives T) = proof-alike T (readProof p)
-  table-alike p (refused c q) = both-refused c tableFile q
-
   alike : (t p : List ℕ) → Alike (onProof value t p) (onProof other t p)
   unfolding onProof
-  alike t p = table-alike p (readTable t)
+  alike t p =
+      both-in-file Alike tableFile (readTable t) (λ c q e. both-refused c tableFile q)
+      (λ T. both-in-file Alike otherFile (readProof p) (λ c q e. both-refused c otherFile q) (λ x. checked-alike T x))
 
 refused-alike : (o : List ℕ) {c : Outcome Counts} {f : Outcome (List ℕ)} → Alike c f → (countedAnswer c .number ≡ 0 → ⊥) → leftIn o f .answer ≡ countedAnswer c
 unfolding writeOut

@@ -56,3 +56,9 @@ written-ends (comes-done a) = tt
 written-ends (comes-table c q l m w) = ended.EndedWriting.ended-table (number c) q l m w
 written-ends (comes-other c q l m w) = ended.EndedWriting.ended-other (number c) q l m w
 written-ends (comes-own c q x) = ended.EndedWriting.ended-own (number c) 2 q 0 (refl, refl, x)
+
+-- two calls that read the same file: refused alike, or related in what follows
+pub both-in-file : {A B X : Type 0} (R : Outcome A → Outcome B → Type 0) (file : ℕ) (r : Result X) {next : X → Outcome A} {other : X → Outcome B}
+    → ((c : Cause) (q : ℕ) → r ≡ refused c q → R (refusal c file q 0) (refusal c file q 0)) → ((x : X) → R (next x) (other x)) → R (inFile file r next) (inFile file r other)
+both-in-file R file (gives x) same more = more x
+both-in-file R file (refused c q) same more = same c q refl

@@ -28,8 +28,8 @@ abbrev pub Check-counts : Type 0
 Check-counts = (t p w : List ℕ) → checkWork ≤ length w → (a : Accepted t p)
     → check t p w .answer ≡ answer.counted (fields (a .the-proof .term)) (atomics (a .the-proof .term)) (length (a .the-proof .remaining))
 
--- 20, 22, 34 and 35 with their places exactly where the rules of `Stops` say; 20, 34 or 35 exactly by the reason why the first term in the walk that cannot take its goals cannot;
--- and 21 exactly if the walk gives other goals than the remaining ones
+-- 20, 22, 34 and 35 with their places exactly where the rules of `Stops` say; 20, 34 or 35 with its place exactly by the first term in the walk that cannot take its goals, and why
+-- (`FirstRefused`); and 21 exactly if the walk gives other goals than the remaining ones
 pub record Refuses (t p w : List ℕ) (T : Table) (x : Proof) : Type 0 where
   pub stops : (n q : ℕ) → Stops (HasRule T) (x .term) (termPlace x) (x .goals) n q → check t p w .answer ≡ answer.refusal n 2 q 0
   pub stopped : (n q : ℕ) → (n ≡ 21 → ⊥) → check t p w .answer ≡ answer.refusal n 2 q 0 → Stops (HasRule T) (x .term) (termPlace x) (x .goals) n q

@@ -1,5 +1,5 @@
--- Document 02, P5: what the finer reasons change in the answers of check and flatten, and that nothing else does. The entries as they stood before are kept here, over document 01's walk.
-use Prim.Native.Nat.{ℕ, _+_, _≤_}
+-- Document 02, P5: what the finer reasons change in the answers of check and flatten, and that nothing else changes. The entries as they stood before are kept here, over document 01's walk.
+use Prim.Native.Nat.{ℕ, _+_}
 use mathlib.Core.Path.{_≡_}
 use mathlib.Core.Bool.{cond}
 use mathlib.Core.Logic.{_⊎_}
@@ -23,18 +23,18 @@ use Rattle.entries.specs.LentSpace.{Checked, checkIn, Written, writeIn}
 use Rattle.entries.specs.Check.{remainingAre, proofCounts, forestFile, checkWork, flattenWork, check, flatten}
 
 -- "20: hiproof does not validate; place of the first term in the walk that cannot take its goals", for whatever reason: the cause that still has the number 20
-abbrev pub cannotTake : (place : ℕ) → Result (List Goal)
-cannotTake p = refused ruleMissing p
+abbrev pub refusedBefore : (place : ℕ) → Result (List Goal)
+refusedBefore p = refused ruleMissing p
 
 -- the walk before P5: one number for every term that cannot take its goals
 unfoldable pub oneGoalBefore : (place : ℕ) → (Goal → Result (List Goal)) → List Goal → Result (List Goal)
-oneGoalBefore p next [] = cannotTake p
+oneGoalBefore p next [] = refusedBefore p
 oneGoalBefore p next (γ ∷ []) = next γ
-oneGoalBefore p next (γ ∷ δ ∷ g) = cannotTake p
+oneGoalBefore p next (γ ∷ δ ∷ g) = refusedBefore p
 
 unfoldable pub noGoalBefore : (place : ℕ) → List Goal → Result (List Goal)
 noGoalBefore p [] = gives []
-noGoalBefore p (γ ∷ g) = cannotTake p
+noGoalBefore p (γ ∷ g) = refusedBefore p
 
 unfoldable pub walkBefore : Table → Term → (place : ℕ) → List Goal → Result (List Goal)
 walkBefore T (atomic a) p g = oneGoalBefore p (λ γ. premisesOr ruleMissing p (findRule T a γ)) g
@@ -43,13 +43,13 @@ walkBefore T (label l s) p g = oneGoalBefore p (λ γ. walkBefore T s (p + 5) (�
 walkBefore T (sequence s t) p g = andThen (walkBefore T s (p + 3) g) (λ h. walkBefore T t (p + 3 + size s) h)
 walkBefore T (tensor s t) p g =
     cond (ltb (length g) (inputArity s))
-    (cannotTake p)
+    (refusedBefore p)
     (andThen (walkBefore T s (p + 3) (take (inputArity s) g))
     (λ h. andThen (walkBefore T t (p + 3 + size s) (drop (inputArity s) g)) (λ k. joined p (h ++ k))))
 walkBefore T empty p g = noGoalBefore p g
-walkBefore T (alternation s t) p g = cannotTake p
-walkBefore T (assert γ) p g = cannotTake p
-walkBefore T (defined n) p g = cannotTake p
+walkBefore T (alternation s t) p g = refusedBefore p
+walkBefore T (assert γ) p g = refusedBefore p
+walkBefore T (defined n) p g = refusedBefore p
 
 -- check and flatten before P5: both files are read, then that walk, then 21
 unfoldable pub onProofBefore : {A : Type 0} → (Table → Proof → A) → (table proof : List ℕ) → Outcome A
@@ -64,11 +64,15 @@ checkBefore table proof work = checkIn checkWork work (onProofBefore proofCounts
 unfoldable pub flattenBefore : (table proof work out : List ℕ) → Written
 flattenBefore table proof work out = writeIn flattenWork work out (onProofBefore forestFile table proof)
 
--- P5's two numbers "both at 20's place in the walk": every answer of before but 20 is the same in all its values, a success included, and none had a number over 29;
+-- the numbers that a term that cannot take its goals may have
+abbrev pub Reason : ℕ → Type 0
+Reason n = (n ≡ 20) ⊎ ((n ≡ 34) ⊎ (n ≡ 35))
+
+-- P5's two numbers "both at 20's place in the walk": every answer of before but 20 is the same in all its values, a success included, and none was 34 or 35;
 -- a 20 of before is 20, 34 or 35 in the same file at the same place.
 pub data Finer : (before after : Answer) → Type 0 where
-  unchanged : (a : Answer) → a .number ≤ 29 → (a .number ≡ 20 → ⊥) → Finer a a
-  refined : (n q : ℕ) → (n ≡ 20) ⊎ ((n ≡ 34) ⊎ (n ≡ 35)) → Finer (answer.refusal 20 2 q 0) (answer.refusal n 2 q 0)
+  unchanged : (a : Answer) → (Reason (a .number) → ⊥) → Finer a a
+  refined : (n q : ℕ) → Reason n → Finer (answer.refusal 20 2 q 0) (answer.refusal n 2 q 0)
 
 abbrev pub Check-finer : Type 0
 Check-finer = (t p w : List ℕ) → Finer (checkBefore t p w .answer) (check t p w .answer) × (checkBefore t p w .work ≡ check t p w .work)
