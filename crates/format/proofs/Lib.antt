@@ -1,5 +1,6 @@
 pub mod Rows
 pub mod ResultLaws
+mod HeaderCases
 pub mod HeaderLaws
 pub mod ReaderLaws
 pub mod Again

@@ -1,11 +1,7 @@
 -- `headers::read_header` meets its contract: at each `return` the tests that led there say which case of `headerAt` holds.
 -- Assumes nothing.
 use borrow.Author.Needs.{needs}
-use borrow.Author.Tests.{le-ltb, lt-ltb}
-use Rattle.format.specs.Refusals.{number}
-use Rattle.format.specs.Results.{told}
-use Rattle.format.specs.Headers.{headerAt}
-use Rattle.format.specs.Shapes.{headerShape}
+use Rattle.format.proofs.HeaderCases.{torn, kind-below, kind-above, too-many, contents-torn, field-there, length-wrong}
 use Rattle.format.proofs.headers.read_header.Statement.{statement}
 use Rattle.format.proofs.headers.read_header.Tie as tie
 use Rattle.format.proofs.headers.read_header.Reads as reads
@@ -19,8 +15,7 @@ add-if1 : tie.Need-add-if1
 add-if1 c = search needs
 
 returns : tie.Need-returns
-unfolding headerAt headerShape told number
-returns c = simp (lt-ltb _ _ (c .if1 .taken))
+returns c = torn _ _ _ _ _ _ (c .if1 .taken)
 
 shared-slice-read-tag : tie.Need-shared-slice-read-tag
 shared-slice-read-tag c = search needs
@@ -32,16 +27,13 @@ kind-at-requires : tie.Need-kind-at-requires
 kind-at-requires c κs = search needs
 
 returns-2 : tie.Need-returns-2
-unfolding headerAt headerShape told number
-returns-2 c = simp (le-ltb _ _ (c .before .before .before .before .if1 .left), ← c .before .kind-at .ensures _ (c .before .before .row-of .ensures .0), lt-ltb _ _ (c .if2 .taken))
+returns-2 c = kind-below _ _ _ _ _ _ (c .before .before .before .before .if1 .left) _ (c .before .kind-at .ensures _ (c .before .before .row-of .ensures .0)) (c .if2 .taken)
 
 returns-3 : tie.Need-returns-3
-unfolding headerAt headerShape told number
-returns-3 c = simp (le-ltb _ _ (c .before .before .before .before .before .if1 .left), ← c .before .before .kind-at .ensures _ (c .before .before .before .row-of .ensures .0), le-ltb _ _ (c .before .if2 .left), lt-ltb _ _ (c .if3 .taken))
+returns-3 c = kind-above _ _ _ _ _ _ (c .before .before .before .before .before .if1 .left) _ (c .before .before .kind-at .ensures _ (c .before .before .before .row-of .ensures .0)) (c .before .if2 .left) (c .if3 .taken)
 
 returns-4 : tie.Need-returns-4
-unfolding headerAt headerShape told number
-returns-4 c = simp (le-ltb _ _ (c .before .before .before .before .before .before .if1 .left), ← c .before .before .before .kind-at .ensures _ (c .before .before .before .before .row-of .ensures .0), le-ltb _ _ (c .before .before .if2 .left), le-ltb _ _ (c .before .if3 .left), c .if4 .taken)
+returns-4 c = too-many _ _ _ _ _ _ (c .before .before .before .before .before .before .if1 .left) _ (c .before .before .before .kind-at .ensures _ (c .before .before .before .before .row-of .ensures .0)) (c .before .before .if2 .left) (c .before .if3 .left) (c .if4 .taken)
 
 add-load16 : tie.Need-add-load16
 add-load16 c = search needs
@@ -59,19 +51,16 @@ add-if5-2 : tie.Need-add-if5-2
 add-if5-2 c = search needs
 
 returns-5 : tie.Need-returns-5
-unfolding headerAt headerShape told number
-returns-5 c = simp (le-ltb _ _ (c .before .before .before .before .before .before .before .before .if1 .left), ← c .before .before .before .before .before .kind-at .ensures _ (c .before .before .before .before .before .before .row-of .ensures .0), le-ltb _ _ (c .before .before .before .before .if2 .left), le-ltb _ _ (c .before .before .before .if3 .left), c .before .before .if4 .left, ← c .before .load16 .ensures, lt-ltb _ _ (c .if5 .taken))
+returns-5 c = contents-torn _ _ _ _ _ _ (c .before .before .before .before .before .before .before .before .if1 .left) _ (c .before .before .before .before .before .kind-at .ensures _ (c .before .before .before .before .before .before .row-of .ensures .0)) (c .before .before .before .before .if2 .left) (c .before .before .before .if3 .left) (c .before .before .if4 .left) _ (c .before .load16 .ensures) (c .if5 .taken)
 
 length-fits-requires : tie.Need-length-fits-requires
 length-fits-requires c κs = search needs
 
 returns-6 : tie.Need-returns-6
-unfolding headerAt headerShape told number
-returns-6 c = simp (le-ltb _ _ (c .before .before .before .before .before .before .before .before .before .before .if1 .left), ← c .before .before .before .before .before .before .before .kind-at .ensures _ (c .before .before .before .before .before .before .before .before .row-of .ensures .0), le-ltb _ _ (c .before .before .before .before .before .before .if2 .left), le-ltb _ _ (c .before .before .before .before .before .if3 .left), c .before .before .before .before .if4 .left, ← c .before .before .before .load16 .ensures, le-ltb _ _ (c .before .before .if5 .left), ← c .before .length-fits .ensures _ (c .before .before .before .before .before .before .before .before .row-of .ensures .0), c .if6 .taken)
+returns-6 c = field-there _ _ _ _ _ _ (c .before .before .before .before .before .before .before .before .before .before .if1 .left) _ (c .before .before .before .before .before .before .before .kind-at .ensures _ (c .before .before .before .before .before .before .before .before .row-of .ensures .0)) (c .before .before .before .before .before .before .if2 .left) (c .before .before .before .before .before .if3 .left) (c .before .before .before .before .if4 .left) _ (c .before .before .before .load16 .ensures) (c .before .before .if5 .left) _ (c .before .length-fits .ensures _ (c .before .before .before .before .before .before .before .before .row-of .ensures .0)) (c .if6 .taken)
 
 returns-7 : tie.Need-returns-7
-unfolding headerAt headerShape told number
-returns-7 c = simp (le-ltb _ _ (c .before .before .before .before .before .before .before .before .before .before .if1 .left), ← c .before .before .before .before .before .before .before .kind-at .ensures _ (c .before .before .before .before .before .before .before .before .row-of .ensures .0), le-ltb _ _ (c .before .before .before .before .before .before .if2 .left), le-ltb _ _ (c .before .before .before .before .before .if3 .left), c .before .before .before .before .if4 .left, ← c .before .before .before .load16 .ensures, le-ltb _ _ (c .before .before .if5 .left), ← c .before .length-fits .ensures _ (c .before .before .before .before .before .before .before .before .row-of .ensures .0), c .if6 .left)
+returns-7 c = length-wrong _ _ _ _ _ _ (c .before .before .before .before .before .before .before .before .before .before .if1 .left) _ (c .before .before .before .before .before .before .before .kind-at .ensures _ (c .before .before .before .before .before .before .before .before .row-of .ensures .0)) (c .before .before .before .before .before .before .if2 .left) (c .before .before .before .before .before .if3 .left) (c .before .before .before .before .if4 .left) _ (c .before .before .before .load16 .ensures) (c .before .before .if5 .left) _ (c .before .length-fits .ensures _ (c .before .before .before .before .before .before .before .before .row-of .ensures .0)) (c .if6 .left)
 
 pub read-header-spec : {M : Type 1} → statement M
 read-header-spec =
