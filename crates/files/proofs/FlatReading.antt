@@ -10,18 +10,18 @@ use lib.ListN.{length}
 use borrow.Author.Tests.{eq-eqb, ne-eqb, eqb-true, eqb-false, leb-true}
 use Rattle.format.specs.declared.headers.HeaderRead.{HeaderRead}
 use Rattle.format.specs.declared.headers.HeaderRead.the-variants as H
-use Rattle.format.specs.declared.state.State.{State}
 use Rattle.format.specs.Tags.{entryKind}
 use Rattle.format.specs.Next.{fullFlat}
 use Rattle.format.specs.Headers.{headerAt}
 use Rattle.format.specs.Shapes.{headerShape}
-use Rattle.format.specs.States.{asking, counted, nextOf, nextEntry, entryTaken, taken, begunFile}
-use Rattle.format.specs.Waiting.{readingRoom}
-use Rattle.format.specs.Reading.{Reading, headerOf, Step, Reaches}
 use Rattle.format.proofs.HeaderLaws.{told-field}
-use Rattle.format.proofs.ReachLaws.{holds-on}
-use Rattle.format.proofs.AskLaws.{asks-entry}
-use Rattle.format.proofs.StepCases.{field-step}
+use Rattle.parts.specs.declared.state.State.{State}
+use Rattle.parts.specs.States.{asking, counted, nextOf, nextEntry, entryTaken, taken, begunFile}
+use Rattle.parts.proofs.AskLaws.{asks-entry}
+use Rattle.reading.specs.Waiting.{readingRoom}
+use Rattle.reading.specs.Reading.{Reading, headerOf, Step, Reaches}
+use Rattle.reading.proofs.ReachLaws.{holds-on}
+use Rattle.reading.proofs.StepCases.{field-step}
 use Rattle.files.specs.declared.flats.FlatRead.{FlatRead}
 use Rattle.files.specs.declared.flats.FlatRead.the-variants as F
 use Rattle.files.specs.Derivations.{readEntries, readFlat}

@@ -8,17 +8,17 @@ use native.Mathlib.Omega.{arith}
 use lib.Dec.{eqb}
 use lib.ListN.{length}
 use borrow.Author.Tests.{eq-eqb, ne-eqb, eqb-true, eqb-false}
-use Rattle.format.specs.declared.state.State.{State}
 use Rattle.format.specs.GoalsRead as G
 use Rattle.format.specs.Refusals.{number, lengthWrong}
 use Rattle.format.specs.Tags.{tacticKind}
-use Rattle.format.specs.States.{refusing, behindTerm, begunFile}
-use Rattle.format.specs.Reading.{Reading, Step, Reaches}
+use Rattle.parts.specs.declared.state.State.{State}
+use Rattle.parts.specs.States.{refusing, behindTerm, begunFile}
+use Rattle.parts.proofs.AskLaws.{high-of-job}
+use Rattle.reading.specs.Reading.{Reading, Step, Reaches}
+use Rattle.reading.proofs.ReachLaws.{holds-on}
 use Rattle.files.specs.declared.jobs.JobRead.the-variants as J
 use Rattle.files.specs.Jobs.{readJob}
 use Rattle.files.specs.Shapes.{jobParts, jobShape, toldJob}
-use Rattle.format.proofs.ReachLaws.{holds-on}
-use Rattle.format.proofs.AskLaws.{high-of-job}
 use Rattle.files.proofs.ListSteps.{stated, ListStep, stops, reads, First, Begins, long, first, begins, first-step}
 use Rattle.files.proofs.TermSteps.{InTerm, Turn, goes-on, refuses, leaves, term-begun, term-turn}
 use Rattle.files.proofs.JobLaws.{stated-refused, tactic-refused, bytes-left, job-read}

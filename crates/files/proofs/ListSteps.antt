@@ -10,7 +10,6 @@ use lib.ListN.{length}
 use borrow.Author.Tests.{ltb-false, le-ltb, ne-eqb}
 use Rattle.format.specs.declared.headers.HeaderRead.{HeaderRead}
 use Rattle.format.specs.declared.headers.HeaderRead.the-variants as H
-use Rattle.format.specs.declared.state.State.{State}
 use Rattle.format.specs.GoalsRead.{GoalsRead}
 use Rattle.format.specs.GoalsRead as G
 use Rattle.format.specs.Limits.{mostBytes, mostGoals}
@@ -21,13 +20,14 @@ use Rattle.format.specs.Tags.{goalListKind}
 use Rattle.format.specs.Headers.{headerAt}
 use Rattle.format.specs.Goals.{readGoals}
 use Rattle.format.specs.Shapes.{headerShape, goalsShape}
-use Rattle.format.specs.States.{refusing, asking, counted, nextEntry, remainingTaken, listTaken, taken, blankState, begunFile}
-use Rattle.format.specs.Waiting.{readingRoom}
-use Rattle.format.specs.Reading.{Reading, headerOf, Step}
 use Rattle.format.proofs.GoalsLaws.{header-refused, header-read, many-goals, few-goals}
-use Rattle.format.proofs.AskLaws.{asks-list}
-use Rattle.format.proofs.StepCases.{field-step}
-use Rattle.format.proofs.StepLaws.{fresh-list, fresh-term, refused-reading}
+use Rattle.parts.specs.declared.state.State.{State}
+use Rattle.parts.specs.States.{refusing, asking, counted, nextEntry, remainingTaken, listTaken, taken, blankState, begunFile}
+use Rattle.parts.proofs.AskLaws.{asks-list}
+use Rattle.reading.specs.Waiting.{readingRoom}
+use Rattle.reading.specs.Reading.{Reading, headerOf, Step}
+use Rattle.reading.proofs.StepCases.{field-step}
+use Rattle.reading.proofs.StepLaws.{fresh-list, fresh-term, refused-reading}
 
 -- what is told of the goal list at the beginning of a file
 abbrev pub stated : List ℕ → GoalsRead

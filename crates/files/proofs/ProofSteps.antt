@@ -8,20 +8,20 @@ use native.Mathlib.Omega.{arith}
 use lib.Dec.{eqb}
 use lib.ListN.{length}
 use borrow.Author.Tests.{eq-eqb, ne-eqb, eqb-true, eqb-false}
-use Rattle.format.specs.declared.state.State.{State}
 use Rattle.format.specs.GoalsRead as G
 use Rattle.format.specs.TermRead as T
 use Rattle.format.specs.Refusals.{number, lengthWrong}
 use Rattle.format.specs.Tags.{hiproofKind}
 use Rattle.format.specs.Goals.{readGoals}
 use Rattle.format.specs.Shapes.{goalsShape}
-use Rattle.format.specs.States.{refusing, asking, counted, remainingTaken, behindTerm, begunFile}
-use Rattle.format.specs.Reading.{Reading, Step, Reaches}
+use Rattle.parts.specs.declared.state.State.{State}
+use Rattle.parts.specs.States.{refusing, asking, counted, remainingTaken, behindTerm, begunFile}
+use Rattle.parts.proofs.AskLaws.{high-of-proof}
+use Rattle.reading.specs.Reading.{Reading, Step, Reaches}
+use Rattle.reading.proofs.ReachLaws.{holds-on}
 use Rattle.files.specs.declared.proofs.ProofRead.the-variants as P
 use Rattle.files.specs.Proofs.{readProof}
 use Rattle.files.specs.Shapes.{proofParts, proofShape, toldProof}
-use Rattle.format.proofs.ReachLaws.{holds-on}
-use Rattle.format.proofs.AskLaws.{high-of-proof}
 use Rattle.files.proofs.ListSteps.{stated, ListStep, stops, reads, list-step, First, Begins, long, first, begins, first-step}
 use Rattle.files.proofs.TermSteps.{termAt, InTerm, Turn, goes-on, refuses, leaves, term-begun, term-turn}
 use Rattle.files.proofs.ProofLaws.{stated-refused, hiproof-refused, list-refused, bytes-left, proof-read}

@@ -8,18 +8,18 @@ use native.Mathlib.Omega.{arith}
 use lib.Dec.{eqb, ltb}
 use lib.ListN.{length}
 use borrow.Author.Tests.{eq-eqb, ne-eqb, eqb-true, eqb-false, ltb-true, ltb-false}
-use Rattle.format.specs.declared.state.State.{State}
 use Rattle.format.specs.TermRead.{TermRead}
 use Rattle.format.specs.TermRead as T
 use Rattle.format.specs.Limits.{mostBytes}
 use Rattle.format.specs.Refusals.{number, inputTooLong, lengthWrong}
 use Rattle.format.specs.Tags.{tacticKind}
-use Rattle.format.specs.States.{refusing, asking, behindTerm, blankState, begunFile}
-use Rattle.format.specs.Waiting.{resumed, outcome}
-use Rattle.format.specs.Reading.{Reading, Step, Reaches}
-use Rattle.format.proofs.ShapeLaws.{reads-any}
-use Rattle.format.proofs.ReachLaws.{holds-on}
-use Rattle.format.proofs.AskLaws.{high-of-job}
+use Rattle.parts.specs.declared.state.State.{State}
+use Rattle.parts.specs.States.{refusing, asking, behindTerm, blankState, begunFile}
+use Rattle.parts.proofs.AskLaws.{high-of-job}
+use Rattle.reading.specs.Waiting.{resumed, outcome}
+use Rattle.reading.specs.Reading.{Reading, Step, Reaches}
+use Rattle.reading.proofs.ShapeLaws.{reads-any}
+use Rattle.reading.proofs.ReachLaws.{holds-on}
 use Rattle.files.specs.declared.terms.TermFileRead.the-variants as R
 use Rattle.files.specs.TermFiles.{readTermFile}
 use Rattle.files.specs.Shapes.{termFileShape, toldTermFile}

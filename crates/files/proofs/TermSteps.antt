@@ -5,16 +5,16 @@ use mathlib.Core.List.{List}
 use Prim.Native.Nat.{ℕ, _+_, _≤_, _<_}
 use native.Mathlib.Omega.{arith}
 use lib.ListN.{length}
-use Rattle.format.specs.declared.state.State.{State}
 use Rattle.format.specs.TermRead.{TermRead}
 use Rattle.format.specs.TermRead as T
 use Rattle.format.specs.ReadTerms.{readTerm}
 use Rattle.format.specs.Shapes.{termShape}
-use Rattle.format.specs.States.{highOf, asking, counted, behindTerm}
-use Rattle.format.specs.Waiting.{resumed, outcome, Held}
-use Rattle.format.specs.Reading.{Reading, Step}
-use Rattle.format.proofs.ShapeLaws.{reads-any}
-use Rattle.format.proofs.StepCases.{TermStep, goes, stops, ends, term-step}
+use Rattle.parts.specs.declared.state.State.{State}
+use Rattle.parts.specs.States.{highOf, asking, counted, behindTerm}
+use Rattle.reading.specs.Waiting.{resumed, outcome, Held}
+use Rattle.reading.specs.Reading.{Reading, Step}
+use Rattle.reading.proofs.ShapeLaws.{reads-any}
+use Rattle.reading.proofs.StepCases.{TermStep, goes, stops, ends, term-step}
 use Rattle.files.proofs.ListSteps.{First}
 
 -- the term is of the part `part`, kinds up to high may stand in it, and Front is what was read in front of it: a number of goals, and the place behind them

@@ -3,10 +3,10 @@ use Prim.Native.Nat.{ℕ}
 use mathlib.Core.Bool.{cond}
 use lib.Dec.{eqb}
 use lib.ListN.{length}
-use Rattle.format.specs.declared.state.State.{State}
 use Rattle.format.specs.Results.{Result, told}
-use Rattle.format.specs.States.{modeRefused}
 use Rattle.format.specs.Terms.{Term, fields}
+use Rattle.parts.specs.declared.state.State.{State}
+use Rattle.parts.specs.States.{modeRefused}
 use Rattle.files.specs.declared.proofs.ProofParts.{ProofParts}
 use Rattle.files.specs.declared.proofs.ProofRead.{ProofRead}
 use Rattle.files.specs.declared.proofs.ProofRead.the-variants as P

@@ -2,14 +2,14 @@
 ghost use mathlib.Core.Path.{_≡_};
 ghost use Prim.Native.Nat.{_+_, _≤_};
 ghost use lib.ListN.{length};
-ghost use Rattle.format.specs.Waiting.{readingRoom};
+ghost use Rattle.reading.specs.Waiting.{readingRoom};
 ghost use Rattle.files.specs.Derivations.{readFlat};
 ghost use Rattle.files.specs.Shapes.{flatShape, toldFlat};
-use format::parts::begin_file;
-use format::reading::read_on;
-use format::state::REFUSED;
-use format::state::ROOTS;
-use format::state::State;
+use parts::begin_file;
+use parts::state::REFUSED;
+use parts::state::ROOTS;
+use parts::state::State;
+use reading::read_on;
 
 // The parts of a flat file: the number of roots, the place of the first entry, and the numbers of use and open entries.
 pub struct FlatParts {

@@ -3,14 +3,14 @@ ghost use mathlib.Core.Path.{_≡_};
 ghost use Prim.Native.Nat.{_+_, _≤_};
 ghost use lib.ListN.{length};
 ghost use Rattle.words.specs.Kept.{Kept};
-ghost use Rattle.format.specs.Waiting.{readingRoom};
+ghost use Rattle.reading.specs.Waiting.{readingRoom};
 ghost use Rattle.files.specs.Jobs.{readJob};
 ghost use Rattle.files.specs.Shapes.{jobShape, toldJob};
-use format::parts::begin_file;
-use format::reading::read_on;
-use format::state::JOB_GOALS;
-use format::state::REFUSED;
-use format::state::State;
+use parts::begin_file;
+use parts::state::JOB_GOALS;
+use parts::state::REFUSED;
+use parts::state::State;
+use reading::read_on;
 
 // The parts of a job: the number of goals, the place of the term, and its term fields.
 pub struct JobParts {

@@ -3,14 +3,14 @@ ghost use mathlib.Core.Path.{_≡_};
 ghost use Prim.Native.Nat.{_+_, _≤_};
 ghost use lib.ListN.{length};
 ghost use Rattle.words.specs.Kept.{Kept};
-ghost use Rattle.format.specs.Waiting.{readingRoom};
+ghost use Rattle.reading.specs.Waiting.{readingRoom};
 ghost use Rattle.files.specs.Proofs.{readProof};
 ghost use Rattle.files.specs.Shapes.{proofShape, toldProof};
-use format::parts::begin_file;
-use format::reading::read_on;
-use format::state::PROOF_GOALS;
-use format::state::REFUSED;
-use format::state::State;
+use parts::begin_file;
+use parts::state::PROOF_GOALS;
+use parts::state::REFUSED;
+use parts::state::State;
+use reading::read_on;
 
 // The parts of a proof: the number of goals, the place of the term, its term fields, the place of the remaining list, and the number of remaining goals.
 pub struct ProofParts {

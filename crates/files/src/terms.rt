@@ -4,14 +4,14 @@ ghost use mathlib.Core.Path.{_≡_};
 ghost use Prim.Native.Nat.{_+_, _≤_};
 ghost use lib.ListN.{length};
 ghost use Rattle.words.specs.Kept.{Kept};
-ghost use Rattle.format.specs.Waiting.{readingRoom};
+ghost use Rattle.reading.specs.Waiting.{readingRoom};
 ghost use Rattle.files.specs.TermFiles.{readTermFile};
 ghost use Rattle.files.specs.Shapes.{termFileShape, toldTermFile};
-use format::parts::begin_file;
-use format::reading::read_on;
-use format::state::JOB_TERM;
-use format::state::REFUSED;
-use format::state::State;
+use parts::begin_file;
+use parts::state::JOB_TERM;
+use parts::state::REFUSED;
+use parts::state::State;
+use reading::read_on;
 
 // What reading a term file finds: the refusal's number and place, or the number of term fields.
 pub enum TermFileRead {

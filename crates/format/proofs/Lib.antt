@@ -2,22 +2,10 @@ pub mod Rows
 pub mod ResultLaws
 mod HeaderCases
 pub mod HeaderLaws
-pub mod ReaderLaws
-pub mod Again
-pub mod TermLaws
-pub mod Depth
-pub mod ShapeLaws
-pub mod WaitLaws
 pub mod Lengths
-pub mod TurnLaws
-pub mod ReachLaws
 pub mod GoalsLaws
 pub mod TermTags
 pub mod TableTags
-pub mod AskLaws
-pub mod StepLaws
-pub mod BegunTable
-pub mod StepCases
 pub mod ReadLaw
 pub mod StandsLaws
 pub mod FieldBytes

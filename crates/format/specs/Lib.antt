@@ -15,7 +15,3 @@ pub mod Standing
 pub mod TermRead
 pub mod GoalsRead
 pub mod Shapes
-pub mod Reader
-pub mod States
-pub mod Waiting
-pub mod Reading

@@ -9,12 +9,13 @@ use borrow.Author.Tests.{lt-ltb, le-ltb}
 use Rattle.words.specs.Kept.{Kept}
 use Rattle.format.specs.Limits.{leastHeight, mostHeight, mostSearchSteps}
 use Rattle.format.specs.Refusals.{number, budgetTooLarge, heightOutside}
-use Rattle.format.specs.Waiting.{readingRoom}
+use Rattle.reading.specs.Waiting.{readingRoom}
 use Rattle.tables.specs.Tables.{Table}
-use Rattle.files.specs.declared.jobs.JobParts.{JobParts}
-use Rattle.files.specs.Jobs.{Job}
 use Rattle.index.specs.Build.{RulesIndexed, DefinitionsIndexed}
 use Rattle.index.proofs.ReadLaws.{rules-next, definitions-next}
+use Rattle.files.specs.declared.jobs.JobParts.{JobParts}
+use Rattle.files.specs.Jobs.{Job}
+use Rattle.search.specs.Answer.{search}
 use Rattle.answers.specs.declared.Answer.{Answer}
 use Rattle.answers.specs.Answers as said
 use Rattle.entries.specs.Outcomes.{Outcome, refusal, noFile}
@@ -22,7 +23,6 @@ use Rattle.entries.specs.LentSpace.{Written}
 use Rattle.entries.specs.Search.{searchEnd, searchOutcome}
 use Rattle.entries.specs.Left.{kept, leftIn}
 use Rattle.entries.proofs.LeftLaws.{refuses}
-use Rattle.search.specs.Answer.{search}
 use Rattle.tactics.specs.Entry.{onJob}
 use Rattle.tactics.proofs.EntryLaws.{BothRead}
 use Rattle.search_machine.specs.Layout.{definitionsPlace, rulesPlace, spaceEnd}

@@ -11,20 +11,20 @@ use lib.ListN.{length}
 use borrow.Author.Tests.{leb-true, eqb-true, eqb-false, eq-eqb, ne-eqb}
 use Rattle.format.specs.declared.headers.HeaderRead.{HeaderRead}
 use Rattle.format.specs.declared.headers.HeaderRead.the-variants as H
-use Rattle.format.specs.declared.state.State.{State}
 use Rattle.format.specs.TermRead.{TermRead, Refused, Read}
 use Rattle.format.specs.Refusals.{number, lengthWrong}
 use Rattle.format.specs.Tags.{definitionKind, tacticKind}
 use Rattle.format.specs.Next.{fullTable, lowest}
 use Rattle.format.specs.Headers.{headerAt}
 use Rattle.format.specs.Shapes.{headerShape}
-use Rattle.format.specs.States.{highOf, refusing, asking, counted, nextOf, nextField, tableField, taken, endOf, behindTerm, blankState, begunTable}
-use Rattle.format.specs.Waiting.{readingRoom, reads, resumed, outcome, Held}
-use Rattle.format.specs.Reading.{Reading, headerOf, Step, Reaches}
-use Rattle.format.proofs.AskLaws.{asks-field}
-use Rattle.format.proofs.StepCases.{TermStep, goes, stops, ends, field-step, term-step}
-use Rattle.format.proofs.BegunTable.{begun-table}
-use Rattle.format.proofs.ReachLaws.{reaches-reading, holds-on}
+use Rattle.parts.specs.declared.state.State.{State}
+use Rattle.parts.specs.States.{highOf, refusing, asking, counted, nextOf, nextField, tableField, taken, endOf, behindTerm, blankState, begunTable}
+use Rattle.parts.proofs.AskLaws.{asks-field}
+use Rattle.reading.specs.Waiting.{readingRoom, reads, resumed, outcome, Held}
+use Rattle.reading.specs.Reading.{Reading, headerOf, Step, Reaches}
+use Rattle.reading.proofs.StepCases.{TermStep, goes, stops, ends, field-step, term-step}
+use Rattle.reading.proofs.BegunTable.{begun-table}
+use Rattle.reading.proofs.ReachLaws.{reaches-reading, holds-on}
 use Rattle.tables.specs.declared.fields.TableRead.{TableRead}
 use Rattle.tables.specs.declared.fields.TableRead.the-variants as R
 use Rattle.tables.specs.ReadTables.{readFields}

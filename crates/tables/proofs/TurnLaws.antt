@@ -19,10 +19,10 @@ use Rattle.format.specs.Next.{fullTable, lowest}
 use Rattle.format.specs.Headers.{Header, header, headerAt}
 use Rattle.format.specs.ReadTerms.{ParsedTerm, readTerm}
 use Rattle.format.specs.Shapes.{headerShape, termShape}
-use Rattle.format.specs.States.{endOf}
-use Rattle.format.specs.Waiting.{reads}
 use Rattle.format.proofs.HeaderLaws.{IsField, is-field, told-field}
-use Rattle.format.proofs.ShapeLaws.{reads-any}
+use Rattle.parts.specs.States.{endOf}
+use Rattle.reading.specs.Waiting.{reads}
+use Rattle.reading.proofs.ShapeLaws.{reads-any}
 use Rattle.tables.specs.declared.fields.TableRead.{TableRead}
 use Rattle.tables.specs.declared.fields.TableRead.the-variants as R
 use Rattle.tables.specs.Tables.{Rule, Definition, Table}

@@ -2,9 +2,9 @@
 use mathlib.Core.Bool.{cond}
 use lib.Dec.{eqb}
 use lib.ListN.{length}
-use Rattle.format.specs.declared.state.State.{State}
 use Rattle.format.specs.Results.{Result, told}
-use Rattle.format.specs.States.{modeRefused}
+use Rattle.parts.specs.declared.state.State.{State}
+use Rattle.parts.specs.States.{modeRefused}
 use Rattle.tables.specs.declared.fields.TableRead.{TableRead}
 use Rattle.tables.specs.declared.fields.TableRead.the-variants as R
 use Rattle.tables.specs.Tables.{Table}

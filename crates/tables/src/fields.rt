@@ -3,13 +3,13 @@ ghost use mathlib.Core.Path.{_≡_};
 ghost use Prim.Native.Nat.{_+_, _≤_};
 ghost use lib.ListN.{length};
 ghost use Rattle.words.specs.Kept.{Kept};
-ghost use Rattle.format.specs.Waiting.{readingRoom};
+ghost use Rattle.reading.specs.Waiting.{readingRoom};
 ghost use Rattle.tables.specs.ReadTables.{readFields};
 ghost use Rattle.tables.specs.Shapes.{tableShape, toldTable};
-use format::parts::begin_table;
-use format::reading::read_on;
-use format::state::REFUSED;
-use format::state::State;
+use parts::begin_table;
+use parts::state::REFUSED;
+use parts::state::State;
+use reading::read_on;
 
 // What reading a table finds: the refusal's number and place; or the numbers of rules and of definitions, and the place of the first definition, where the rules end.
 pub enum TableRead {

@@ -16,7 +16,7 @@ use crate::term::write_term;
 use answers::Answer;
 use answers::refusal;
 use answers::wrote;
-use format::parts::MOST_BYTES;
+use parts::MOST_BYTES;
 use words::clear;
 
 // The length of the work space: three bytes for each mark, of which a text has no more than bytes, and above them, from the end down, three for each sign or closing bracket that waits; as marks are read from the last to the first, the two never meet.

@@ -3,7 +3,7 @@
 use mathlib.Core.Path.{_∙_}
 use native.Mathlib.Omega.{arith}
 use borrow.Author.Needs.{needs}
-use Rattle.format.proofs.ReachLaws.{reaches-kept}
+use Rattle.reading.proofs.ReachLaws.{reaches-kept}
 use Rattle.files.proofs.ListSteps.{start-reading}
 use Rattle.files.proofs.JobSteps.{job-told}
 use Rattle.files.proofs.jobs.read_job.Statement.{statement}

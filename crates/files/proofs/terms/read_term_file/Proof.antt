@@ -3,7 +3,7 @@
 use mathlib.Core.Path.{_∙_}
 use native.Mathlib.Omega.{arith}
 use borrow.Author.Needs.{needs}
-use Rattle.format.proofs.ReachLaws.{reaches-kept}
+use Rattle.reading.proofs.ReachLaws.{reaches-kept}
 use Rattle.files.proofs.ListSteps.{start-term}
 use Rattle.files.proofs.TermFileSteps.{term-file-told}
 use Rattle.files.proofs.terms.read_term_file.Statement.{statement}

@@ -2,8 +2,8 @@
 -- Assumes nothing.
 use mathlib.Core.Path.{_∙_}
 use borrow.Author.Needs.{needs}
-use Rattle.format.proofs.BegunTable.{begun-table}
-use Rattle.format.proofs.ReachLaws.{reaches-kept}
+use Rattle.reading.proofs.BegunTable.{begun-table}
+use Rattle.reading.proofs.ReachLaws.{reaches-kept}
 use Rattle.tables.proofs.StateLaws.{whole-table}
 use Rattle.tables.proofs.fields.read_fields.Statement.{statement}
 use Rattle.tables.proofs.fields.read_fields.Tie as tie

@@ -1,0 +1,10 @@
+pub mod Again
+pub mod TermLaws
+pub mod Depth
+pub mod ShapeLaws
+pub mod WaitLaws
+pub mod TurnLaws
+pub mod ReachLaws
+pub mod StepLaws
+pub mod BegunTable
+pub mod StepCases
