@@ -25,8 +25,8 @@ use Rattle.hitac.proofs.WalkValidates.{finds-agrees, walk→validates}
 use Rattle.hitac.proofs.WalkBounds.{walk-grows}
 use Rattle.hitac.proofs.Nodes.{Cell, cellAt, goalOf, NodeWalk, nodeWalk}
 use Rattle.walks.specs.Walks.{Out, onOneValue, joinedValues, walkOf}
-use Rattle.flattener.specs.Space.{mostNodes}
-use Rattle.flattener.specs.NodeActs.{outOf, useFound, useNode, onNoNode, nodeAct}
+use Rattle.nodes.specs.Space.{mostNodes}
+use Rattle.nodes.specs.NodeActs.{outOf, useFound, useNode, onNoNode, nodeAct}
 use Rattle.flattener.proofs.GrowthLaws.{Carry, Carry-None, Carry-Node, carry-take, carry-drop, carry-kept, carry-length, Grows, grows}
 
 -- what the two walks come to, where the nodes come to x; no walk is refused with a number below 20

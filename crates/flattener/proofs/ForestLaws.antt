@@ -28,10 +28,10 @@ use Rattle.hitac.proofs.NodeForest.{nodes-flatten}
 use Rattle.entries.specs.Check.{forestFile}
 use Rattle.walks.specs.Layout.{indexEnd}
 use Rattle.walks.proofs.ProofLaws.{Small, standing, small}
-use Rattle.flattener.specs.Space.{cellsOf}
+use Rattle.nodes.specs.Space.{cellsOf}
+use Rattle.nodes.proofs.CellLaws.{length-cells}
 use Rattle.flattener.specs.Prints.{Closed, forestEntries, Printable}
 use Rattle.flattener.specs.Forests.{forestCells, Accepted}
-use Rattle.flattener.proofs.CellLaws.{length-cells}
 use Rattle.flattener.proofs.PrintLaws.{range-length, sets-append}
 use Rattle.flattener.proofs.GrowthLaws.{Grows, carry-new, grows, closed-opens}
 

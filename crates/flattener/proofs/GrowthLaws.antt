@@ -18,8 +18,8 @@ use Rattle.hitac.specs.Forest.{premisesIn, premisesOf}
 use Rattle.hitac.proofs.ValidatesLaws.{arity-of}
 use Rattle.hitac.proofs.ForestLaws.{Takes}
 use Rattle.hitac.proofs.Nodes.{Cell, openCell, useCell, noCell, cellAt, goalOf, range, nodeWalk}
+use Rattle.nodes.proofs.CellLaws.{compared, differ}
 use Rattle.flattener.specs.Prints.{Closed}
-use Rattle.flattener.proofs.CellLaws.{compared, differ}
 
 -- the nodes are there and carry those goals
 pub data Carry (A : List Cell) : List ℕ → List Goal → Type 0 where

@@ -1,8 +1,3 @@
-pub mod SpaceLaws
-pub mod RowLaws
-pub mod CellLaws
-pub mod LeafLaws
-pub mod WalkLaws
 pub mod GrowthLaws
 pub mod AgreeLaws
 pub mod RemainingLaws

@@ -14,11 +14,11 @@ use Rattle.hitac.proofs.Nodes.{Cell, openCell, useCell, cellAt, premiseNodes, r
 use Rattle.walks.specs.Layout.{stackEnd, indexEnd}
 use Rattle.walks.specs.Values.{valuesAt}
 use Rattle.walks.proofs.ValueLaws.{length-values}
+use Rattle.nodes.specs.Space.{cellsOf, putRange, Below}
+use Rattle.nodes.proofs.RowLaws.{length-range, kept-range, nodes-range}
+use Rattle.nodes.proofs.CellLaws.{length-cells, cell-of, cells-above}
 use Rattle.flattener.specs.declared.print.Printed.{Printed}
-use Rattle.flattener.specs.Space.{cellsOf, putRange, Below}
 use Rattle.flattener.specs.Prints.{topCell, firstPremise, cellEntry, Closed, forestEntries, PrintReady, NodePrinted, Printable}
-use Rattle.flattener.proofs.RowLaws.{length-range, kept-range, nodes-range}
-use Rattle.flattener.proofs.CellLaws.{length-cells, cell-of, cells-above}
 use Rattle.flattener.proofs.PrintLaws.{range-length, sets-append}
 
 below-append : (b : ℕ) (ns ms : List ℕ) → Below b ns → Below b ms → Below b (ns ++ ms)

@@ -18,12 +18,12 @@ use Rattle.format.proofs.GoalsLaws.{length-goalsAt}
 use Rattle.format.proofs.GoalBytes.{length-goalBytes}
 use Rattle.files.specs.Derivations.{useEntry, openEntry, entryBytes}
 use Rattle.hitac.proofs.Nodes.{Cell, openCell, useCell, premiseNodes, range}
-use Rattle.flattener.specs.Prints.{topCell, cellEntry, NodePrinted}
 use Rattle.walks.specs.Layout.{stackEnd}
 use Rattle.walks.specs.Values.{valuesAt}
 use Rattle.walks.proofs.ValueLaws.{values-append, values-above}
-use Rattle.flattener.specs.Space.{cellPlace, cellsEnd, cellFrom, cellIn, putRange}
-use Rattle.flattener.proofs.RowLaws.{kept-range, nodes-range}
+use Rattle.nodes.specs.Space.{cellPlace, cellsEnd, cellFrom, cellIn, putRange}
+use Rattle.nodes.proofs.RowLaws.{kept-range, nodes-range}
+use Rattle.flattener.specs.Prints.{topCell, cellEntry, NodePrinted}
 
 -- blocks one behind the other
 pub sets-append : (a b l : List ℕ) (i : ℕ) → sets l i (a ++ b) ≡ sets (sets l i a) (i + length a) b

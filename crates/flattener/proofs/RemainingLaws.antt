@@ -14,8 +14,8 @@ use Rattle.hitac.proofs.Nodes.{goalOf}
 use Rattle.entries.specs.Check.{sameGoals}
 use Rattle.walks.specs.Layout.{indexEnd}
 use Rattle.walks.specs.Values.{valuesAt}
-use Rattle.flattener.specs.Space.{cellPlace, cellsOf, Below, goalsIn}
-use Rattle.flattener.proofs.CellLaws.{goal-in, length-cells, cell-of}
+use Rattle.nodes.specs.Space.{cellPlace, cellsOf, Below, goalsIn}
+use Rattle.nodes.proofs.CellLaws.{goal-in, length-cells, cell-of}
 use Rattle.flattener.proofs.GrowthLaws.{Carry, Carry-None, Carry-Node}
 
 no-and : (b : Bool) → (b && false) ≡ false

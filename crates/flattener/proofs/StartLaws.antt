@@ -37,15 +37,15 @@ use Rattle.walks.specs.Loops.{Aim, Begins, startOf}
 use Rattle.walks.proofs.ArityLaws.{ahead-kept}
 use Rattle.walks.proofs.LeafLaws.{aimOf, begun}
 use Rattle.walks.proofs.ProofLaws.{Small, standing, small, term-room}
-use Rattle.flattener.specs.declared.walk.Walked.{Walked}
-use Rattle.flattener.specs.declared.walk.Walked.the-variants as W
-use Rattle.flattener.specs.Space.{mostNodes, cellPlace, cellsEnd, cellsFrom, cellsOf, putOpens, putRange, Below, goalsIn}
-use Rattle.flattener.specs.NodeActs.{nodeAct}
-use Rattle.flattener.specs.Walks.{Walkable, Ends}
+use Rattle.nodes.specs.declared.walk.Walked.{Walked}
+use Rattle.nodes.specs.declared.walk.Walked.the-variants as W
+use Rattle.nodes.specs.Space.{mostNodes, cellPlace, cellsEnd, cellsFrom, cellsOf, putOpens, putRange, Below, goalsIn}
+use Rattle.nodes.specs.NodeActs.{nodeAct}
+use Rattle.nodes.specs.Walks.{Walkable, Ends}
+use Rattle.nodes.proofs.RowLaws.{length-range, kept-range, nodes-range}
+use Rattle.nodes.proofs.CellLaws.{length-cells, cells-above, length-opens, kept-opens, cells-opens}
+use Rattle.nodes.proofs.WalkLaws.{SameIndex, indexed-still}
 use Rattle.flattener.specs.Forests.{TableReady, forestCells, Accepted, written, flattened}
-use Rattle.flattener.proofs.RowLaws.{length-range, kept-range, nodes-range}
-use Rattle.flattener.proofs.CellLaws.{length-cells, cells-above, length-opens, kept-opens, cells-opens}
-use Rattle.flattener.proofs.WalkLaws.{SameIndex, indexed-still}
 use Rattle.flattener.proofs.GrowthLaws.{Carry, carry-new, grows}
 use Rattle.flattener.proofs.AgreeLaws.{Agrees, agrees, agreed-refused, agreed-gives, walked-cells}
 use Rattle.flattener.proofs.RemainingLaws.{carried, below-later}

@@ -18,7 +18,7 @@ use Rattle.entries.specs.Outcomes.{inFile, done, otherFile}
 use Rattle.entries.specs.LentSpace.{Written, writeOut}
 use Rattle.entries.specs.Check.{checked, forestFile}
 use Rattle.walks.specs.Layout.{aritiesEnd}
-use Rattle.flattener.specs.Space.{cellsEnd, cellsOf}
+use Rattle.nodes.specs.Space.{cellsEnd, cellsOf}
 
 -- a table that was read: it stands, its rules are indexed, and none has more than eight premises
 pub record TableReady (T : Table) (table : List ℕ) (first : ℕ) (w : List ℕ) : Type 0 where

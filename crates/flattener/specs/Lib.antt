@@ -1,6 +1,2 @@
-pub mod Space
-pub mod NodeActs
-pub mod Leaves
-pub mod Walks
 pub mod Prints
 pub mod Forests

@@ -10,8 +10,8 @@ use Rattle.files.specs.Derivations.{Entry, entryBytes, entriesBytes}
 use Rattle.hitac.proofs.Nodes.{Cell, openCell, useCell, entryOf, premiseNodes, range, nodeEntries}
 use Rattle.walks.specs.Layout.{stackEnd}
 use Rattle.walks.specs.Values.{valuesAt}
+use Rattle.nodes.specs.Space.{mostNodes, cellPlace, cellsEnd, cellIn, cellsOf}
 use Rattle.flattener.specs.declared.print.Printed.{Printed}
-use Rattle.flattener.specs.Space.{mostNodes, cellPlace, cellsEnd, cellIn, cellsOf}
 
 -- the cell of the node on top of the stack
 abbrev pub topCell : List ℕ → (top : ℕ) → Cell

@@ -6,8 +6,8 @@ ghost use Rattle.format.specs.Goals.{goalsAt};
 ghost use Rattle.entries.specs.Check.{sameGoals};
 ghost use Rattle.walks.specs.Layout.{stackEnd};
 ghost use Rattle.walks.specs.Values.{valuesAt};
-ghost use Rattle.flattener.specs.Space.{mostNodes, cellsEnd, Below, goalsIn};
-use crate::nodes::CELLS;
+ghost use Rattle.nodes.specs.Space.{mostNodes, cellsEnd, Below, goalsIn};
+use nodes::cells::CELLS;
 use words::load16;
 
 // Whether the goals of so many nodes from the start of the stacks on are those from a place of the proof on.

@@ -14,9 +14,9 @@ use Rattle.files.proofs.RefusedFiles.{Proof-refused}
 use Rattle.answers.specs.Answers as answer
 use Rattle.entries.specs.LentSpace.{Written}
 use Rattle.walks.specs.Layout.{aritiesEnd}
-use Rattle.flattener.specs.Space.{cellsEnd}
+use Rattle.nodes.specs.Space.{cellsEnd}
+use Rattle.nodes.proofs.WalkLaws.{indexed-still}
 use Rattle.flattener.specs.Forests.{TableReady}
-use Rattle.flattener.proofs.WalkLaws.{indexed-still}
 use Rattle.flattener.proofs.FlattenLaws.{table-refused, proof-refused, both-read}
 use Rattle.flattener.proofs.flatten.flatten_files.Statement.{statement}
 use Rattle.flattener.proofs.flatten.flatten_files.Tie as tie

@@ -10,7 +10,7 @@ use Rattle.words.specs.Word.{word}
 use Rattle.format.specs.Values.{ruleName, goal}
 use Rattle.files.specs.Derivations.{entryBytes}
 use Rattle.hitac.proofs.Nodes.{Cell, openCell, useCell, premiseNodes}
-use Rattle.flattener.specs.Space.{cellPlace}
+use Rattle.nodes.specs.Space.{cellPlace}
 use Rattle.flattener.specs.Prints.{topCell, firstPremise, cellEntry}
 use Rattle.flattener.proofs.PrintLaws.{range-length, open-there, use-there, printed-open, printed-use}
 use Rattle.flattener.proofs.print.print_node.Statement.{statement}

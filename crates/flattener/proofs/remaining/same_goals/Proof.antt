@@ -8,7 +8,7 @@ use borrow.Author.Needs.{needs}
 use Rattle.format.specs.Goals.{goalsAt}
 use Rattle.entries.specs.Check.{sameGoals}
 use Rattle.walks.specs.Values.{valuesAt}
-use Rattle.flattener.specs.Space.{mostNodes, Below, goalsIn}
+use Rattle.nodes.specs.Space.{mostNodes, Below, goalsIn}
 use Rattle.flattener.proofs.RemainingLaws.{other-lengths, same-end, same-more, same-less, below-more}
 use Rattle.flattener.proofs.remaining.same_goals.Statement.{statement}
 use Rattle.flattener.proofs.remaining.same_goals.Tie as tie

@@ -1,0 +1,5 @@
+pub mod SpaceLaws
+pub mod RowLaws
+pub mod CellLaws
+pub mod LeafLaws
+pub mod WalkLaws

@@ -1,0 +1,4 @@
+pub mod Space
+pub mod NodeActs
+pub mod Leaves
+pub mod Walks
