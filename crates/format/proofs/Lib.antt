@@ -8,6 +8,8 @@ pub mod TermTags
 pub mod TableTags
 pub mod ReadLaw
 pub mod StandsLaws
+pub mod CountLaws
+mod CountingLaws
 pub mod FieldBytes
 pub mod Encoded
 pub mod Complete

@@ -8,6 +8,7 @@ pub mod RowNumbers
 pub mod Next
 pub mod Headers
 pub mod Terms
+pub mod Count
 pub mod ReadTerms
 pub mod Goals
 pub mod Encoding
