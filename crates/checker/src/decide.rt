@@ -18,6 +18,7 @@ use answers::Answer;
 use answers::counted;
 use answers::refusal;
 use files::proofs::ProofParts;
+use format::count::count_fields;
 use walks::arity::note_arities;
 use walks::layout::STACK_END;
 use words::copy_in;
@@ -71,7 +72,8 @@ pub fn decide(
             let rest = parts.rest;
             let same = same_goals(work, 0, given, proof, rest + 3, parts.remaining);
             if same {
-                return counted(parts.fields, uses, parts.remaining);
+                let fields = count_fields(proof, parts.term, rest);
+                return counted(fields, uses, parts.remaining);
             }
             refusal(21, 2, rest, 0)
         }

@@ -1,12 +1,12 @@
 -- From an answer of the code back to the result that it tells: a value with those parts, or a refusal with that number and place.
 -- Assumes nothing.
-use mathlib.Core.Path.{_≡_}
+use mathlib.Core.Path.{_≡_, refl}
 use mathlib.Core.List.{List}
 use Prim.Native.Nat.{ℕ}
 use native.Mathlib.Omega.{arith}
 use Rattle.format.specs.Refusals.{Cause, number}
 use Rattle.format.specs.Results.{gives, refused}
-use Rattle.format.specs.Terms.{Term, fields}
+use Rattle.format.specs.Terms.{Term}
 use Rattle.files.specs.declared.proofs.ProofParts.{ProofParts}
 use Rattle.files.specs.declared.proofs.ProofRead.the-variants as P
 use Rattle.files.specs.declared.jobs.JobParts.{JobParts}
@@ -35,11 +35,12 @@ job-tells = record {
   one-value = λ q r e. cc;
 }
 
-term-file-tells : Tells R.Refused R.Read
+-- of a term nothing is kept
+term-file-tells : Tells {Q = Unit {0}} R.Refused (λ q. R.Read)
 term-file-tells = record {
   apart = λ k p q e. let z : _≡_ {A = ℕ} 0 1 = cc in omega arith;
   one-refusal = λ k p l r e. let a : k ≡ l = cc in let b : p ≡ r = cc in (a, b);
-  one-value = λ q r e. cc;
+  one-value = λ q r e. refl;
 }
 
 flat-tells : Tells F.Refused F.Read
@@ -66,13 +67,13 @@ module _ (s : List ℕ) where
   unfolding jobShape
   job-refused k p e = told-cause job-tells jobPartsOf (readJob s) k p e
 
-  pub term-file-read : (n : ℕ) → termFileShape (readTermFile s) ≡ R.Read n → (t : Term) × (readTermFile s ≡ gives t) × (fields t ≡ n)
+  pub term-file-read : termFileShape (readTermFile s) ≡ R.Read → (t : Term) × (readTermFile s ≡ gives t)
   unfolding termFileShape
-  term-file-read n e = told-value term-file-tells fields (readTermFile s) n e
+  term-file-read e = let v = told-value term-file-tells (λ t. tt) (readTermFile s) tt e in (v .0, v .1)
 
   pub term-file-refused : (k p : ℕ) → termFileShape (readTermFile s) ≡ R.Refused k p → (c : Cause) × (readTermFile s ≡ refused c p) × (number c ≡ k)
   unfolding termFileShape
-  term-file-refused k p e = told-cause term-file-tells fields (readTermFile s) k p e
+  term-file-refused k p e = told-cause term-file-tells (λ t. tt) (readTermFile s) k p e
 
   pub flat-read : (q : FlatParts) → flatShape (readFlat s) ≡ F.Read q → (d : Derivation) × (readFlat s ≡ gives d) × (flatPartsOf d ≡ q)
   unfolding flatShape

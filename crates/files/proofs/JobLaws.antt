@@ -13,11 +13,10 @@ use Rattle.format.specs.Refusals.{number}
 use Rattle.format.specs.Results.{Result, gives, refused, andThen, told}
 use Rattle.format.specs.Inputs.{ofSize}
 use Rattle.format.specs.Tags.{tacticKind}
-use Rattle.format.specs.Terms.{Term, fields}
+use Rattle.format.specs.Terms.{Term}
 use Rattle.format.specs.ReadTerms.{ParsedTerm, readTerm}
 use Rattle.format.specs.Goals.{readGoals}
 use Rattle.format.specs.Shapes.{goalsShape, termShape}
-use Rattle.format.proofs.ReadLaw.{read-gives}
 use Rattle.files.specs.declared.jobs.JobRead.{JobRead}
 use Rattle.files.specs.declared.jobs.JobRead.the-variants as J
 use Rattle.files.specs.Jobs.{Job, lastTermOf, readLastTerm, jobOf, readJob}
@@ -80,13 +79,11 @@ module _ (s : List ℕ) where
           let to-next : t .next ≡ next = ap (λ (q : Pair). q .0) kept in
           simp (to-next, ne-eqb next (length s) f)))
 
-      pub job-read : next ≡ length s → jobShape (readJob s) ≡ J.Read (jobParts n to m)
+      pub job-read : next ≡ length s → jobShape (readJob s) ≡ J.Read (jobParts n to)
       unfolding jobShape termShape lastTermOf andThen told jobPartsOf jobTermPlace
       job-read f =
           let place = stated-end s n to stated .0 in
           behind _ (λ g count.
           first-read term-tells termKept J.Refused parts (last g) (theTerm to) (next, m) _ term (λ t given kept.
-          let l = read-gives (length s + 1) s tacticKind (omega arith) to (length s) 0 (omega arith) t given in
           let at : 3 + length g * 2 ≡ to = omega (arith, count, place) in
-          let all : fields (t .term) ≡ m = omega (arith, l .count-is, ap (λ (q : Pair). q .1) kept) in
-          rw (eq-eqb (t .next) (length s) (ap (λ (q : Pair). q .0) kept ∙ f)) (λ i. J.Read (jobParts (count i) (at i) (all i)))))
+          rw (eq-eqb (t .next) (length s) (ap (λ (q : Pair). q .0) kept ∙ f)) (λ i. J.Read (jobParts (count i) (at i)))))

@@ -33,7 +33,7 @@ module _ (s : List ℕ) (base : ℕ) where
     is-refused : x .mode ≡ 0 → jobShape (readJob s) ≡ J.Refused (x .number) (x .place) → Known w x
     in-goals : First s 3 x → Known w x
     in-term : InTerm s 7 tacticKind Front base w x → Known w x
-    is-read : x .mode ≡ 2 → jobShape (readJob s) ≡ J.Read (jobParts (x .goals) (x .from) (x .fields)) → Known w x
+    is-read : x .mode ≡ 2 → jobShape (readJob s) ≡ J.Read (jobParts (x .goals) (x .from)) → Known w x
 
   module _ (w : List ℕ) (x : State) (h : Reading s w base x) (w′ : List ℕ) (r : State) where
     behind-goals : First s 3 x → w′ ≡ w → ListStep s x (stated s) r → Known w′ r

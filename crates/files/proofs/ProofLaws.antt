@@ -13,7 +13,7 @@ use Rattle.format.specs.Refusals.{number}
 use Rattle.format.specs.Results.{andThen, told}
 use Rattle.format.specs.Inputs.{ofSize}
 use Rattle.format.specs.Tags.{hiproofKind}
-use Rattle.format.specs.Terms.{Term, size, fields}
+use Rattle.format.specs.Terms.{Term, size}
 use Rattle.format.specs.ReadTerms.{readTerm}
 use Rattle.format.specs.Goals.{readGoals}
 use Rattle.format.specs.Shapes.{goalsShape, termShape}
@@ -28,8 +28,8 @@ use Rattle.files.proofs.ToldLaws.{Pair, first-refused, first-read, goal
 abbrev parts : Proof → ProofRead
 parts p = P.Read (partsOf p)
 
-same-parts : {a b c d e a′ b′ c′ d′ e′ : ℕ} → a ≡ a′ → b ≡ b′ → c ≡ c′ → d ≡ d′ → e ≡ e′ → P.Read (proofParts a b c d e) ≡ P.Read (proofParts a′ b′ c′ d′ e′)
-same-parts p q r t u = λ i. P.Read (proofParts (p i) (q i) (r i) (t i) (u i))
+same-parts : {a b c d a′ b′ c′ d′ : ℕ} → a ≡ a′ → b ≡ b′ → c ≡ c′ → d ≡ d′ → P.Read (proofParts a b c d) ≡ P.Read (proofParts a′ b′ c′ d′)
+same-parts p q r t = λ i. P.Read (proofParts (p i) (q i) (r i) (t i))
 
 module _ (s : List ℕ) where
   proof-steps : readProof s ≡ andThen (ofSize s (readGoals s 0 (length s))) (proofOf s)
@@ -51,7 +51,7 @@ module _ (s : List ℕ) where
 
     -- a term of m fields stands there, and behind it, at `rest`, stands the last list
     module _ (rest m : ℕ) (hiproof : termShape (readTerm (length s + 1) s hiproofKind to (length s) 0) ≡ T.Read rest m) where
-      behind : (y : ProofRead) → ((g : List Goal) (t : Term) → length g ≡ n → to + size t ≡ rest → fields t ≡ m → proofShape (andThen (readGoals s rest (length s)) (remainingOf s g t)) ≡ y) → proofShape (readProof s) ≡ y
+      behind : (y : ProofRead) → ((g : List Goal) (t : Term) → length g ≡ n → to + size t ≡ rest → proofShape (andThen (readGoals s rest (length s)) (remainingOf s g t)) ≡ y) → proofShape (readProof s) ≡ y
       unfolding proofShape goalsShape termShape proofOf hiproofOf
       behind y h =
           rw proof-steps
@@ -61,26 +61,25 @@ module _ (s : List ℕ) where
           first-read term-tells termKept P.Refused parts (hiproofOf s (g .goals)) _ (rest, m) y (rw at hiproof) (λ t read held.
           let l = read-gives (length s + 1) s hiproofKind (omega arith) (g .next) (length s) 0 (omega arith) t read in
           let next : t .next ≡ rest = ap (λ (q : Pair). q .0) held in
-          let all : t .count ≡ m = ap (λ (q : Pair). q .1) held in
-          rw next (h (g .goals) (t .term) count (omega (arith, l .next-is, at, next)) (omega (arith, l .count-is, all))))))
+          rw next (h (g .goals) (t .term) count (omega (arith, l .next-is, at, next))))))
 
       pub list-refused : (k p : ℕ) → goalsShape (readGoals s rest (length s)) ≡ G.Refused k p → proofShape (readProof s) ≡ P.Refused k p
       unfolding proofShape goalsShape
-      list-refused k p e = behind _ (λ g t count size all. first-refused goals-tell goalsKept P.Refused parts (remainingOf s g t) _ k p e)
+      list-refused k p e = behind _ (λ g t count size. first-refused goals-tell goalsKept P.Refused parts (remainingOf s g t) _ k p e)
 
       pub bytes-left : (j next : ℕ) → goalsShape (readGoals s rest (length s)) ≡ G.Read j next → (next ≡ length s → ⊥) → proofShape (readProof s) ≡ P.Refused 4 next
       unfolding proofShape goalsShape remainingOf told number
       bytes-left j next e f =
-          behind _ (λ g t count size all.
+          behind _ (λ g t count size.
           first-read goals-tell goalsKept P.Refused parts (remainingOf s g t) _ (j, next) _ e (λ h given kept.
           let to-next : h .next ≡ next = ap (λ (q : Pair). q .1) kept in
           simp (to-next, ne-eqb next (length s) f)))
 
-      pub proof-read : (j next : ℕ) → goalsShape (readGoals s rest (length s)) ≡ G.Read j next → next ≡ length s → proofShape (readProof s) ≡ P.Read (proofParts n to m rest j)
+      pub proof-read : (j next : ℕ) → goalsShape (readGoals s rest (length s)) ≡ G.Read j next → next ≡ length s → proofShape (readProof s) ≡ P.Read (proofParts n to rest j)
       unfolding proofShape goalsShape remainingOf told partsOf termPlace remainingPlace
       proof-read j next e f =
           let place = stated-end s n to stated .0 in
-          behind _ (λ g t count size all.
+          behind _ (λ g t count size.
           first-read goals-tell goalsKept P.Refused parts (remainingOf s g t) _ (j, next) _ e (λ h given kept.
           rw (eq-eqb (h .next) (length s) (ap (λ (q : Pair). q .1) kept ∙ f))
-          (same-parts count (omega (arith, count, place)) all (omega (arith, count, place, size)) (ap (λ (q : Pair). q .0) kept))))
+          (same-parts count (omega (arith, count, place)) (omega (arith, count, place, size)) (ap (λ (q : Pair). q .0) kept))))

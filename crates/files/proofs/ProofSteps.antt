@@ -37,7 +37,7 @@ module _ (s : List ℕ) (base : ℕ) where
     in-goals : First s 4 x → Known w x
     in-hiproof : InTerm s 8 hiproofKind Front base w x → Known w x
     in-remaining : x .mode ≡ 1 → x .part ≡ 5 → x .at ≡ x .rest → stated s ≡ G.Read (x .goals) (x .from) → termAt s 8 hiproofKind Front (x .from) ≡ T.Read (x .rest) (x .fields) → Known w x
-    is-read : x .mode ≡ 2 → proofShape (readProof s) ≡ P.Read (proofParts (x .goals) (x .from) (x .fields) (x .rest) (x .second)) → Known w x
+    is-read : x .mode ≡ 2 → proofShape (readProof s) ≡ P.Read (proofParts (x .goals) (x .from) (x .rest) (x .second)) → Known w x
 
   module _ (w : List ℕ) (x : State) (h : Reading s w base x) (w′ : List ℕ) (r : State) where
     behind-goals : First s 4 x → w′ ≡ w → ListStep s x (stated s) r → Known w′ r

@@ -11,10 +11,9 @@ use Rattle.format.specs.Limits.{mostBytes}
 use Rattle.format.specs.Refusals.{number}
 use Rattle.format.specs.Results.{Result, told}
 use Rattle.format.specs.Tags.{tacticKind}
-use Rattle.format.specs.Terms.{Term, fields}
+use Rattle.format.specs.Terms.{Term}
 use Rattle.format.specs.ReadTerms.{ParsedTerm, readTerm}
 use Rattle.format.specs.Shapes.{termShape}
-use Rattle.format.proofs.ReadLaw.{read-gives}
 use Rattle.files.specs.declared.terms.TermFileRead.{TermFileRead}
 use Rattle.files.specs.declared.terms.TermFileRead.the-variants as R
 use Rattle.files.specs.Jobs.{lastTermOf, readLastTerm}
@@ -24,7 +23,7 @@ use Rattle.files.proofs.ToldLaws.{Pair, first-refused, first-read, term
 
 -- what the code tells of a term
 abbrev part : Term → TermFileRead
-part t = R.Read (fields t)
+part t = R.Read
 
 module _ (s : List ℕ) where
   pub too-long : mostBytes < length s → termFileShape (readTermFile s) ≡ R.Refused 1 0
@@ -49,11 +48,9 @@ module _ (s : List ℕ) where
           let to-next : t .next ≡ next = ap (λ (q : Pair). q .0) kept in
           simp (to-next, ne-eqb next (length s) f)))
 
-      pub term-read : next ≡ length s → termFileShape (readTermFile s) ≡ R.Read m
+      pub term-read : next ≡ length s → termFileShape (readTermFile s) ≡ R.Read
       unfolding readTermFile readLastTerm lastTermOf termFileShape termShape told
       term-read f =
           rw (le-ltb mostBytes (length s) short)
           (first-read term-tells termKept R.Refused part (lastTermOf s) theTerm (next, m) _ term (λ t given kept.
-          let l = read-gives (length s + 1) s tacticKind (omega arith) 0 (length s) 0 (omega arith) t given in
-          let all : fields (t .term) ≡ m = omega (arith, l .count-is, ap (λ (q : Pair). q .1) kept) in
-          rw (eq-eqb (t .next) (length s) (ap (λ (q : Pair). q .0) kept ∙ f)) (ap R.Read all)))
+          rw (eq-eqb (t .next) (length s) (ap (λ (q : Pair). q .0) kept ∙ f))))

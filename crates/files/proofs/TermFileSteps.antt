@@ -39,7 +39,7 @@ module _ (s : List ℕ) (base : ℕ) where
   data Known (w : List ℕ) (x : State) : Type 0 where
     is-refused : x .mode ≡ 0 → termFileShape (readTermFile s) ≡ R.Refused (x .number) (x .place) → Known w x
     in-term : InTerm s 7 tacticKind Front base w x → Known w x
-    is-read : x .mode ≡ 2 → termFileShape (readTermFile s) ≡ R.Read (x .fields) → Known w x
+    is-read : x .mode ≡ 2 → termFileShape (readTermFile s) ≡ R.Read → Known w x
 
   behind-term : (w : List ℕ) (x : State) (w′ : List ℕ) (r : State) → InTerm s 7 tacticKind Front base w x → Turn s 7 tacticKind Front base x w′ r → Known w′ r
   unfolding behindTerm number

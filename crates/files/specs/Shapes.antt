@@ -4,7 +4,7 @@ use mathlib.Core.Bool.{cond}
 use lib.Dec.{eqb}
 use lib.ListN.{length}
 use Rattle.format.specs.Results.{Result, told}
-use Rattle.format.specs.Terms.{Term, fields}
+use Rattle.format.specs.Terms.{Term}
 use Rattle.parts.specs.declared.state.State.{State}
 use Rattle.parts.specs.States.{modeRefused}
 use Rattle.files.specs.declared.proofs.ProofParts.{ProofParts}
@@ -23,41 +23,41 @@ use Rattle.files.specs.Jobs.{Job}
 use Rattle.files.specs.Derivations.{Derivation, entriesPlace}
 use Rattle.files.specs.Counts.{jobTermPlace, usesIn, opensIn}
 
--- the parts of a proof: the number of goals, the place of the term, its term fields, the place of the remaining list, and the number of remaining goals
-abbrev pub proofParts : (goals term fields rest remaining : ℕ) → ProofParts
-proofParts g t n r m = record { goals = g; term = t; fields = n; rest = r; remaining = m }
+-- the parts of a proof: the number of goals, the place of the term, the place of the remaining list, which is the term's end, and the number of remaining goals
+abbrev pub proofParts : (goals term rest remaining : ℕ) → ProofParts
+proofParts g t r m = record { goals = g; term = t; rest = r; remaining = m }
 
 unfoldable pub partsOf : Proof → ProofParts
-partsOf p = proofParts (length (p .goals)) (termPlace p) (fields (p .term)) (remainingPlace p) (length (p .remaining))
+partsOf p = proofParts (length (p .goals)) (termPlace p) (remainingPlace p) (length (p .remaining))
 
 unfoldable pub proofShape : Result Proof → ProofRead
 proofShape x = told P.Refused (λ p. P.Read (partsOf p)) x
 
 -- what a state in which nothing is left to read tells of a proof
 unfoldable pub toldProof : State → ProofRead
-toldProof x = cond (eqb (x .mode) modeRefused) (P.Refused (x .number) (x .place)) (P.Read (proofParts (x .goals) (x .from) (x .fields) (x .rest) (x .second)))
+toldProof x = cond (eqb (x .mode) modeRefused) (P.Refused (x .number) (x .place)) (P.Read (proofParts (x .goals) (x .from) (x .rest) (x .second)))
 
--- the parts of a job: the number of goals, the place of the term, and its term fields
-abbrev pub jobParts : (goals term fields : ℕ) → JobParts
-jobParts g t n = record { goals = g; term = t; fields = n }
+-- the parts of a job: the number of goals and the place of the term
+abbrev pub jobParts : (goals term : ℕ) → JobParts
+jobParts g t = record { goals = g; term = t }
 
 unfoldable pub jobPartsOf : Job → JobParts
-jobPartsOf j = jobParts (length (j .goals)) (jobTermPlace j) (fields (j .term))
+jobPartsOf j = jobParts (length (j .goals)) (jobTermPlace j)
 
 unfoldable pub jobShape : Result Job → JobRead
 jobShape x = told J.Refused (λ j. J.Read (jobPartsOf j)) x
 
 -- the same of a job
 unfoldable pub toldJob : State → JobRead
-toldJob x = cond (eqb (x .mode) modeRefused) (J.Refused (x .number) (x .place)) (J.Read (jobParts (x .goals) (x .from) (x .fields)))
+toldJob x = cond (eqb (x .mode) modeRefused) (J.Refused (x .number) (x .place)) (J.Read (jobParts (x .goals) (x .from)))
 
--- of a term file, its term fields
+-- of a term file, that it has a term
 unfoldable pub termFileShape : Result Term → TermFileRead
-termFileShape x = told R.Refused (λ t. R.Read (fields t)) x
+termFileShape x = told R.Refused (λ t. R.Read) x
 
 -- the same of a term file
 unfoldable pub toldTermFile : State → TermFileRead
-toldTermFile x = cond (eqb (x .mode) modeRefused) (R.Refused (x .number) (x .place)) (R.Read (x .fields))
+toldTermFile x = cond (eqb (x .mode) modeRefused) (R.Refused (x .number) (x .place)) R.Read
 
 -- the parts of a flat file: the number of roots, the place of the first entry, and the numbers of use and open entries
 abbrev pub flatParts : (roots first uses opens : ℕ) → FlatParts

@@ -12,11 +12,10 @@ use parts::state::REFUSED;
 use parts::state::State;
 use reading::read_on;
 
-// The parts of a job: the number of goals, the place of the term, and its term fields.
+// The parts of a job: the number of goals and the place of the term.
 pub struct JobParts {
     pub goals: usize,
     pub term: usize,
-    pub fields: usize,
 }
 
 // What reading a job file finds: the refusal's number and place, or the parts.
@@ -35,7 +34,6 @@ fn found(x: State) -> JobRead
     JobRead::Read(JobParts {
         goals: x.goals,
         term: x.from,
-        fields: x.fields,
     })
 }
 

@@ -12,11 +12,10 @@ use parts::state::REFUSED;
 use parts::state::State;
 use reading::read_on;
 
-// The parts of a proof: the number of goals, the place of the term, its term fields, the place of the remaining list, and the number of remaining goals.
+// The parts of a proof: the number of goals, the place of the term, the place of the remaining list, which is the term's end, and the number of remaining goals.
 pub struct ProofParts {
     pub goals: usize,
     pub term: usize,
-    pub fields: usize,
     pub rest: usize,
     pub remaining: usize,
 }
@@ -37,7 +36,6 @@ fn found(x: State) -> ProofRead
     ProofRead::Read(ProofParts {
         goals: x.goals,
         term: x.from,
-        fields: x.fields,
         rest: x.rest,
         remaining: x.second,
     })

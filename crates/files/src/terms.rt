@@ -13,10 +13,10 @@ use parts::state::REFUSED;
 use parts::state::State;
 use reading::read_on;
 
-// What reading a term file finds: the refusal's number and place, or the number of term fields.
+// What reading a term file finds: the refusal's number and place, or a term, which stands at 0.
 pub enum TermFileRead {
     Refused(u8, usize),
-    Read(usize),
+    Read,
 }
 
 // What was found, once there is no field left to read.
@@ -26,7 +26,7 @@ fn found(x: State) -> TermFileRead
     if x.mode == REFUSED {
         return TermFileRead::Refused(x.number, x.place);
     }
-    TermFileRead::Read(x.fields)
+    TermFileRead::Read
 }
 
 // A term file; nothing may be left behind the term. While it is read its fields wait in work, from base on.

@@ -77,7 +77,7 @@ fn term_finding(s: &[u8], space: &mut [u8; SPACE]) -> Finding {
     let read = read_term_file(s, space, 0);
     match read {
         TermFileRead::Refused(number, place) => Finding { number, place },
-        TermFileRead::Read(_) => Finding {
+        TermFileRead::Read => Finding {
             number: 0,
             place: 0,
         },

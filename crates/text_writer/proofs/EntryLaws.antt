@@ -37,9 +37,9 @@ module _ (s : List ℕ) where
     pub stands : TermFileStands s term
     pub outcome-is : writeTextOutcome s ≡ done (written term)
 
-  pub found-file : (n : ℕ) → termFileShape (readTermFile s) ≡ R.Read n → Found
+  pub found-file : termFileShape (readTermFile s) ≡ R.Read → Found
   unfolding writeTextOutcome
-  found-file n e = let t = term-file-read s n e in record { term = t .0; stands = term-file-stands s (t .0) (t .1); outcome-is = rw (t .1) refl }
+  found-file e = let t = term-file-read s e in record { term = t .0; stands = term-file-stands s (t .0) (t .1); outcome-is = rw (t .1) refl }
 
 pub text-few : (s : List ℕ) (t : Term) → TermFileStands s t → length (written t) ≤ 28671
 text-few s t st = omega (arith, written-length t, st .few-fields)

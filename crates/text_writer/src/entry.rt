@@ -44,7 +44,7 @@ fn write_within(term: &[u8], work: &mut [u8], out: &mut [u8]) -> Answer
     let read = read_term_file(term, work, 0);
     match read {
         TermFileRead::Refused(number, place) => refusal(number, 2, place, 0),
-        TermFileRead::Read(_) => write_found(term, work, out),
+        TermFileRead::Read => write_found(term, work, out),
     }
 }
 

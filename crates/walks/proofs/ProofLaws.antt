@@ -5,7 +5,7 @@ use mathlib.Core.List.{List}
 use Prim.Native.Nat.{ℕ, _+_, _*_, _≤_}
 use native.Mathlib.Omega.{arith}
 use lib.ListN.{length}
-use Rattle.format.specs.Limits.{mostBytes, mostTermFields, mostGoals}
+use Rattle.format.specs.Limits.{mostBytes, mostGoals}
 use Rattle.format.specs.Results.{gives}
 use Rattle.format.specs.Terms.{size}
 use Rattle.files.specs.declared.proofs.ProofParts.{ProofParts}
@@ -23,7 +23,6 @@ pub record Small (s : List ℕ) (q : ProofParts) : Type 0 where
   pub remaining : q .remaining ≤ mostGoals
   pub remaining-inside : q .rest + 3 + q .remaining * 2 ≤ length s
   pub file : length s ≤ mostBytes
-  pub term-fields : q .fields ≤ mostTermFields
 
 module _ (s : List ℕ) (p : Proof) (e : readProof s ≡ gives p) where
   pub standing : ProofStands s p
@@ -39,7 +38,6 @@ module _ (s : List ℕ) (p : Proof) (e : readProof s ≡ gives p) where
         remaining = st .remaining-stand .few;
         remaining-inside = omega (arith, st .end-is);
         file = omega (arith, proof-size s p e);
-        term-fields = st .few-fields;
       }
 
   room-of : (w : List ℕ) → aritiesEnd ≤ length w → Room s (termPlace p) (termPlace p + size (p .term)) w (p .term)

@@ -2,12 +2,14 @@
 -- Assumes nothing.
 use mathlib.Core.Path.{_≡_, sym, subst, _∙_}
 use mathlib.Core.List.{List}
-use Prim.Native.Nat.{ℕ, _≤_}
+use Prim.Native.Nat.{ℕ, _+_, _≤_}
 use native.Mathlib.Omega.{arith}
 use lib.ListN.{length}
 use denote.Ref.{now}
 use borrow.Author.Needs.{needs}
 use Rattle.format.specs.Results.{gives}
+use Rattle.format.specs.Terms.{size, fields}
+use Rattle.format.specs.Standing.{Stands}
 use Rattle.format.proofs.ResultLaws.{same-value}
 use Rattle.tables.specs.Tables.{Table}
 use Rattle.tables.specs.Standing.{TableStands}
@@ -18,7 +20,7 @@ use Rattle.walks.specs.Arities.{Noted}
 use Rattle.walks.proofs.ProofLaws.{Small, small, term-room}
 use Rattle.checker.specs.Walks.{Ready}
 use Rattle.checker.specs.Checks.{checkedAnswer}
-use Rattle.checker.proofs.DecideLaws.{Walking, walk-ready, behind-still, goals-there, decides-refused, decides-bound, decides-accepted, decides-other}
+use Rattle.checker.proofs.DecideLaws.{term-there, Walking, walk-ready, behind-still, goals-there, decides-refused, decides-bound, decides-accepted, decides-other}
 use Rattle.checker.proofs.decide.decide.Statement.{statement}
 use Rattle.checker.proofs.decide.decide.Tie as tie
 
@@ -32,110 +34,189 @@ sizes i = small _ _ (i .pre .1 .1) _ (i .pre .1 .2)
 same-proof : (s : List ℕ) (p p′ : Proof) (T : Table) (r : Answer) → readProof s ≡ gives p → readProof s ≡ gives p′ → r ≡ checkedAnswer T p → r ≡ checkedAnswer T p′
 same-proof s p p′ T r e e′ h = subst (λ (x : Proof). r ≡ checkedAnswer T x) (same-value (sym e ∙ e′)) h
 
+-- ---- the places: the arities are noted, the goals copied; the walk is to begin, and has ended, refused or with goals; these are compared
+
+abbrev begun : tie.After-note-arities → tie.Start
+begun c = c .before .before .before .before .before
+
+abbrev noting : tie.After-copy-in → tie.After-note-arities
+noting c = c .before .before .before .before
+
+abbrev copying : tie.After-walk-arg → tie.After-copy-in
+copying c = c .before .before .before
+
+abbrev start : tie.After-walk-arg → tie.Start
+start c = begun (noting (copying c))
+
+abbrev refused-at : tie.After-walked → tie.After-walk
+refused-at c = c .before .before .before .before
+
+abbrev gave-at : tie.After-walked2 → tie.After-walk
+gave-at c = c .before .before .before .before
+
+abbrev compared-at : tie.After-same-goals → tie.After-walked2
+compared-at c = c .before .before .before
+
+-- the work space as it was given, with the arities, with the goals, and after the walk
+abbrev work₀ : tie.After-walk-arg → List ℕ
+work₀ c = now (start c .args .work)
+
+abbrev work₁ : tie.After-walk-arg → List ℕ
+work₁ c = noting (copying c) .note-arities .last .1 .1 .0
+
+abbrev work₂ : tie.After-walk-arg → List ℕ
+work₂ c = copying c .copy-in .last .0
+
+abbrev work₃ : tie.After-walk → List ℕ
+work₃ c = c .walk .last .1 .1 .1 .1 .0
+
+as-long : (c : tie.After-walk) → length (work₃ c) ≡ length (work₀ (c .before))
+as-long c = let k = copying (c .before) in c .walk .kept .1 .1 .1 .1 .0 ∙ k .copy-in .kept .0 ∙ noting k .note-arities .kept .1 .1 .0
+
+-- ---- the arities and the goals
+
 note-arities-requires : tie.Need-note-arities-requires
 note-arities-requires c κs = let i = c .before .before .before .before in (proof i .term, term-room _ _ (i .pre .1 .1) _ (i .pre .1 .2) _ (i .pre .2))
 
 mul-copy-in : tie.Need-mul-copy-in
-mul-copy-in c = omega (arith, sizes (c .before .before .before .before .before .before .before .before) .goals)
+mul-copy-in c = omega (arith, sizes (begun (c .before .before .before)) .goals)
 
 sub-copy-in : tie.Need-sub-copy-in
-sub-copy-in c = omega (arith, sizes (c .before .before .before .before .before .before .before .before) .goals)
+sub-copy-in c = omega (arith, sizes (begun (c .before .before .before)) .goals)
 
 mul-copy-in-2 : tie.Need-mul-copy-in-2
-mul-copy-in-2 c = omega (arith, sizes (c .before .before .before .before .before .before .before .before) .goals)
+mul-copy-in-2 c = omega (arith, sizes (begun (c .before .before .before)) .goals)
 
 copy-in-requires : tie.Need-copy-in-requires
-copy-in-requires c κs = let i = c .before .before .before .before .before .before .before .before in (sizes i .goals-inside, omega (arith, sizes i .goals, i .pre .2, c .before .before .before .note-arities .kept .1 .1 .0))
+copy-in-requires c κs =
+    let n = c .before .before .before in
+    let i = begun n in
+    (sizes i .goals-inside, omega (arith, sizes i .goals, i .pre .2, n .note-arities .kept .1 .1 .0))
 
--- the walk is to begin
-abbrev Begun : Type 0
-Begun = tie.After-walk-arg
+-- ---- the walk
 
-abbrev start : Begun → tie.Start
-start c = c .before .before .before .before .before .before .before .before .before .before .before .before
+enough : (c : tie.After-walk-arg) → aritiesEnd ≤ length (work₁ c)
+enough c = omega (arith, start c .pre .2, noting (copying c) .note-arities .kept .1 .1 .0)
 
-enough : (c : Begun) → aritiesEnd ≤ length (c .before .before .before .before .before .before .before .note-arities .last .1 .1 .0)
-enough c = omega (arith, start c .pre .2, c .before .before .before .before .before .before .before .note-arities .kept .1 .1 .0)
+noted : (c : tie.After-walk-arg) → Noted (work₀ c) (work₁ c) (proof (start c) .term)
+noted c = let i = start c in noting (copying c) .note-arities .ensures (proof i .term) (term-room _ _ (i .pre .1 .1) _ (i .pre .1 .2) _ (i .pre .2))
 
-noted : (c : Begun) → Noted (now (start c .args .work)) (c .before .before .before .before .before .before .before .note-arities .last .1 .1 .0) (proof (start c) .term)
-noted c = let i = start c in c .before .before .before .before .before .before .before .note-arities .ensures (proof i .term) (term-room _ _ (i .pre .1 .1) _ (i .pre .1 .2) _ (i .pre .2))
-
-ready : (c : Begun) → Ready (now (start c .args .proof)) (start c .args .parts .term) (proof (start c) .term) (c .before .before .before .copy-in .last .0) (start c .args .parts .goals)
-ready c = let i = start c in walk-ready _ _ (i .pre .1 .1) _ (i .pre .1 .2) _ _ (c .before .before .before .copy-in .ensures) (enough c) _ (noted c)
+ready : (c : tie.After-walk-arg) → Ready (now (start c .args .proof)) (start c .args .parts .term) (proof (start c) .term) (work₂ c) (start c .args .parts .goals)
+ready c = let i = start c in walk-ready _ _ (i .pre .1 .1) _ (i .pre .1 .2) _ _ (copying c .copy-in .ensures) (enough c) _ (noted c)
 
 walk-requires : tie.Need-walk-requires
 walk-requires c κs =
-    let i = start c in (
+    let i = start c in
+    let k = copying c in (
       i .pre .0,
       (proof i .term, ready c),
-      record { file = sizes i .file; space = omega (arith, enough c, c .before .before .before .copy-in .kept .0) },
-      behind-still _ _ (i .pre .1 .1) _ (i .pre .1 .2) _ _ (c .before .before .before .copy-in .ensures) (enough c) _ _ _ (noted c) (c .before .before .before .before .before .before .before .note-arities .kept .1 .1 .0) (c .before .before .before .copy-in .kept .0) (i .pre .3),
+      record { file = sizes i .file; space = omega (arith, enough c, k .copy-in .kept .0) },
+      behind-still _ _ (i .pre .1 .1) _ (i .pre .1 .2) _ _ (k .copy-in .ensures) (enough c) _ _ _ (noted c) (noting k .note-arities .kept .1 .1 .0) (k .copy-in .kept .0) (i .pre .3),
     )
 
+-- the table stands
+abbrev InTable : tie.After-walk → Table → Type 0
+InTable c T = let i = start (c .before) in TableStands (now (i .args .table)) (i .args .first) T
+
+-- the table that the contract names
+abbrev table : tie.After-walk → Table
+table c = start (c .before) .pre .0 .0
+
+in-table : (c : tie.After-walk) → InTable c (table c)
+in-table c = start (c .before) .pre .0 .1
+
 -- what was walked
-walking : (c : tie.After-walk) (T : Table) → TableStands (now (c .before .before .before .before .before .before .before .before .before .before .before .before .before .args .table)) (c .before .before .before .before .before .before .before .before .before .before .before .before .before .args .first) T → Walking T (now (c .before .before .before .before .before .before .before .before .before .before .before .before .before .args .proof)) (proof (c .before .before .before .before .before .before .before .before .before .before .before .before .before)) (c .before .before .before .before .before .before .before .before .before .before .before .before .before .args .parts) (c .before .before .before .before .copy-in .last .0) (c .walk .last .1 .1 .1 .1 .0) (c .walk .result)
+walking : (c : tie.After-walk) (T : Table) → InTable c T → Walking T (now (start (c .before) .args .proof)) (proof (start (c .before))) (start (c .before) .args .parts) (work₂ (c .before)) (work₃ c) (c .walk .result)
 walking c T st =
-    let i = c .before .before .before .before .before .before .before .before .before .before .before .before .before in
     let b = c .before in
+    let i = start b in
     record {
       reads = i .pre .1 .1;
       parts-are = i .pre .1 .2;
-      goals-are = goals-there _ _ (i .pre .1 .1) _ (i .pre .1 .2) _ _ (c .before .before .before .before .copy-in .ensures) (enough b);
+      goals-are = goals-there _ _ (i .pre .1 .1) _ (i .pre .1 .2) _ _ (copying b .copy-in .ensures) (enough b);
       walked = c .walk .ensures T (proof i .term) st (ready b);
     }
 
--- the table that the contract names
-abbrev table : tie.Start → Table
-table i = i .pre .0 .0
+-- ---- the walk was refused
 
 enum-known-walked : tie.Need-enum-known-walked
 enum-known-walked c = search needs
 
 refusal-requires : tie.Need-refusal-requires
-refusal-requires c κs = let i = c .before .before .before .before .before .before .before .before .before .before .before .before .before .before .before .before .before .before in (decides-refused (table i) _ _ _ _ _ _ (walking (c .before .before .before .before .before) (table i) (i .pre .0 .1)) _ _ (c .before .walked .given .1) .1, omega arith)
+refusal-requires c κs =
+    let r = c .before in
+    let w = refused-at r in
+    (decides-refused (table w) _ _ _ _ _ _ (walking w (table w) (in-table w)) _ _ (r .walked .given .1) .1, omega arith)
+
+same-length-2 : tie.Need-same-length-2
+same-length-2 c = as-long (refused-at (c .before .before))
+
+returns-2 : tie.Need-returns-2
+returns-2 c =
+    let r = c .before .before in
+    let w = refused-at r in
+    λ T p st e. same-proof _ _ p T _ (start (w .before) .pre .1 .1) e (c .refusal .ensures ∙ sym (decides-refused T _ _ _ _ _ _ (walking w T st) _ _ (r .walked .given .1) .0))
+
+-- ---- the walk gave goals
 
 enum-known-walked-2 : tie.Need-enum-known-walked-2
 enum-known-walked-2 c = search needs
 
 add-same-goals : tie.Need-add-same-goals
-add-same-goals c = omega (arith, sizes (c .before .before .before .before .before .before .before .before .before .before .before .before .before .before .before .before .before .before .before))
+add-same-goals c = omega (arith, sizes (start (gave-at (c .before .before) .before)))
 
 same-goals-requires : tie.Need-same-goals-requires
 same-goals-requires c κs =
-    let i = c .before .before .before .before .before .before .before .before .before .before .before .before .before .before .before .before .before .before .before in
-    let w = c .before .before .before .before .before .before in
-    let b = decides-bound (table i) _ _ _ _ _ _ (walking w (table i) (i .pre .0 .1)) _ _ (c .before .before .walked2 .given .1) in
-    (omega (arith, b, i .pre .2, c .before .before .before .before .before .before .before .before .before .before .before .before .before .before .note-arities .kept .1 .1 .0, c .before .before .before .before .before .before .before .before .before .before .copy-in .kept .0, w .walk .kept .1 .1 .1 .1 .0), sizes i .remaining-inside)
+    let g = c .before .before in
+    let w = gave-at g in
+    let i = start (w .before) in
+    (omega (arith, decides-bound (table w) _ _ _ _ _ _ (walking w (table w) (in-table w)) _ _ (g .walked2 .given .1), i .pre .2, as-long w), sizes i .remaining-inside)
+
+-- these are the stated ones
+term-stands : (i : tie.Start) → Stands (now (i .args .proof)) (i .args .parts .term) (proof i .term) × (i .args .parts .rest ≡ i .args .parts .term + size (proof i .term))
+term-stands i = term-there _ _ (i .pre .1 .1) _ (i .pre .1 .2)
+
+count-fields-requires : tie.Need-count-fields-requires
+count-fields-requires c κs = let i = start (gave-at (compared-at (c .before)) .before) in (proof i .term, term-stands i .0, term-stands i .1)
+
+counted-is : (c : tie.After-count-fields) → c .count-fields .result ≡ fields (proof (start (gave-at (compared-at (c .before .before)) .before)) .term)
+counted-is c = let i = start (gave-at (compared-at (c .before .before)) .before) in c .count-fields .ensures (proof i .term) (term-stands i .0) (term-stands i .1)
 
 counted-requires : tie.Need-counted-requires
-counted-requires c κs = let i = c .before .before .before .before .before .before .before .before .before .before .before .before .before .before .before .before .before .before .before .before .before in decides-accepted (table i) _ _ _ _ _ _ (walking (c .before .before .before .before .before .before .before .before) (table i) (i .pre .0 .1)) _ _ (c .before .before .before .before .walked2 .given .1) (sym (c .before .same-goals .ensures) ∙ c .if1 .taken) .1
+counted-requires c κs =
+    let s = c .before .before in
+    let g = compared-at s in
+    let w = gave-at g in
+    decides-accepted (table w) _ _ _ _ _ _ (walking w (table w) (in-table w)) _ _ (g .walked2 .given .1) (sym (s .same-goals .ensures) ∙ c .before .if1 .taken) _ (counted-is c) .1
 
 same-length : tie.Need-same-length
-same-length c = c .before .before .before .before .before .before .before .before .before .walk .kept .1 .1 .1 .1 .0 ∙ c .before .before .before .before .before .before .before .before .before .before .before .before .before .copy-in .kept .0 ∙ c .before .before .before .before .before .before .before .before .before .before .before .before .before .before .before .before .before .note-arities .kept .1 .1 .0
+same-length c = as-long (gave-at (compared-at (c .before .before .before)))
 
 returns : tie.Need-returns
 returns c =
-    let i = c .before .before .before .before .before .before .before .before .before .before .before .before .before .before .before .before .before .before .before .before .before .before in
-    λ T p st e. same-proof _ _ p T _ (i .pre .1 .1) e (c .counted .ensures ∙ sym (decides-accepted T _ _ _ _ _ _ (walking (c .before .before .before .before .before .before .before .before .before) T st) _ _ (c .before .before .before .before .before .walked2 .given .1) (sym (c .before .before .same-goals .ensures) ∙ c .before .if1 .taken) .0))
+    let n = c .before in
+    let s = n .before .before in
+    let g = compared-at s in
+    let w = gave-at g in
+    λ T p st e. same-proof _ _ p T _ (start (w .before) .pre .1 .1) e (c .counted .ensures ∙ sym (decides-accepted T _ _ _ _ _ _ (walking w T st) _ _ (g .walked2 .given .1) (sym (s .same-goals .ensures) ∙ n .before .if1 .taken) _ (counted-is n) .0))
 
+-- these are others
 refusal-requires-2 : tie.Need-refusal-requires-2
-refusal-requires-2 c κs = let i = c .before .before .before .before .before .before .before .before .before .before .before .before .before .before .before .before .before .before .before .before .before in (decides-other (table i) _ _ _ _ _ _ (walking (c .before .before .before .before .before .before .before .before) (table i) (i .pre .0 .1)) _ _ (c .before .before .before .before .walked2 .given .1) (sym (c .before .same-goals .ensures) ∙ c .if1 .left) .1, omega arith)
-
-same-length-2 : tie.Need-same-length-2
-same-length-2 c = c .before .before .before .before .before .before .walk .kept .1 .1 .1 .1 .0 ∙ c .before .before .before .before .before .before .before .before .before .before .copy-in .kept .0 ∙ c .before .before .before .before .before .before .before .before .before .before .before .before .before .before .note-arities .kept .1 .1 .0
-
-returns-2 : tie.Need-returns-2
-returns-2 c =
-    let i = c .before .before .before .before .before .before .before .before .before .before .before .before .before .before .before .before .before .before .before in
-    λ T p st e. same-proof _ _ p T _ (i .pre .1 .1) e (c .refusal .ensures ∙ sym (decides-refused T _ _ _ _ _ _ (walking (c .before .before .before .before .before .before) T st) _ _ (c .before .before .walked .given .1) .0))
+refusal-requires-2 c κs =
+    let s = c .before in
+    let g = compared-at s in
+    let w = gave-at g in
+    (decides-other (table w) _ _ _ _ _ _ (walking w (table w) (in-table w)) _ _ (g .walked2 .given .1) (sym (s .same-goals .ensures) ∙ c .if1 .left) .1, omega arith)
 
 same-length-3 : tie.Need-same-length-3
-same-length-3 c = c .before .before .before .before .before .before .before .before .before .walk .kept .1 .1 .1 .1 .0 ∙ c .before .before .before .before .before .before .before .before .before .before .before .before .before .copy-in .kept .0 ∙ c .before .before .before .before .before .before .before .before .before .before .before .before .before .before .before .before .before .note-arities .kept .1 .1 .0
+same-length-3 c = as-long (gave-at (compared-at (c .before .before)))
 
 returns-3 : tie.Need-returns-3
 returns-3 c =
-    let i = c .before .before .before .before .before .before .before .before .before .before .before .before .before .before .before .before .before .before .before .before .before .before in
-    λ T p st e. same-proof _ _ p T _ (i .pre .1 .1) e (c .refusal2 .ensures ∙ sym (decides-other T _ _ _ _ _ _ (walking (c .before .before .before .before .before .before .before .before .before) T st) _ _ (c .before .before .before .before .before .walked2 .given .1) (sym (c .before .before .same-goals .ensures) ∙ c .before .if1 .left) .0))
+    let s = c .before .before in
+    let g = compared-at s in
+    let w = gave-at g in
+    λ T p st e. same-proof _ _ p T _ (start (w .before) .pre .1 .1) e (c .refusal2 .ensures ∙ sym (decides-other T _ _ _ _ _ _ (walking w T st) _ _ (g .walked2 .given .1) (sym (s .same-goals .ensures) ∙ c .before .if1 .left) .0))
 
 pub decide-spec : {M : Type 1} → statement M
 decide-spec =
@@ -152,6 +233,7 @@ decide-spec =
     enum-known-walked-2
     add-same-goals
     same-goals-requires
+    count-fields-requires
     counted-requires
     same-length
     returns

@@ -27,7 +27,7 @@ enum-told c = search needs
 
 write-found-requires : tie.Need-write-found-requires
 write-found-requires c κs =
-    let f = found-file _ _ (sym (c .before .before .before .before .before .before .read-term-file .ensures .0) ∙ c .before .before .enum-told .given .1) in
+    let f = found-file _ (sym (c .before .before .before .before .before .before .read-term-file .ensures .0) ∙ c .before .before .enum-told .given .1) in
     (omega (arith, c .before .before .before .before .before .before .read-term-file .kept .1 .0, c .before .before .before .before .before .before .before .before .before .before .before .pre), (f .term, f .stands))
 
 same-length : tie.Need-same-length
@@ -48,7 +48,7 @@ same-length-3 c = search needs
 returns-2 : tie.Need-returns-2
 returns-2 c =
     let o = now (c .before .before .before .before .before .before .before .before .before .before .before .before .before .before .before .before .args .out) in
-    let f = found-file _ _ (sym (c .before .before .before .before .before .before .before .before .before .before .before .read-term-file .ensures .0) ∙ c .before .before .before .before .before .before .before .enum-told .given .1) in
+    let f = found-file _ (sym (c .before .before .before .before .before .before .before .before .before .before .before .read-term-file .ensures .0) ∙ c .before .before .before .before .before .before .before .enum-told .given .1) in
     let w = c .before .before .before .before .write-found .ensures in
     (w .0 (f .term) (f .stands) ∙ ap (λ (x : Outcome (List ℕ)). leftIn o x .answer) (sym (f .outcome-is)), w .1 (f .term) (f .stands) ∙ ap (λ (x : Outcome (List ℕ)). leftIn o x .out) (sym (f .outcome-is)))
 
