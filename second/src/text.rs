@@ -1,6 +1,7 @@
 //! The five kinds of file as text for people; terms in the notation of P8.
 
 use crate::answer::Refusal;
+use crate::format::count::count_fields;
 use crate::format::flat::{Flat, FlatStep};
 use crate::format::job::Job;
 use crate::format::proof::Proof;
@@ -94,13 +95,14 @@ fn show_table(bytes: &[u8]) -> Result<String, Refusal> {
 fn show_job(bytes: &[u8]) -> Result<String, Refusal> {
     let mut terms = Terms::default();
     let job = Job::read(bytes, &mut terms)?;
+    let fields = count_fields(bytes, terms.place(job.tactic), bytes.len());
     let tactic = term_text(&terms, job.tactic);
-    Ok(format!("job: term fields {}\ngoals {}\nterm {}\n", terms.count(), goals_text(&job.goals), tactic))
+    Ok(format!("job: term fields {}\ngoals {}\nterm {}\n", fields, goals_text(&job.goals), tactic))
 }
 
 fn show_proof(bytes: &[u8]) -> Result<String, Refusal> {
     let proof = Proof::read(bytes)?;
-    let mut text = format!("proof: term fields {}\n", proof.terms.count());
+    let mut text = format!("proof: term fields {}\n", proof.term_fields(bytes));
     let _ = writeln!(text, "goals {}", goals_text(&proof.goals));
     let _ = writeln!(text, "term {}", term_text(&proof.terms, proof.hiproof));
     let _ = writeln!(text, "remaining {}", goals_text(&proof.remaining));
@@ -123,7 +125,8 @@ fn show_flat(bytes: &[u8]) -> Result<String, Refusal> {
 
 fn show_term(bytes: &[u8]) -> Result<String, Refusal> {
     let file = TermFile::read(bytes)?;
-    Ok(format!("term: term fields {}\nterm {}\n", file.terms.count(), term_text(&file.terms, file.term)))
+    let fields = count_fields(bytes, 0, bytes.len());
+    Ok(format!("term: term fields {}\nterm {}\n", fields, term_text(&file.terms, file.term)))
 }
 
 fn goals_text(goals: &[Goal]) -> String {

@@ -37,11 +37,12 @@ pub struct SuccessfulRun {
     pub steps: u32,
 }
 
-pub fn check(table: &[u8], proof: &[u8]) -> Result<AcceptedProof, Refusal> {
+pub fn check(table: &[u8], proof_bytes: &[u8]) -> Result<AcceptedProof, Refusal> {
     let table = Table::read(table)?;
-    let proof = Proof::read(proof)?;
+    let proof = Proof::read(proof_bytes)?;
     walk::walk_proof(&table, &proof)?;
-    Ok(AcceptedProof { fields: proof.terms.count(), uses: proof.atomic_fields(), open: proof.remaining.len() })
+    let fields = proof.term_fields(proof_bytes);
+    Ok(AcceptedProof { fields, uses: proof.atomic_fields(), open: proof.remaining.len() })
 }
 
 /// A proof that is not accepted gets the checker's refusal (READINGS A32).

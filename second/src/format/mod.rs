@@ -1,5 +1,7 @@
-//! The bytes of the five kinds of file: reading them and writing them.
+//! The bytes of the five kinds of file: reading them, counting in them and writing
+//! them.
 
+pub mod count;
 pub mod fields;
 pub mod flat;
 pub mod job;

@@ -1,6 +1,7 @@
 //! "Proof file: a goal list, one term of tags 16 to 21 (a hiproof), a goal list
 //! of those remaining."
 
+use super::count::count_fields;
 use super::fields::Reader;
 use super::tags::Tag;
 use super::terms::{read_term, Term, TermNumber, Terms};
@@ -26,6 +27,12 @@ impl Proof {
         let (remaining_place, remaining) = reader.goal_list()?;
         reader.expect_file_end()?;
         Ok(Proof { goals, terms, hiproof, remaining, remaining_place })
+    }
+
+    /// "fields" of an accepted proof: the term fields of its hiproof, counted in the
+    /// bytes it was read from. It ends where the list of remaining goals begins.
+    pub fn term_fields(&self, bytes: &[u8]) -> usize {
+        count_fields(bytes, self.terms.place(self.hiproof), self.remaining_place)
     }
 
     /// "uses" of an accepted proof: its atomic fields (READINGS A6).

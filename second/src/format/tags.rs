@@ -65,6 +65,16 @@ impl Tag {
         }
     }
 
+    /// How many bytes of values stand in front of the inner terms. A rule's premises
+    /// and the goals of a list are left out, since their number varies.
+    pub fn value_bytes(self) -> usize {
+        match self {
+            Tag::Rule | Tag::Use => 4,
+            Tag::Definition | Tag::Atomic | Tag::Label | Tag::Assert | Tag::DefinedTactic | Tag::Open => 2,
+            Tag::GoalList | Tag::Id | Tag::Sequence | Tag::Tensor | Tag::Empty | Tag::Alternation => 0,
+        }
+    }
+
     /// "4: length wrong for the tag (where it has inner terms: too short for the
     /// values in front of them)". Nine or more premises are a wrong length
     /// (READINGS A7); an inner term that is missing is not (READINGS A8).

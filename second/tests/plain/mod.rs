@@ -105,6 +105,25 @@ impl Table {
     }
 }
 
+pub fn inner_terms(term: &Placed) -> Vec<&Placed> {
+    match &term.term {
+        Term::Label(_, inner) => vec![inner],
+        Term::Sequence(left, right) | Term::Tensor(left, right) | Term::Alternation(left, right) => vec![left, right],
+        Term::Atomic(_) | Term::Id | Term::Empty | Term::Assert(_) | Term::Defined(_) => vec![],
+    }
+}
+
+/// P3: "the number of term fields" in a term, its own among them.
+pub fn term_fields(term: &Placed) -> usize {
+    match &term.term {
+        Term::Label(_, inner) => 1 + term_fields(inner),
+        Term::Sequence(left, right) | Term::Tensor(left, right) | Term::Alternation(left, right) => {
+            1 + term_fields(left) + term_fields(right)
+        }
+        Term::Atomic(_) | Term::Id | Term::Empty | Term::Assert(_) | Term::Defined(_) => 1,
+    }
+}
+
 /// "Input arity" of a hiproof.
 pub fn hiproof_arity(term: &Placed) -> usize {
     match &term.term {
