@@ -6,7 +6,7 @@ use Prim.Native.Nat.{ℕ, zero, suc, _+_, _*_, _≤_, _<_}
 use native.Mathlib.Omega.{arith}
 use lib.ListN.{getD}
 use Rattle.format.specs.Tags.{leastOf}
-use Rattle.format.specs.Count.{nextHeader, Counted}
+use Rattle.format.specs.Count.{nextHeader, OfTerm, Counted}
 use Rattle.format.proofs.CountLaws.{counted-few}
 
 -- so many headers are counted, and with those that are left these are all from `at` to `end`
@@ -19,6 +19,15 @@ module _ (s : List ℕ) (at end : ℕ) where
   pub counting-begun : (n : ℕ) → Counted s at end n → Counting s at end at 0
   counting-begun n c = let all : n ≡ 0 + n = omega arith in record { left = n; ahead = c; all = subst (Counted s at end) all c }
 
+  -- in front of the end stands a term's header
+  pub counting-tag : (place count : ℕ) → place < end → Counting s at end place count → OfTerm (getD s place 0)
+  unfolding Counted
+  counting-tag place count l c = go (c .left) (c .ahead)
+    where
+      go : (n : ℕ) → Counted s place end n → OfTerm (getD s place 0)
+      go zero e = absurd (omega (arith, e, l))
+      go (suc n) h = h .1
+
   -- a header more, with so many bytes of values
   pub counting-more : (place count values : ℕ) → values ≡ leastOf (getD s place 0) → place < end → Counting s at end place count → (place + (3 + values) ≤ end) × Counting s at end (place + (3 + values)) (count + 1)
   unfolding Counted nextHeader
@@ -30,7 +39,7 @@ module _ (s : List ℕ) (at end : ℕ) where
       go : (n : ℕ) → Counted s place end n → Counted s at end (count + n) → (place + (3 + values) ≤ end) × Counting s at end (place + (3 + values)) (count + 1)
       go zero e a = absurd (omega (arith, e, l))
       go (suc n) h a =
-          let ahead : Counted s (place + (3 + values)) end n = subst (λ (i : ℕ). Counted s i end n) next (h .1) in
+          let ahead : Counted s (place + (3 + values)) end n = subst (λ (i : ℕ). Counted s i end n) next (h .2) in
           let all : count + suc n ≡ count + 1 + n = omega arith in
           (omega (arith, counted-few s end n (place + (3 + values)) ahead), record { left = n; ahead = ahead; all = subst (Counted s at end) all a })
 

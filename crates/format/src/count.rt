@@ -4,7 +4,8 @@ ghost use mathlib.Core.Path.{_≡_};
 ghost use Prim.Native.Nat.{ℕ, _+_};
 ghost use Rattle.format.specs.Terms.{Term, size, fields};
 ghost use Rattle.format.specs.Standing.{Stands};
-use crate::tags::least_of;
+use crate::tags::least_at;
+use crate::tags::term_row;
 
 // The number of term fields of the term that stands from a place to an end: its own, and those of all terms in it.
 pub fn count_fields(bytes: &[u8], at: usize, end: usize) -> usize
@@ -15,8 +16,8 @@ pub fn count_fields(bytes: &[u8], at: usize, end: usize) -> usize
     let mut count: usize = 0;
     while place < end {
         count += 1;
-        let values = least_of(bytes[place]) as usize;
-        place += 3 + values;
+        let row = term_row(bytes[place]);
+        place += 3 + least_at(row) as usize;
     }
     count
 }

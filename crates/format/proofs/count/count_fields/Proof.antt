@@ -7,7 +7,7 @@ use denote.Ref.{now}
 use borrow.Author.Needs.{needs}
 use Rattle.format.proofs.StandsLaws.{known}
 use Rattle.format.proofs.CountLaws.{fields-counted, counted-fields}
-use Rattle.format.proofs.CountingLaws.{Counting, counting-begun, counting-more, counting-done, counting-few}
+use Rattle.format.proofs.CountingLaws.{Counting, counting-begun, counting-tag, counting-more, counting-done, counting-few}
 use Rattle.format.proofs.count.count_fields.Statement.{statement}
 use Rattle.format.proofs.count.count_fields.Tie as tie
 
@@ -33,33 +33,42 @@ I l = l .before .before .before
 add-count : tie.Need-add-count Inv-loop μ-loop
 add-count l = omega (arith, l .loop-test .taken, counting-few _ _ _ _ _ (l .before .loop .inv), inside (I l))
 
-shared-slice-read-least-of : tie.Need-shared-slice-read-least-of Inv-loop μ-loop
-shared-slice-read-least-of c = let l = c .before in omega (arith, l .loop-test .taken, inside (I l))
+shared-slice-read-term-row : tie.Need-shared-slice-read-term-row Inv-loop μ-loop
+shared-slice-read-term-row c = let l = c .before in omega (arith, l .loop-test .taken, inside (I l))
 
-least-of-requires : tie.Need-least-of-requires Inv-loop μ-loop
-least-of-requires c κs = search needs
+term-row-requires : tie.Need-term-row-requires Inv-loop μ-loop
+term-row-requires c κs = let l = c .before in counting-tag _ _ _ _ _ (l .loop-test .taken) (l .before .loop .inv)
 
-cast-values : tie.Need-cast-values Inv-loop μ-loop
-cast-values c = search needs
+least-at-requires : tie.Need-least-at-requires Inv-loop μ-loop
+least-at-requires c κs = c .term-row .ensures .1
+
+cast-place : tie.Need-cast-place Inv-loop μ-loop
+cast-place c = search needs
 
 add-place : tie.Need-add-place Inv-loop μ-loop
 add-place c = search needs
 
--- the next turn
-abbrev Then : tie.After-least-of Inv-loop μ-loop → Type 0
-Then c = let l = c .before .before in
+-- a turn, from the place at which it began
+abbrev N : Type 0
+N = tie.After-least-at Inv-loop μ-loop
+
+abbrev from : N → L
+from c = c .before .before .before
+
+abbrev Then : N → Type 0
+Then c = let l = from c in
     let a = I l .args in
-    let place = l .before .loop .place + (3 + c .least-of .result) in
+    let place = l .before .loop .place + (3 + c .least-at .result) in
     (place ≤ a .end) × Counting (now (a .bytes)) (a .at) (a .end) place (l .before .loop .count + 1)
 
-next : (c : tie.After-least-of Inv-loop μ-loop) → Then c
-next c = let l = c .before .before in counting-more _ _ _ _ _ _ (c .least-of .ensures) (l .loop-test .taken) (l .before .loop .inv)
+next : (c : N) → Then c
+next c = let l = from c in counting-more _ _ _ _ _ _ (c .least-at .ensures _ (c .before .term-row .ensures .0)) (l .loop-test .taken) (l .before .loop .inv)
 
 add-place-2 : tie.Need-add-place-2 Inv-loop μ-loop
 add-place-2 c = omega (arith, next c .0)
 
 loop-less : tie.Need-loop-less Inv-loop μ-loop
-loop-less c = omega (arith, c .before .before .loop-test .taken)
+loop-less c = omega (arith, from c .loop-test .taken)
 
 loop-again : tie.Need-loop-again Inv-loop μ-loop
 loop-again c = next c .1
@@ -75,9 +84,10 @@ count-fields-spec =
     μ-loop
     loop-holds
     add-count
-    shared-slice-read-least-of
-    least-of-requires
-    cast-values
+    shared-slice-read-term-row
+    term-row-requires
+    least-at-requires
+    cast-place
     add-place
     add-place-2
     loop-less

@@ -18,25 +18,21 @@ returns-2 : tie.Need-returns-2
 unfolding rowNumber rows numberFrom
 returns-2 c = (numbered (λ k. 0) 4 12 tt (c .before .before .args .tag) (omega (arith, c .before .if1 .left)) (omega (arith, c .if2 .taken)), omega arith)
 
-sub-result : tie.Need-sub-result
-sub-result c = search needs
-
-cast-result : tie.Need-cast-result
-cast-result c = search needs
+term-row-requires : tie.Need-term-row-requires
+term-row-requires c κs = (omega (arith, c .before .if2 .left), omega (arith, c .if3 .taken))
 
 returns-3 : tie.Need-returns-3
-unfolding rowNumber rows numberFrom
-returns-3 c = (numbered (λ k. k - 12) 16 9 tt (c .before .before .before .args .tag) (omega (arith, c .before .if2 .left)) (omega (arith, c .if3 .taken)), omega (arith, c .if3 .taken))
+returns-3 c = c .term-row .ensures
 
 returns-4 : tie.Need-returns-4
 unfolding rowNumber rows numberFrom
 returns-4 c = (numbered (λ k. 0) 25 7 tt (c .before .before .before .before .args .tag) (omega (arith, c .before .if3 .left)) (omega (arith, c .if4 .taken)), omega arith)
 
-sub-result-2 : tie.Need-sub-result-2
-sub-result-2 c = search needs
+sub-result : tie.Need-sub-result
+sub-result c = search needs
 
-cast-result-2 : tie.Need-cast-result-2
-cast-result-2 c = search needs
+cast-result : tie.Need-cast-result
+cast-result c = search needs
 
 returns-5 : tie.Need-returns-5
 unfolding rowNumber rows numberFrom
@@ -51,11 +47,10 @@ row-of-spec =
     (tie.spec
     returns
     returns-2
-    sub-result
-    cast-result
+    term-row-requires
     returns-3
     returns-4
-    sub-result-2
-    cast-result-2
+    sub-result
+    cast-result
     returns-5
     returns-6)
