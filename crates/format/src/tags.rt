@@ -105,7 +105,7 @@ pub fn term_row(tag: u8) -> usize
     requires { ⌜ (16 ≤ tag) × (tag < 25) ⌝ }
     ensures { λ r. ⌜ (r ≡ rowNumber tag) × (r < rowNumbers) ⌝ }
 {
-    (tag - 12) as usize
+    tag as usize - 12
 }
 
 // The row of a tag; 0 for a number that is no tag.

@@ -37,7 +37,7 @@ shared-slice-read-term-row : tie.Need-shared-slice-read-term-row Inv-loop μ-loo
 shared-slice-read-term-row c = let l = c .before in omega (arith, l .loop-test .taken, inside (I l))
 
 term-row-requires : tie.Need-term-row-requires Inv-loop μ-loop
-term-row-requires c κs = let l = c .before in counting-tag _ _ _ _ _ (l .loop-test .taken) (l .before .loop .inv)
+term-row-requires c κs = let l = c .before in counting-tag _ _ _ _ _ (omega (arith, l .loop-test .taken)) (l .before .loop .inv)
 
 least-at-requires : tie.Need-least-at-requires Inv-loop μ-loop
 least-at-requires c κs = c .term-row .ensures .1
@@ -62,7 +62,7 @@ Then c = let l = from c in
     (place ≤ a .end) × Counting (now (a .bytes)) (a .at) (a .end) place (l .before .loop .count + 1)
 
 next : (c : N) → Then c
-next c = let l = from c in counting-more _ _ _ _ _ _ (c .least-at .ensures _ (c .before .term-row .ensures .0)) (l .loop-test .taken) (l .before .loop .inv)
+next c = let l = from c in counting-more _ _ _ _ _ _ (c .least-at .ensures _ (c .before .term-row .ensures .0)) (omega (arith, l .loop-test .taken)) (l .before .loop .inv)
 
 add-place-2 : tie.Need-add-place-2 Inv-loop μ-loop
 add-place-2 c = omega (arith, next c .0)
@@ -74,7 +74,7 @@ loop-again : tie.Need-loop-again Inv-loop μ-loop
 loop-again c = next c .1
 
 returns : tie.Need-returns Inv-loop μ-loop
-returns c = λ t st e. counted-fields _ _ _ t st e _ (counting-done _ _ _ _ _ (c .loop-test .left) (c .before .loop .inv))
+returns c = λ t st e. counted-fields _ _ _ t st e _ (counting-done _ _ _ _ _ (omega (arith, c .loop-test .left)) (c .before .loop .inv))
 
 pub count-fields-spec : {M : Type 1} → statement M
 count-fields-spec =

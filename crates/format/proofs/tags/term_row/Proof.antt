@@ -12,12 +12,9 @@ use Rattle.format.proofs.tags.term_row.Tie as tie
 sub-result : tie.Need-sub-result
 sub-result c = search needs
 
-cast-result : tie.Need-cast-result
-cast-result c = search needs
-
 returns : tie.Need-returns
 unfolding rowNumber rows numberFrom
 returns c = (numbered (λ k. k - 12) 16 9 tt (c .args .tag) (c .pre .0) (omega (arith, c .pre .1)), omega (arith, c .pre .1))
 
 pub term-row-spec : {M : Type 1} → statement M
-term-row-spec = tie.close (tie.spec sub-result cast-result returns)
+term-row-spec = tie.close (tie.spec sub-result returns)
