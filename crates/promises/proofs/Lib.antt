@@ -1,6 +1,7 @@
 pub mod LentLaws
 pub mod OutcomeLaws
 pub mod CheckPromises
+pub mod CountPromises
 pub mod Finer
 pub mod CheckFlatPromises
 pub mod WrittenWithin

@@ -3,6 +3,7 @@ pub mod Right
 pub mod Ended
 pub mod Results
 pub mod CheckPromises
+pub mod CountPromises
 pub mod Finer
 pub mod CheckFlatPromises
 pub mod WriteProofPromises
