@@ -11,9 +11,9 @@ use answers::Answer;
 use answers::refusal;
 use files::proofs::ProofRead;
 use files::proofs::read_proof;
-use index::table::read_table;
 use tables::fields::TableRead;
 use walks::layout::ARITIES_END;
+use whole_table::read_table;
 use words::clear;
 
 // The size of the work space that is named for this entry.

@@ -21,8 +21,8 @@ use answers::refusal;
 use files::flats::FlatParts;
 use files::flats::FlatRead;
 use files::flats::read_flat;
-use index::table::read_table;
 use tables::fields::TableRead;
+use whole_table::read_table;
 use words::clear;
 
 // The length of the work space.

@@ -1,6 +1,6 @@
 // The regions of the work space. specs/Layout says how each follows from the limits of document 01.
 use index::layout::HEADS_ROOM;
-use index::layout::READING_SCRATCH;
+use whole_table::layout::READING_SCRATCH;
 
 // The cursors of the pending goals, where the table was read, and the place behind them.
 pub const CURSORS: usize = 0;

@@ -21,7 +21,6 @@ use answers::wrote;
 use files::proofs::ProofParts;
 use files::proofs::ProofRead;
 use files::proofs::read_proof;
-use index::table::read_table;
 use nodes::cells::put_opens;
 use nodes::cells::put_range;
 use nodes::walk::Walked;
@@ -30,6 +29,7 @@ use tables::fields::TableRead;
 use walks::arity::note_arities;
 use walks::layout::ARITIES_END;
 use walks::layout::STACK_END;
+use whole_table::read_table;
 use words::clear;
 
 // The size of the work space that is named for this entry.

@@ -20,11 +20,3 @@ rulesRoom = headsRoom + 5 * mostNodes
 -- an index over the definitions
 abbrev pub definitionsRoom : ℕ
 definitionsRoom = headsRoom + 5 * mostDefinitions
-
--- a table of what was seen: four bits for each value of two bytes
-abbrev pub seenRoom : ℕ
-seenRoom = 32768
-
--- what reading a table takes besides the index over the rules
-abbrev pub readingScratch : ℕ
-readingScratch = seenRoom + definitionsRoom

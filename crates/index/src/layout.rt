@@ -8,12 +8,3 @@ pub const HEADS_ROOM: usize = 2048;
 
 // An index over the rules.
 pub const RULES_ROOM: usize = 22528;
-
-// A table of what was seen.
-pub const SEEN_ROOM: usize = 32768;
-
-// So many bytes of fields are read more quickly than a table of what was seen is cleared.
-pub const FEW_BYTES: usize = 512;
-
-// What reading a table takes besides the index over the rules.
-pub const READING_SCRATCH: usize = 36096;

@@ -16,9 +16,9 @@ use files::proofs::ProofRead;
 use files::proofs::read_proof;
 use files::terms::TermFileRead;
 use files::terms::read_term_file;
-use index::layout::READING_SCRATCH;
-use index::table::read_table;
 use tables::fields::TableRead;
+use whole_table::layout::READING_SCRATCH;
+use whole_table::read_table;
 
 // More than the reading of any file takes.
 const SPACE: usize = 65536;

@@ -12,9 +12,9 @@ use answers::refusal;
 use arities::layout::SPACE_END;
 use files::jobs::JobRead;
 use files::jobs::read_job;
-use index::layout::READING_SCRATCH;
-use index::table::read_table;
 use tables::fields::TableRead;
+use whole_table::layout::READING_SCRATCH;
+use whole_table::read_table;
 use words::clear;
 
 // Both files, within the budget's limit, in a work space that is long enough. Nothing of the run stands in it yet while they are read.

@@ -1,7 +1,7 @@
 // The regions of the work space. specs/Layout says how each follows from the limits.
-use index::layout::READING_SCRATCH;
 use index::layout::RULES_ROOM;
-use index::layout::SEEN_ROOM;
+use seen::layout::SEEN_ROOM;
+use whole_table::layout::READING_SCRATCH;
 
 pub const DEFINITIONS_PLACE: usize = SEEN_ROOM;
 

@@ -12,7 +12,7 @@ use Rattle.format.specs.Refusals.{number, budgetTooLarge, heightOutside}
 use Rattle.reading.specs.Waiting.{readingRoom}
 use Rattle.tables.specs.Tables.{Table}
 use Rattle.index.specs.Build.{RulesIndexed, DefinitionsIndexed}
-use Rattle.index.proofs.ReadLaws.{rules-next, definitions-next}
+use Rattle.whole_table.proofs.ReadLaws.{rules-next, definitions-next}
 use Rattle.files.specs.declared.jobs.JobParts.{JobParts}
 use Rattle.files.specs.Jobs.{Job}
 use Rattle.search.specs.Answer.{search}

@@ -11,10 +11,10 @@ use answers::Answer;
 use answers::refusal;
 use files::jobs::JobRead;
 use files::jobs::read_job;
-use index::table::read_table;
 use search_machine::layout::RULES_PLACE;
 use search_machine::layout::SPACE_END;
 use tables::fields::TableRead;
+use whole_table::read_table;
 use words::clear;
 
 // Both files, within the limits of budget and height, in a work space that is long enough.

@@ -7,7 +7,7 @@ use lib.ListN.{length}
 use denote.Ref.{now}
 use borrow.Author.Needs.{needs}
 use Rattle.tables.proofs.ToldTable.{ToldRefused, told-refuses}
-use Rattle.index.proofs.ReadLaws.{Told, told-indexed}
+use Rattle.whole_table.proofs.ReadLaws.{Told, told-indexed}
 use Rattle.files.proofs.Answers as files
 use Rattle.files.proofs.RefusedFiles.{Proof-refused}
 use Rattle.answers.specs.Answers as answer

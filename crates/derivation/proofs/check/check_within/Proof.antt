@@ -7,7 +7,7 @@ use borrow.Author.Needs.{needs}
 use Rattle.format.specs.Refusals.{Cause, number}
 use Rattle.format.specs.Results.{gives, refused}
 use Rattle.tables.proofs.ToldTable.{ToldRefused, told-refuses}
-use Rattle.index.proofs.ReadLaws.{Told, told-indexed}
+use Rattle.whole_table.proofs.ReadLaws.{Told, told-indexed}
 use Rattle.files.specs.Derivations.{Derivation, readFlat}
 use Rattle.files.specs.Shapes.{flatPartsOf}
 use Rattle.files.proofs.Answers.{flat-read, flat-refused}

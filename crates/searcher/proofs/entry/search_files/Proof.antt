@@ -9,10 +9,10 @@ use borrow.Author.Needs.{needs}
 use Rattle.tables.specs.declared.fields.TableRead.the-variants as R
 use Rattle.tables.specs.ReadTables.{readTable}
 use Rattle.tables.specs.Shapes.{tableShape}
+use Rattle.whole_table.proofs.ReadLaws.{Told, told-indexed}
 use Rattle.files.specs.declared.jobs.JobRead.the-variants as J
 use Rattle.files.specs.Jobs.{readJob}
 use Rattle.files.specs.Shapes.{jobShape}
-use Rattle.index.proofs.ReadLaws.{Told, told-indexed}
 use Rattle.search_machine.specs.Layout.{rulesPlace}
 use Rattle.search_machine.specs.Step.{TableIndexed}
 use Rattle.tactics.proofs.EntryLaws.{table-place, job-place, BothRead, table-refused-end, job-refused-end, both-read}
