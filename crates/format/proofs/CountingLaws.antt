@@ -28,20 +28,20 @@ module _ (s : List ℕ) (at end : ℕ) where
       go zero e = absurd (omega (arith, e, l))
       go (suc n) h = h .1
 
-  -- a header more, with so many bytes of values
-  pub counting-more : (place count values : ℕ) → values ≡ leastOf (getD s place 0) → place < end → Counting s at end place count → (place + (3 + values) ≤ end) × Counting s at end (place + (3 + values)) (count + 1)
+  -- a header more: so many bytes behind it stands the next one, or the end is there
+  pub counting-more : (place count step : ℕ) → step ≡ 3 + leastOf (getD s place 0) → place < end → Counting s at end place count → (place + step ≤ end) × Counting s at end (place + step) (count + 1)
   unfolding Counted nextHeader
-  counting-more place count values v l c = go (c .left) (c .ahead) (c .all)
+  counting-more place count step e l c = go (c .left) (c .ahead) (c .all)
     where
-      next : place + 3 + leastOf (getD s place 0) ≡ place + (3 + values)
-      next = omega (arith, v)
+      next : place + 3 + leastOf (getD s place 0) ≡ place + step
+      next = omega (arith, e)
 
-      go : (n : ℕ) → Counted s place end n → Counted s at end (count + n) → (place + (3 + values) ≤ end) × Counting s at end (place + (3 + values)) (count + 1)
-      go zero e a = absurd (omega (arith, e, l))
+      go : (n : ℕ) → Counted s place end n → Counted s at end (count + n) → (place + step ≤ end) × Counting s at end (place + step) (count + 1)
+      go zero q a = absurd (omega (arith, q, l))
       go (suc n) h a =
-          let ahead : Counted s (place + (3 + values)) end n = subst (λ (i : ℕ). Counted s i end n) next (h .2) in
+          let ahead : Counted s (place + step) end n = subst (λ (i : ℕ). Counted s i end n) next (h .2) in
           let all : count + suc n ≡ count + 1 + n = omega arith in
-          (omega (arith, counted-few s end n (place + (3 + values)) ahead), record { left = n; ahead = ahead; all = subst (Counted s at end) all a })
+          (omega (arith, counted-few s end n (place + step) ahead), record { left = n; ahead = ahead; all = subst (Counted s at end) all a })
 
   -- no header is left
   pub counting-done : (place count : ℕ) → end ≤ place → Counting s at end place count → Counted s at end count

@@ -61,11 +61,11 @@ from f (suc n) i p (suc k) h =
     subst (λ (m : ℕ). T (f m)) (suc-add i k ∙ sym (add-suc i k))
     (from f n (suc i) (both-right (f i) (each f (suc i) n) p) k (omega arith))
 
--- what the code computes is the row's number, tested at the n numbers from i on
-pub numbered : (g : ℕ → ℕ) (i n : ℕ) → T (each (λ k. eqb (g k) (rowNumber k)) i n) → (t : ℕ) → i ≤ t → t < i + n → g t ≡ rowNumber t
-numbered g i n p t low high =
+-- what the code computes is what the specification has, tested at the n numbers from i on
+pub tested : (g h : ℕ → ℕ) (i n : ℕ) → T (each (λ k. eqb (g k) (h k)) i n) → (t : ℕ) → i ≤ t → t < i + n → g t ≡ h t
+tested g h i n p t low high =
     let e : i + (t - i) ≡ t = omega arith in
-    subst (λ (m : ℕ). g m ≡ rowNumber m) e (eqb→eq _ _ (from (λ k. eqb (g k) (rowNumber k)) n i p (t - i) (omega arith)))
+    subst (λ (m : ℕ). g m ≡ h m) e (eqb→eq _ _ (from (λ k. eqb (g k) (h k)) n i p (t - i) (omega arith)))
 
 none-from : (rs : List Row) (i t : ℕ) → T (every (λ r. ltb (r .tag) 34) rs) → 34 ≤ t → numberFrom i rs t ≡ 0
 unfolding numberFrom

@@ -4,20 +4,20 @@ ghost use mathlib.Core.Path.{_≡_};
 ghost use Prim.Native.Nat.{ℕ, _+_};
 ghost use Rattle.format.specs.Terms.{Term, size, fields};
 ghost use Rattle.format.specs.Standing.{Stands};
-use crate::tags::least_at;
-use crate::tags::term_row;
+use crate::tags::TERM_STEPS;
 
 // The number of term fields of the term that stands from a place to an end: its own, and those of all terms in it.
 pub fn count_fields(bytes: &[u8], at: usize, end: usize) -> usize
     requires { ⌜ ((t : Term) × Stands (now bytes) at t × (end ≡ at + size t)) ⌝ }
     ensures { λ r. ⌜ ((t : Term) → Stands (now (bytes .entry)) at t → end ≡ at + size t → r ≡ fields t) ⌝ }
 {
+    let steps = TERM_STEPS;
     let mut place = at;
     let mut count: usize = 0;
     while place < end {
         count += 1;
-        let row = term_row(bytes[place]);
-        place += 3 + least_at(row) as usize;
+        let tag = bytes[place] as usize;
+        place += steps[tag - 16] as usize;
     }
     count
 }

@@ -1,7 +1,7 @@
 // Document 01, "Fourteen tags in all": constant tables with a row for each tag, in that order, and row 0 for a number that is no tag: the tag's kind (where it may stand), the smallest and the greatest length of its contents, and the number of its inner terms.
 // A table is stored anew at each look-up, so tables are short, and who looks up more than once takes the row first.
 ghost use mathlib.Core.Path.{_≡_};
-ghost use Prim.Native.Nat.{ℕ, _≤_, _<_};
+ghost use Prim.Native.Nat.{ℕ, _<_};
 ghost use Rattle.format.specs.Tags.{kindOf, leastOf, mostOf, innerOf};
 ghost use Rattle.format.specs.RowNumbers.{rowNumber, rowNumbers};
 
@@ -100,13 +100,18 @@ const INNER: [u8; 15] = [
     0, // 33
 ];
 
-// The row of a term's tag. Where a term is known to stand it is found without a test.
-pub fn term_row(tag: u8) -> usize
-    requires { ⌜ (16 ≤ tag) × (tag < 25) ⌝ }
-    ensures { λ r. ⌜ (r ≡ rowNumber tag) × (r < rowNumbers) ⌝ }
-{
-    tag as usize - 12
-}
+// From the header of a term's field to the next header in the term: over the header and the values in front of the inner terms. For tags 16 to 24 alone, since who moves so knows that a term stands there.
+pub const TERM_STEPS: [u8; 9] = [
+    5, // 16
+    3, // 17
+    5, // 18
+    3, // 19
+    3, // 20
+    3, // 21
+    3, // 22
+    5, // 23
+    5, // 24
+];
 
 // The row of a tag; 0 for a number that is no tag.
 pub fn row_of(tag: u8) -> usize
@@ -119,7 +124,7 @@ pub fn row_of(tag: u8) -> usize
         return 0;
     }
     if tag < 25 {
-        return term_row(tag);
+        return (tag - 12) as usize;
     }
     if tag < 32 {
         return 0;

@@ -1,74 +1,91 @@
 -- `count::count_fields` meets its contract. The invariant: those that are counted and those from here to the end are all headers of the term.
 -- Assumes nothing.
-use Prim.Native.Nat.{_+_, _-_, _≤_}
+use mathlib.Core.Path.{_≡_}
+use mathlib.Core.List.{List, [], _∷_}
+use Prim.Native.Nat.{ℕ, _+_, _-_, _≤_}
 use native.Mathlib.Omega.{arith}
-use lib.ListN.{length}
+use lib.ListN.{length, getD}
 use denote.Ref.{now}
 use borrow.Author.Needs.{needs}
+use Rattle.format.specs.Tags.{rows, findRow, rowOf, leastOf}
+use Rattle.format.specs.Count.{OfTerm}
+use Rattle.format.proofs.Rows.{tested}
 use Rattle.format.proofs.StandsLaws.{known}
 use Rattle.format.proofs.CountLaws.{fields-counted, counted-fields}
 use Rattle.format.proofs.CountingLaws.{Counting, counting-begun, counting-tag, counting-more, counting-done, counting-few}
 use Rattle.format.proofs.count.count_fields.Statement.{statement}
 use Rattle.format.proofs.count.count_fields.Tie as tie
 
+-- the table of steps is that of the tags, tested at each tag of a term
+abbrev table : List ℕ
+table = 5 ∷ 3 ∷ 5 ∷ 3 ∷ 3 ∷ 3 ∷ 3 ∷ 5 ∷ 5 ∷ []
+
+stepped : (tag : ℕ) → OfTerm tag → getD table (tag - 16) 0 ≡ 3 + leastOf tag
+unfolding leastOf rowOf rows findRow
+stepped tag o = tested (λ k. getD table (k - 16) 0) (λ k. 3 + leastOf k) 16 9 tt tag (o .0) (omega (arith, o .1))
+
 abbrev Inv-loop : tie.InvT-loop
-Inv-loop bytes at end place₀ count₀ place count = Counting bytes at end place count
+Inv-loop bytes at end steps place₀ count₀ place count = Counting bytes at end place count
 
 abbrev μ-loop : tie.MeasureT-loop
-μ-loop bytes at end place₀ count₀ place count = end - place
+μ-loop bytes at end steps place₀ count₀ place count = end - place
 
 inside : (i : tie.Start Inv-loop μ-loop) → i .args .end ≤ length (now (i .args .bytes))
 inside i = omega (arith, i .pre .2, known _ _ (i .pre .0) (i .pre .1) .inside)
 
 loop-holds : tie.Need-loop-holds Inv-loop μ-loop
-loop-holds c = let p = c .before .pre in counting-begun _ _ _ _ (fields-counted _ _ _ (p .0) (p .1) (p .2))
+loop-holds c = let p = c .pre in counting-begun _ _ _ _ (fields-counted _ _ _ (p .0) (p .1) (p .2))
 
--- within the loop, and its start
+-- a turn, and the start
 abbrev L : Type 0
 L = tie.In-loop Inv-loop μ-loop
 
 abbrev I : L → tie.Start Inv-loop μ-loop
-I l = l .before .before .before
+I l = l .before .before
 
 add-count : tie.Need-add-count Inv-loop μ-loop
 add-count l = omega (arith, l .loop-test .taken, counting-few _ _ _ _ _ (l .before .loop .inv), inside (I l))
 
-shared-slice-read-term-row : tie.Need-shared-slice-read-term-row Inv-loop μ-loop
-shared-slice-read-term-row c = let l = c .before in omega (arith, l .loop-test .taken, inside (I l))
+shared-slice-read-tag : tie.Need-shared-slice-read-tag Inv-loop μ-loop
+shared-slice-read-tag c = let l = c .before in omega (arith, l .loop-test .taken, inside (I l))
 
-term-row-requires : tie.Need-term-row-requires Inv-loop μ-loop
-term-row-requires c κs = let l = c .before in counting-tag _ _ _ _ _ (omega (arith, l .loop-test .taken)) (l .before .loop .inv)
+-- the tag is read
+abbrev R : Type 0
+R = tie.After-shared-slice-known Inv-loop μ-loop
 
-least-at-requires : tie.Need-least-at-requires Inv-loop μ-loop
-least-at-requires c κs = c .term-row .ensures .1
+abbrev tag : R → ℕ
+tag c = getD (now (I (c .before) .args .bytes)) (c .before .before .loop .place) 0
 
-cast-place : tie.Need-cast-place Inv-loop μ-loop
-cast-place c = search needs
+tag-is : (c : R) → OfTerm (tag c)
+tag-is c = let l = c .before in counting-tag _ _ _ _ _ (omega (arith, l .loop-test .taken)) (l .before .loop .inv)
 
-add-place : tie.Need-add-place Inv-loop μ-loop
-add-place c = search needs
+cast-tag : tie.Need-cast-tag Inv-loop μ-loop
+cast-tag c = omega (arith, tag-is c)
 
--- a turn, from the place at which it began
-abbrev N : Type 0
-N = tie.After-least-at Inv-loop μ-loop
+sub-place : tie.Need-sub-place Inv-loop μ-loop
+sub-place c = omega (arith, tag-is c)
 
-abbrev from : N → L
-from c = c .before .before .before
+array-read-place : tie.Need-array-read-place Inv-loop μ-loop
+array-read-place c = omega (arith, tag-is c)
 
-abbrev Then : N → Type 0
-Then c = let l = from c in
+-- the next turn
+abbrev Then : R → Type 0
+Then c = let l = c .before in
     let a = I l .args in
-    let place = l .before .loop .place + (3 + c .least-at .result) in
+    let place = l .before .loop .place + getD table (tag c - 16) 0 in
     (place ≤ a .end) × Counting (now (a .bytes)) (a .at) (a .end) place (l .before .loop .count + 1)
 
-next : (c : N) → Then c
-next c = let l = from c in counting-more _ _ _ _ _ _ (c .least-at .ensures _ (c .before .term-row .ensures .0)) (omega (arith, l .loop-test .taken)) (l .before .loop .inv)
+next : (c : R) → Then c
+next c = let l = c .before in counting-more _ _ _ _ _ _ (stepped (tag c) (tag-is c)) (omega (arith, l .loop-test .taken)) (l .before .loop .inv)
 
-add-place-2 : tie.Need-add-place-2 Inv-loop μ-loop
-add-place-2 c = omega (arith, next c .0)
+cast-place : tie.Need-cast-place Inv-loop μ-loop
+cast-place c = omega (arith, next c .0)
+
+add-place : tie.Need-add-place Inv-loop μ-loop
+add-place c = omega (arith, next c .0)
 
 loop-less : tie.Need-loop-less Inv-loop μ-loop
-loop-less c = omega (arith, from c .loop-test .taken)
+loop-less c = omega (arith, c .before .loop-test .taken, stepped (tag c) (tag-is c))
 
 loop-again : tie.Need-loop-again Inv-loop μ-loop
 loop-again c = next c .1
@@ -84,12 +101,12 @@ count-fields-spec =
     μ-loop
     loop-holds
     add-count
-    shared-slice-read-term-row
-    term-row-requires
-    least-at-requires
+    shared-slice-read-tag
+    cast-tag
+    sub-place
+    array-read-place
     cast-place
     add-place
-    add-place-2
     loop-less
     loop-again
     returns)
