@@ -1,5 +1,5 @@
-//! What is measured: calls of every entry, each in four sizes that double, the
-//! last of them at a limit of document 01 or 02.
+//! What is measured: calls of every entry, and counts of term fields alone, each
+//! in four sizes that double, the last of them at a limit of document 01 or 02.
 
 use crate::files::{self, Files, Keys};
 use crate::searches;
@@ -8,12 +8,34 @@ use boundary::compare::name_of;
 use second::generate::build;
 use second::generate::case::{Case, Entry};
 
+/// What is called.
+#[derive(Clone, Copy, PartialEq, Eq)]
+pub enum Called {
+    Entry(Entry),
+    /// The count of a term's fields alone, which is a part of a call of check (document 02, P3).
+    Count,
+}
+
+impl Called {
+    pub fn name(self) -> &'static str {
+        match self {
+            Called::Entry(entry) => name_of(entry),
+            Called::Count => "count",
+        }
+    }
+
+    /// The key of a family, from the word for its files.
+    fn key(self, word: &str) -> String {
+        format!("{}-{word}", self.name())
+    }
+}
+
 /// Calls that differ in size alone.
 pub struct Family {
     /// One word for command lines.
     pub key: String,
     pub title: &'static str,
-    pub entry: Entry,
+    pub called: Called,
     /// What the sizes count.
     pub unit: &'static str,
     /// The largest size.
@@ -33,6 +55,7 @@ impl Family {
         [8, 4, 2, 1].map(|part| self.most / part).to_vec()
     }
 
+    /// The call of that size; for a count, the call of check with the proof whose term is counted.
     pub fn case(&self, size: usize) -> Case {
         (self.make)(size)
     }
@@ -50,17 +73,29 @@ fn family(
         let (table, other) = make(size);
         Case::new(entry, &table, &other)
     };
-    Family { key: format!("{}-{word}", name_of(entry)), title, entry, unit, most, number: 0, make: Box::new(make) }
+    let called = Called::Entry(entry);
+    Family { key: called.key(word), title, called, unit, most, number: 0, make: Box::new(make) }
+}
+
+/// The count of the term in a proof that check accepts.
+fn count(
+    word: &str,
+    title: &'static str,
+    unit: &'static str,
+    most: usize,
+    make: impl Fn(usize) -> Files + 'static,
+) -> Family {
+    let called = Called::Count;
+    Family { key: called.key(word), called, ..family(Entry::Check, word, title, unit, most, make) }
 }
 
 /// A search, sized by its steps, that answers that number.
 fn search(word: &str, title: &'static str, number: u32, make: impl Fn(usize) -> Case + 'static) -> Family {
-    let entry = Entry::Search;
-    let key = format!("{}-{word}", name_of(entry));
-    Family { key, title, entry, unit: "steps", most: 4_096, number, make: Box::new(make) }
+    let called = Called::Entry(Entry::Search);
+    Family { key: called.key(word), title, called, unit: "steps", most: 4_096, number, make: Box::new(make) }
 }
 
-/// All of them, entry by entry.
+/// All of them, entry by entry; the counts stand behind check.
 pub fn all() -> Vec<Family> {
     let mut list = Vec::new();
     let entries = [
@@ -76,7 +111,9 @@ pub fn all() -> Vec<Family> {
     for entry in entries {
         list.push(family(entry, "small", "document 01's first example", "file", 1, move |_| files::small(entry)));
         match entry {
-            Entry::Check => list.extend([of_rules(entry), of_depth(entry), of_check()].into_iter().flatten()),
+            Entry::Check => {
+                list.extend([of_rules(entry), of_depth(entry), of_check(), of_count()].into_iter().flatten())
+            }
             Entry::Flatten => list.extend([of_rules(entry), of_depth(entry), of_flatten()].into_iter().flatten()),
             Entry::CheckFlat => list.extend([of_rules(entry), of_check_flat()].into_iter().flatten()),
             Entry::WriteProof => list.extend([of_rules(entry), of_write_proof()].into_iter().flatten()),
@@ -134,6 +171,15 @@ fn of_check() -> Vec<Family> {
             number: 35,
             ..family(entry, "too-few", "too few goals at the end", "leaves", 2_048, files::too_few_at_the_end)
         },
+    ]
+}
+
+/// Terms as deep as they have fields, of three of check's proofs.
+fn of_count() -> Vec<Family> {
+    vec![
+        count("labels", "nested labels", "term fields", 4_096, files::labels),
+        count("sequences-left", "sequences to the left", "ids", 2_048, files::sequences_to_the_left),
+        count("sequences-right", "sequences to the right", "ids", 2_048, files::sequences_to_the_right),
     ]
 }
 
@@ -226,6 +272,8 @@ fn of_search() -> Vec<Family> {
 #[cfg(test)]
 mod tests {
     use super::*;
+    use crate::counting::term_of;
+    use second::format::count::count_fields;
     use second::Answer;
 
     /// The answer to the largest call of a family, and the call.
@@ -238,7 +286,8 @@ mod tests {
     #[test]
     fn every_call_is_answered_as_its_family_says() {
         for family in &all() {
-            assert!(family.number == 0 || [Entry::Check, Entry::Search].contains(&family.entry), "{}", family.key);
+            let may_refuse = [Called::Entry(Entry::Check), Called::Entry(Entry::Search)].contains(&family.called);
+            assert!(family.number == 0 || may_refuse, "{}", family.key);
             for size in family.sizes() {
                 let outcome = family.case(size).outcome();
                 assert_eq!(outcome.answer.number, family.number, "{} {size}", family.key);
@@ -249,7 +298,8 @@ mod tests {
     /// All but a few of the steps that a size names are taken, at every size.
     #[test]
     fn searches_take_the_steps_of_their_size() {
-        for family in all().iter().filter(|family| family.entry == Entry::Search && family.most > 1) {
+        let called = Called::Entry(Entry::Search);
+        for family in all().iter().filter(|family| family.called == called && family.most > 1) {
             for size in family.sizes() {
                 let steps = family.case(size).outcome().answer.steps as usize;
                 assert!((size - 4..=size).contains(&steps), "{} {size}: {steps}", family.key);
@@ -259,6 +309,29 @@ mod tests {
         assert_eq!(largest("search-demand").0.steps, 56);
         assert_eq!(largest("search-rules").1.table.len(), 9 * 4_096);
         assert_eq!(largest("search-definitions").1.table.len(), 8 * 255 + 18);
+    }
+
+    /// Labels round an id, and ids with one sequence fewer. Here the second engine counts and checks; before a count is
+    /// measured, the library's are compared with them.
+    #[test]
+    fn every_count_is_what_check_answers_with() {
+        type Fields = fn(usize) -> usize;
+        let fields_of: [(&str, Fields); 3] = [
+            ("count-labels", |fields| fields),
+            ("count-sequences-left", |ids| 2 * ids - 1),
+            ("count-sequences-right", |ids| 2 * ids - 1),
+        ];
+        let counts: Vec<Family> = all().into_iter().filter(|family| family.called == Called::Count).collect();
+        assert_eq!(counts.len(), fields_of.len());
+        for (family, (key, fields)) in counts.iter().zip(fields_of) {
+            assert_eq!(family.key, key);
+            for size in family.sizes() {
+                let case = family.case(size);
+                let (at, end) = term_of(&case.other);
+                assert_eq!(count_fields(&case.other, at, end), fields(size), "{key} {size}");
+                assert_eq!(case.outcome().answer.fields as usize, fields(size), "{key} {size}");
+            }
+        }
     }
 
     #[test]
@@ -280,6 +353,9 @@ mod tests {
         for shape in ["sequences-left", "sequences-right", "tensors-left", "tensors-right"] {
             assert_eq!(largest(&format!("check-{shape}")).0.fields, 4_095);
             assert_eq!(largest(&format!("flatten-{shape}")).1.other, largest(&format!("check-{shape}")).1.other);
+        }
+        for shape in ["labels", "sequences-left", "sequences-right"] {
+            assert_eq!(largest(&format!("count-{shape}")).1, largest(&format!("check-{shape}")).1);
         }
     }
 

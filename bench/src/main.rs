@@ -1,5 +1,6 @@
 //! Speed of the built library beside the second engine's.
 
+mod counting;
 mod families;
 mod files;
 mod measure;
@@ -8,30 +9,34 @@ mod plot;
 mod searches;
 mod texts;
 
-use boundary::library::Library;
 use boundary::options::Options;
 use families::Family;
-use measure::{Engine, Measured};
+use measure::{Engine, Libraries, Measured};
 use page::{Counts, Row};
-use std::path::{Path, PathBuf};
+use std::path::PathBuf;
 use std::process::ExitCode;
 
 const HELP: &str = "\
 bench: the speed of the built library beside the second engine's
 
-  bench [--library PATH] [--rounds N] [--page FILE] [--plot FILE]
-  bench --only PREFIX [--library PATH] [--rounds N]
-  bench --once CALL --size N --engine library|second [--library PATH]
+  bench [LIBRARIES] [--rounds N] [--page FILE] [--plot FILE]
+  bench --only PREFIX [LIBRARIES] [--rounds N]
+  bench --once CALL --size N --engine library|second [LIBRARIES]
 
 The first form measures every call, prints the table, puts it into the page
 between its marks, writes the plot as SVG, and says which calls need more
 instructions or time than the second engine or grow by more than 2.2 from half to
 all of their size. It needs valgrind. The second form does so for the calls of
 which the names begin so, and writes neither page nor plot. The third form makes
-one call, so that an outside counter can watch it; CALL is one of
+one call, so that an outside counter can watch it.
+
+LIBRARIES are --library PATH, the library with the entries, and --counting PATH,
+the one with the count of term fields alone, which only the calls count-.. need.
+CALL is one of
 ";
 
-const VALUED: [&str; 8] = ["--library", "--rounds", "--page", "--plot", "--only", "--once", "--size", "--engine"];
+const VALUED: [&str; 9] =
+    ["--library", "--counting", "--rounds", "--page", "--plot", "--only", "--once", "--size", "--engine"];
 
 fn main() -> ExitCode {
     let arguments: Vec<String> = std::env::args().skip(1).collect();
@@ -51,26 +56,29 @@ fn perform(options: &Options) -> Result<(), String> {
         println!("{HELP}{}.", keys.join(", "));
         return Ok(());
     }
-    let path = PathBuf::from(options.text("--library").unwrap_or("target/library/libhitac.so"));
-    let library = Library::load(&path)?;
+    let path = |name, otherwise| PathBuf::from(options.text(name).unwrap_or(otherwise));
+    let libraries = Libraries {
+        hitac: path("--library", "target/library/libhitac.so"),
+        counting: path("--counting", "target/bench/libcounting.so"),
+    };
     match options.text("--once") {
-        Some(key) => call_once(options, &library, key),
-        None => measure_all(options, &library, &path),
+        Some(key) => call_once(options, &libraries, key),
+        None => measure_all(options, &libraries),
     }
 }
 
-fn call_once(options: &Options, library: &Library, key: &str) -> Result<(), String> {
+fn call_once(options: &Options, libraries: &Libraries, key: &str) -> Result<(), String> {
     let family =
         families::all().into_iter().find(|family| family.key == key).ok_or(format!("no call is named {key}"))?;
     let size = options.number("--size", family.most)?;
     let name = options.text("--engine").unwrap_or("library");
     let engine = Engine::of_name(name).ok_or(format!("no engine is named {name}"))?;
-    let answer = Measured::new(library, &family, size).call(engine);
-    println!("{key} {size} {name}: {answer:?}");
+    let given = Measured::new(libraries, &family, size)?.call(engine);
+    println!("{key} {size} {name}: {given:?}");
     Ok(())
 }
 
-fn measure_all(options: &Options, library: &Library, path: &Path) -> Result<(), String> {
+fn measure_all(options: &Options, libraries: &Libraries) -> Result<(), String> {
     let rounds = options.number("--rounds", 21)?;
     let only = options.text("--only");
     let mut families = families::all();
@@ -78,8 +86,8 @@ fn measure_all(options: &Options, library: &Library, path: &Path) -> Result<(), 
     let mut rows = Vec::new();
     for family in &families {
         eprintln!("bench: {}", family.key);
-        let counts = counts_of(path, family)?;
-        rows.push(Row { family, counts, times: measure::times(library, family, rounds) });
+        let times = measure::times(libraries, family, rounds)?;
+        rows.push(Row { family, counts: counts_of(libraries, family)?, times });
     }
     let table = page::table(&rows);
     print!("{table}");
@@ -99,8 +107,8 @@ fn measure_all(options: &Options, library: &Library, path: &Path) -> Result<(), 
     Ok(())
 }
 
-fn counts_of(library: &Path, family: &Family) -> Result<Vec<Counts>, String> {
-    let count = |size, engine| measure::instructions(library, family, size, engine);
+fn counts_of(libraries: &Libraries, family: &Family) -> Result<Vec<Counts>, String> {
+    let count = |size, engine| measure::instructions(libraries, family, size, engine);
     let of_size =
         |size| Ok(Counts { size, ours: count(size, Engine::Library)?, seconds: count(size, Engine::Second)? });
     family.sizes().into_iter().map(of_size).collect()

@@ -1,10 +1,11 @@
 //! Times and instruction counts of one call, by either engine.
 
-use crate::families::Family;
+use crate::counting::Counting;
+use crate::families::{Called, Family};
 use boundary::library::{Call, Library};
 use second::generate::case::{Case, Entry};
 use second::Answer;
-use std::path::Path;
+use std::path::{Path, PathBuf};
 use std::process::Command;
 use std::time::Instant;
 
@@ -28,36 +29,100 @@ impl Engine {
     }
 }
 
-/// A case with its spaces, to be called many times.
-pub struct Measured<'a> {
-    library: &'a Library,
-    case: Case,
-    /// What the call must answer.
-    number: u32,
-    work: Vec<u8>,
-    output: Vec<u8>,
+/// Where the libraries are; the processes in which instructions are counted load them, too.
+pub struct Libraries {
+    /// The library of the entries.
+    pub hitac: PathBuf,
+    /// The count alone; it is loaded where a count is measured.
+    pub counting: PathBuf,
 }
 
-impl<'a> Measured<'a> {
-    pub fn new(library: &'a Library, family: &Family, size: usize) -> Measured<'a> {
-        let case = family.case(size);
-        let (work, output) = (vec![165; case.work_length], vec![90; case.output_length]);
-        Measured { library, case, number: family.number, work, output }
+/// A call to be made many times.
+pub struct Measured {
+    prepared: Prepared,
+    /// What it must give: the number of the answer, or the count.
+    expected: usize,
+}
+
+/// A call with all that it takes.
+enum Prepared {
+    Entry(EntryCall),
+    Count(Counting),
+}
+
+/// What a call gives.
+#[derive(Debug)]
+pub enum Given {
+    Answer(Answer),
+    Count(usize),
+}
+
+impl Given {
+    /// What is known of it beforehand.
+    fn number(&self) -> usize {
+        match self {
+            Given::Answer(answer) => answer.number as usize,
+            Given::Count(count) => *count,
+        }
+    }
+}
+
+impl Measured {
+    pub fn new(libraries: &Libraries, family: &Family, size: usize) -> Result<Measured, String> {
+        let call = EntryCall::new(Library::load(&libraries.hitac)?, family.case(size));
+        match family.called {
+            Called::Entry(_) => Ok(Measured { prepared: Prepared::Entry(call), expected: family.number as usize }),
+            Called::Count => Measured::count(&libraries.counting, call),
+        }
     }
 
-    pub fn call(&mut self, engine: Engine) -> Answer {
-        self.work.fill(165);
+    /// The count of the term in a call of check; an error unless both engines count as many fields as both answer with.
+    fn count(counting: &Path, mut check: EntryCall) -> Result<Measured, String> {
+        let answered = [check.library_call(), check.second_call()].map(|answer| answer.fields as usize);
+        let counting = Counting::load(counting, check.case.other)?;
+        let counted = [counting.library_count(), counting.second_count()];
+        let expected = answered[0];
+        if [answered, counted] != [[expected; 2]; 2] {
+            return Err(format!("the engines count {counted:?} term fields, and check answers with {answered:?}"));
+        }
+        Ok(Measured { prepared: Prepared::Count(counting), expected })
+    }
+
+    pub fn call(&mut self, engine: Engine) -> Given {
+        self.poison();
         hitac_bench_call(self, engine)
     }
 
     /// Nanoseconds of one call.
     fn time(&mut self, engine: Engine) -> f64 {
-        self.work.fill(165);
+        self.poison();
         let start = Instant::now();
-        let answer = hitac_bench_call(self, engine);
+        let given = hitac_bench_call(self, engine);
         let time = start.elapsed().as_nanos() as f64;
-        assert_eq!(answer.number, self.number, "the call was answered otherwise than its family says");
+        assert_eq!(given.number(), self.expected, "the call was answered otherwise than its family says");
         time
+    }
+
+    /// A count is lent no space.
+    fn poison(&mut self) {
+        if let Prepared::Entry(call) = &mut self.prepared {
+            call.work.fill(165);
+        }
+    }
+}
+
+/// A case with its spaces.
+struct EntryCall {
+    library: Library,
+    case: Case,
+    work: Vec<u8>,
+    output: Vec<u8>,
+}
+
+impl EntryCall {
+    fn new(library: Library, case: Case) -> EntryCall {
+        let (work, output) = (vec![165; case.work_length], vec![90; case.output_length]);
+        EntryCall { library, case, work, output }
     }
 
     fn library_call(&mut self) -> Answer {
@@ -76,7 +141,7 @@ impl<'a> Measured<'a> {
 
     /// The second engine clears the work space, too.
     fn second_call(&mut self) -> Answer {
-        let Measured { case, work, output, .. } = self;
+        let EntryCall { case, work, output, .. } = self;
         match case.entry {
             Entry::Check => second::check(&case.table, &case.other, work),
             Entry::Run => second::run(&case.table, &case.other, case.budget, work, output),
@@ -94,10 +159,12 @@ impl<'a> Measured<'a> {
 /// counter, so it is neither renamed nor taken into its caller.
 #[no_mangle]
 #[inline(never)]
-extern "Rust" fn hitac_bench_call(measured: &mut Measured, engine: Engine) -> Answer {
-    match engine {
-        Engine::Library => measured.library_call(),
-        Engine::Second => measured.second_call(),
+extern "Rust" fn hitac_bench_call(measured: &mut Measured, engine: Engine) -> Given {
+    match (&mut measured.prepared, engine) {
+        (Prepared::Entry(call), Engine::Library) => Given::Answer(call.library_call()),
+        (Prepared::Entry(call), Engine::Second) => Given::Answer(call.second_call()),
+        (Prepared::Count(counting), Engine::Library) => Given::Count(counting.library_count()),
+        (Prepared::Count(counting), Engine::Second) => Given::Count(counting.second_count()),
     }
 }
 
@@ -110,12 +177,12 @@ pub struct Times {
 }
 
 /// Both engines in turn, so that whatever else the machine does falls on both.
-pub fn times(library: &Library, family: &Family, rounds: usize) -> Times {
-    let mut measured = Measured::new(library, family, family.most);
+pub fn times(libraries: &Libraries, family: &Family, rounds: usize) -> Result<Times, String> {
+    let mut measured = Measured::new(libraries, family, family.most)?;
     let pairs: Vec<(f64, f64)> =
         (0..rounds).map(|_| (measured.time(Engine::Library), measured.time(Engine::Second))).collect();
     let ratios = pairs.iter().map(|(ours, seconds)| ours / seconds).collect();
-    Times { ours: median(pairs.iter().map(|pair| pair.0).collect()), ratio: median(ratios) }
+    Ok(Times { ours: median(pairs.iter().map(|pair| pair.0).collect()), ratio: median(ratios) })
 }
 
 fn median(mut values: Vec<f64>) -> f64 {
@@ -130,7 +197,7 @@ const NO_STRING_INSTRUCTIONS: &str =
     "glibc.cpu.x86_rep_movsb_threshold=4294967295:glibc.cpu.x86_rep_stosb_threshold=4294967295";
 
 /// Instructions of one call, counted by callgrind in a process of its own.
-pub fn instructions(library: &Path, family: &Family, size: usize, engine: Engine) -> Result<u64, String> {
+pub fn instructions(libraries: &Libraries, family: &Family, size: usize, engine: Engine) -> Result<u64, String> {
     let program = std::env::current_exe().map_err(|error| error.to_string())?;
     let counts = std::env::temp_dir().join(format!("hitac-bench-{}.callgrind", std::process::id()));
     let output = Command::new("valgrind")
@@ -138,8 +205,13 @@ pub fn instructions(library: &Path, family: &Family, size: usize, engine: Engine
         .args(["--tool=callgrind", "--toggle-collect=hitac_bench_call", "--main-stacksize=16777216"])
         .arg(format!("--callgrind-out-file={}", counts.display()))
         .arg(program)
-        .args(["--once", &family.key, "--size", &size.to_string(), "--engine", engine.name(), "--library"])
-        .arg(library)
+        .args(["--once", &family.key, "--size", &size.to_string(), "--engine", engine.name()])
+        .args([
+            "--library".as_ref(),
+            libraries.hitac.as_os_str(),
+            "--counting".as_ref(),
+            libraries.counting.as_os_str(),
+        ])
         .output()
         .map_err(|error| format!("valgrind cannot be started: {error}"))?;
     if !output.status.success() {

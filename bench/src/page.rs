@@ -2,7 +2,6 @@
 
 use crate::families::Family;
 use crate::measure::Times;
-use boundary::compare::name_of;
 use boundary::tally::with_commas;
 use std::fmt::Write;
 
@@ -75,7 +74,7 @@ pub fn table(rows: &[Row]) -> String {
         let _ = writeln!(
             text,
             "| {} | {} | {size} | {} | {} | {:.2} | {} | {:.2} | {} |",
-            name_of(row.family.entry),
+            row.family.called.name(),
             row.family.title,
             with_commas(largest.ours),
             with_commas(largest.seconds),

@@ -1,7 +1,6 @@
 //! The growth of every family as an SVG: one panel each, both axes logarithmic.
 
 use crate::page::{Counts, Row};
-use boundary::compare::name_of;
 use boundary::tally::with_commas;
 use std::fmt::Write;
 
@@ -67,7 +66,7 @@ impl Scale {
 fn panel(row: &Row) -> String {
     let scale = Scale::of(&row.counts);
     let mut svg = String::new();
-    let entry = name_of(row.family.entry);
+    let entry = row.family.called.name();
     let _ = writeln!(svg, "<text x=\"14\" y=\"20\" font-weight=\"bold\">{entry}, ratio {:.2}</text>", row.ratio());
     let _ = writeln!(svg, "<text x=\"14\" y=\"34\">{}</text>", row.family.title);
     axes(&mut svg, row, &scale);

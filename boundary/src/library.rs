@@ -1,4 +1,4 @@
-//! The shared library: the C functions of its entries, loaded by path.
+//! Shared libraries, loaded by path, and the C functions of the entries.
 
 use second::generate::case::Entry;
 use second::Answer;
@@ -60,9 +60,11 @@ extern "C" {
 /// not in the middle of a call.
 const RTLD_NOW: c_int = 2;
 
-impl Library {
-    /// Loads the library; it stays loaded until the program ends.
-    pub fn load(path: &Path) -> Result<Library, String> {
+/// A shared library that was loaded; it stays so until the program ends.
+pub struct Loaded(*mut c_void);
+
+impl Loaded {
+    pub fn load(path: &Path) -> Result<Loaded, String> {
         let name = CString::new(path.as_os_str().as_bytes()).map_err(|_| "the path holds a zero byte".to_string())?;
         // SAFETY: the name ends with a zero byte; running a library's
         // initialisers is what loading it means.
@@ -70,17 +72,34 @@ impl Library {
         if handle.is_null() {
             return Err(loader_message());
         }
+        Ok(Loaded(handle))
+    }
+
+    /// The address of what has that name in the library.
+    pub fn symbol(&self, name: &CStr) -> Result<*mut c_void, String> {
+        // SAFETY: the handle is of a library that is never closed, and the name ends with a zero byte.
+        let address = unsafe { dlsym(self.0, name.as_ptr()) };
+        if address.is_null() {
+            return Err(loader_message());
+        }
+        Ok(address)
+    }
+}
+
+impl Library {
+    pub fn load(path: &Path) -> Result<Library, String> {
+        let loaded = Loaded::load(path)?;
         // SAFETY: include/hitac.h declares the functions with these types.
         unsafe {
             Ok(Library {
-                check: transmute::<*mut c_void, CheckFunction>(symbol(handle, c"hitac_check")?),
-                run: transmute::<*mut c_void, RunFunction>(symbol(handle, c"hitac_run")?),
-                flatten: transmute::<*mut c_void, WriteFunction>(symbol(handle, c"hitac_flatten")?),
-                check_flat: transmute::<*mut c_void, CheckFunction>(symbol(handle, c"hitac_check_flat")?),
-                write_proof: transmute::<*mut c_void, WriteFunction>(symbol(handle, c"hitac_write_proof")?),
-                read_text: transmute::<*mut c_void, TextFunction>(symbol(handle, c"hitac_read_text")?),
-                write_text: transmute::<*mut c_void, TextFunction>(symbol(handle, c"hitac_write_text")?),
-                search: transmute::<*mut c_void, SearchFunction>(symbol(handle, c"hitac_search")?),
+                check: transmute::<*mut c_void, CheckFunction>(loaded.symbol(c"hitac_check")?),
+                run: transmute::<*mut c_void, RunFunction>(loaded.symbol(c"hitac_run")?),
+                flatten: transmute::<*mut c_void, WriteFunction>(loaded.symbol(c"hitac_flatten")?),
+                check_flat: transmute::<*mut c_void, CheckFunction>(loaded.symbol(c"hitac_check_flat")?),
+                write_proof: transmute::<*mut c_void, WriteFunction>(loaded.symbol(c"hitac_write_proof")?),
+                read_text: transmute::<*mut c_void, TextFunction>(loaded.symbol(c"hitac_read_text")?),
+                write_text: transmute::<*mut c_void, TextFunction>(loaded.symbol(c"hitac_write_text")?),
+                search: transmute::<*mut c_void, SearchFunction>(loaded.symbol(c"hitac_search")?),
             })
         }
     }
@@ -107,14 +126,6 @@ impl Library {
             }
         }
     }
-}
-
-unsafe fn symbol(handle: *mut c_void, name: &CStr) -> Result<*mut c_void, String> {
-    let address = dlsym(handle, name.as_ptr());
-    if address.is_null() {
-        return Err(loader_message());
-    }
-    Ok(address)
 }
 
 /// What the loader says about its last failure.
