@@ -27,10 +27,10 @@ use Rattle.hitac.specs.Walk.{walk}
 use Rattle.hitac.proofs.TermBounds.{atomics-fields}
 use Rattle.answers.specs.Answers as answer
 use Rattle.entries.specs.Check.{sameGoals, remainingAre, checked, proofCounts}
-use Rattle.walks.specs.Layout.{stackEnd, framesEnd, aritiesEnd}
-use Rattle.walks.specs.Arities.{Noted}
-use Rattle.walks.proofs.ArityLaws.{ahead-kept}
-use Rattle.walks.proofs.ProofLaws.{Small, standing, small, term-room}
+use Rattle.input_arities.specs.Layout.{stackEnd, framesEnd, aritiesEnd}
+use Rattle.input_arities.specs.Arities.{Noted}
+use Rattle.input_arities.proofs.ArityLaws.{ahead-kept}
+use Rattle.input_arities.proofs.ProofLaws.{Small, standing, small, term-room}
 use Rattle.checker.specs.declared.walk.Walked.{Walked}
 use Rattle.checker.specs.declared.walk.Walked.the-variants as W
 use Rattle.checker.specs.Acts.{Behind}

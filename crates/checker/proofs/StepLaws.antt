@@ -20,10 +20,10 @@ use Rattle.tables.specs.Tables.{Table}
 use Rattle.tables.specs.Standing.{TableStands}
 use Rattle.index.proofs.IndexKept.{indexed-before}
 use Rattle.hitac.specs.Walk.{walk}
+use Rattle.input_arities.specs.Layout.{stackEnd, framesEnd, aritiesEnd}
 use Rattle.walks.specs.declared.state.Next.{Next}
 use Rattle.walks.specs.declared.state.Turn.{Turn}
 use Rattle.walks.specs.declared.state.Turn.the-variants as U
-use Rattle.walks.specs.Layout.{stackEnd, framesEnd, aritiesEnd}
 use Rattle.walks.specs.Values.{valueOf, valuesAt}
 use Rattle.walks.specs.Walks.{Out, out, walkOf}
 use Rattle.walks.specs.Loops.{Aim, Begins, Gave, placed, startOf, Leaf, Turned, Steps}

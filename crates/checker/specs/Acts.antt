@@ -16,8 +16,8 @@ use Rattle.index.specs.Build.{RulesIndexed}
 use Rattle.hitac.specs.Hiproofs.{atomics}
 use Rattle.hitac.specs.Walk.{walk}
 use Rattle.hitac.proofs.Nodes.{Cell}
+use Rattle.input_arities.specs.Layout.{stackEnd, aritiesEnd}
 use Rattle.walks.specs.declared.state.Next.{Next}
-use Rattle.walks.specs.Layout.{stackEnd, aritiesEnd}
 use Rattle.walks.specs.Values.{valueOf}
 use Rattle.walks.specs.Walks.{Out, out, Act}
 use Rattle.checker.specs.declared.leaf.Acted.{Acted}

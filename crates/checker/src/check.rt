@@ -11,8 +11,8 @@ use answers::Answer;
 use answers::refusal;
 use files::proofs::ProofRead;
 use files::proofs::read_proof;
+use input_arities::layout::ARITIES_END;
 use tables::fields::TableRead;
-use walks::layout::ARITIES_END;
 use whole_table::read_table;
 use words::clear;
 

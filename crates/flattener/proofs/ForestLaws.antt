@@ -26,8 +26,8 @@ use Rattle.hitac.proofs.FlatBounds.{forest-count}
 use Rattle.hitac.proofs.Nodes.{Cell, openCell, range, nodeEntries}
 use Rattle.hitac.proofs.NodeForest.{nodes-flatten}
 use Rattle.entries.specs.Check.{forestFile}
+use Rattle.input_arities.proofs.ProofLaws.{Small, standing, small}
 use Rattle.walks.specs.Layout.{indexEnd}
-use Rattle.walks.proofs.ProofLaws.{Small, standing, small}
 use Rattle.nodes.specs.Space.{cellsOf}
 use Rattle.nodes.proofs.CellLaws.{length-cells}
 use Rattle.flattener.specs.Prints.{Closed, forestEntries, Printable}

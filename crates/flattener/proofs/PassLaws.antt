@@ -11,7 +11,8 @@ use Rattle.words.specs.Word.{word}
 use Rattle.format.specs.Goals.{goalsAt}
 use Rattle.files.specs.Derivations.{Entry, entriesBytes}
 use Rattle.hitac.proofs.Nodes.{Cell, openCell, useCell, cellAt, premiseNodes, range, nodeEntries}
-use Rattle.walks.specs.Layout.{stackEnd, indexEnd}
+use Rattle.input_arities.specs.Layout.{stackEnd}
+use Rattle.walks.specs.Layout.{indexEnd}
 use Rattle.walks.specs.Values.{valuesAt}
 use Rattle.walks.proofs.ValueLaws.{length-values}
 use Rattle.nodes.specs.Space.{cellsOf, putRange, Below}

@@ -18,7 +18,7 @@ use Rattle.format.proofs.GoalsLaws.{length-goalsAt}
 use Rattle.format.proofs.GoalBytes.{length-goalBytes}
 use Rattle.files.specs.Derivations.{useEntry, openEntry, entryBytes}
 use Rattle.hitac.proofs.Nodes.{Cell, openCell, useCell, premiseNodes, range}
-use Rattle.walks.specs.Layout.{stackEnd}
+use Rattle.input_arities.specs.Layout.{stackEnd}
 use Rattle.walks.specs.Values.{valuesAt}
 use Rattle.walks.proofs.ValueLaws.{values-append, values-above}
 use Rattle.nodes.specs.Space.{cellPlace, cellsEnd, cellFrom, cellIn, putRange}

@@ -29,14 +29,15 @@ use Rattle.answers.specs.Answers as answer
 use Rattle.entries.specs.LentSpace.{writeOut}
 use Rattle.entries.specs.Check.{sameGoals, remainingAre, checked}
 use Rattle.entries.proofs.SameGoals.{same-equal}
-use Rattle.walks.specs.Layout.{stackEnd, framesEnd, indexEnd}
+use Rattle.input_arities.specs.Layout.{stackEnd, framesEnd}
+use Rattle.input_arities.specs.Arities.{Noted}
+use Rattle.input_arities.proofs.ArityLaws.{ahead-kept}
+use Rattle.input_arities.proofs.ProofLaws.{Small, standing, small, term-room}
+use Rattle.walks.specs.Layout.{indexEnd}
 use Rattle.walks.specs.Values.{valuesAt}
 use Rattle.walks.specs.Walks.{Out, walkOf}
-use Rattle.walks.specs.Arities.{Noted}
 use Rattle.walks.specs.Loops.{Aim, Begins, startOf}
-use Rattle.walks.proofs.ArityLaws.{ahead-kept}
 use Rattle.walks.proofs.LeafLaws.{aimOf, begun}
-use Rattle.walks.proofs.ProofLaws.{Small, standing, small, term-room}
 use Rattle.nodes.specs.declared.walk.Walked.{Walked}
 use Rattle.nodes.specs.declared.walk.Walked.the-variants as W
 use Rattle.nodes.specs.Space.{mostNodes, cellPlace, cellsEnd, cellsFrom, cellsOf, putOpens, putRange, Below, goalsIn}

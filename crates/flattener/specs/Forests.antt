@@ -17,7 +17,7 @@ use Rattle.hitac.proofs.Nodes.{Cell, openCell, range, nodeWalk}
 use Rattle.entries.specs.Outcomes.{inFile, done, otherFile}
 use Rattle.entries.specs.LentSpace.{Written, writeOut}
 use Rattle.entries.specs.Check.{checked, forestFile}
-use Rattle.walks.specs.Layout.{aritiesEnd}
+use Rattle.input_arities.specs.Layout.{aritiesEnd}
 use Rattle.nodes.specs.Space.{cellsEnd, cellsOf}
 
 -- a table that was read: it stands, its rules are indexed, and none has more than eight premises

@@ -8,7 +8,7 @@ use Rattle.words.specs.Word.{word}
 use Rattle.words.specs.Kept.{Kept}
 use Rattle.files.specs.Derivations.{Entry, entryBytes, entriesBytes}
 use Rattle.hitac.proofs.Nodes.{Cell, openCell, useCell, entryOf, premiseNodes, range, nodeEntries}
-use Rattle.walks.specs.Layout.{stackEnd}
+use Rattle.input_arities.specs.Layout.{stackEnd}
 use Rattle.walks.specs.Values.{valuesAt}
 use Rattle.nodes.specs.Space.{mostNodes, cellPlace, cellsEnd, cellIn, cellsOf}
 use Rattle.flattener.specs.declared.print.Printed.{Printed}

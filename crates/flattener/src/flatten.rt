@@ -21,14 +21,14 @@ use answers::wrote;
 use files::proofs::ProofParts;
 use files::proofs::ProofRead;
 use files::proofs::read_proof;
+use input_arities::layout::ARITIES_END;
+use input_arities::layout::STACK_END;
+use input_arities::note_arities;
 use nodes::cells::put_opens;
 use nodes::cells::put_range;
 use nodes::walk::Walked;
 use nodes::walk::walk;
 use tables::fields::TableRead;
-use walks::arity::note_arities;
-use walks::layout::ARITIES_END;
-use walks::layout::STACK_END;
 use whole_table::read_table;
 use words::clear;
 

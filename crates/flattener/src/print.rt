@@ -11,9 +11,9 @@ use format::values::Goal;
 use format::values::RuleName;
 use format::values::goal_at;
 use format::values::rule_name_at;
+use input_arities::layout::STACK_END;
 use nodes::cells::CELLS;
 use nodes::cells::put_range;
-use walks::layout::STACK_END;
 use words::load16;
 use words::store16;
 

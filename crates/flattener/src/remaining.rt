@@ -4,7 +4,7 @@ ghost use Prim.Native.Nat.{_+_, _*_, _≤_};
 ghost use lib.ListN.{length};
 ghost use Rattle.format.specs.Goals.{goalsAt};
 ghost use Rattle.entries.specs.Check.{sameGoals};
-ghost use Rattle.walks.specs.Layout.{stackEnd};
+ghost use Rattle.input_arities.specs.Layout.{stackEnd};
 ghost use Rattle.walks.specs.Values.{valuesAt};
 ghost use Rattle.nodes.specs.Space.{mostNodes, cellsEnd, Below, goalsIn};
 use nodes::cells::CELLS;

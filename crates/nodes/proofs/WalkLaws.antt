@@ -18,10 +18,11 @@ use Rattle.index.specs.Build.{RulesIndexed}
 use Rattle.index.proofs.IndexKept.{tree-kept}
 use Rattle.hitac.specs.Hiproofs.{atomics}
 use Rattle.hitac.proofs.Nodes.{Cell}
+use Rattle.input_arities.specs.Layout.{framesEnd, aritiesEnd}
 use Rattle.walks.specs.declared.state.Next.{Next}
 use Rattle.walks.specs.declared.state.Turn.{Turn}
 use Rattle.walks.specs.declared.state.Turn.the-variants as U
-use Rattle.walks.specs.Layout.{framesEnd, aritiesEnd, indexEnd}
+use Rattle.walks.specs.Layout.{indexEnd}
 use Rattle.walks.specs.Walks.{Out}
 use Rattle.walks.specs.Loops.{Aim, Roomy, Begins, Gave, placed, Leaf, Acted, Turned, Steps}
 use Rattle.walks.proofs.LeafLaws.{leaf-refused, leaf-gave, begins-behind, turned-later}

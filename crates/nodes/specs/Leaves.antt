@@ -9,8 +9,9 @@ use Rattle.format.specs.Refusals.{Cause, number, inputTooLong}
 use Rattle.format.specs.Results.{Result, refused}
 use Rattle.format.specs.Terms.{Term}
 use Rattle.tables.specs.Tables.{Table}
+use Rattle.input_arities.specs.Layout.{stackEnd}
 use Rattle.walks.specs.declared.state.Next.{Next}
-use Rattle.walks.specs.Layout.{stackEnd, indexEnd}
+use Rattle.walks.specs.Layout.{indexEnd}
 use Rattle.walks.specs.Values.{valuesAt}
 use Rattle.walks.specs.Walks.{Out}
 use Rattle.walks.specs.Loops.{placed, Acted}

@@ -7,7 +7,8 @@ use Rattle.format.specs.declared.values.Goal.{Goal}
 use Rattle.format.specs.Limits.{mostGoals}
 use Rattle.format.specs.Values.{ruleName, goal}
 use Rattle.hitac.proofs.Nodes.{Cell, openCell, useCell}
-use Rattle.walks.specs.Layout.{mostAtomics, indexEnd}
+use Rattle.input_arities.specs.Layout.{mostAtomics}
+use Rattle.walks.specs.Layout.{indexEnd}
 
 -- The stated goals, and at most eight premises for each atomic: also a walk that is refused makes no more.
 abbrev pub mostNodes : ℕ

@@ -9,7 +9,8 @@ use Rattle.format.specs.Results.{gives, refused}
 use Rattle.tables.specs.Tables.{Table}
 use Rattle.tables.specs.Standing.{TableStands}
 use Rattle.index.specs.Build.{RulesIndexed}
-use Rattle.walks.specs.Layout.{stackEnd, aritiesEnd, indexEnd}
+use Rattle.input_arities.specs.Layout.{stackEnd, aritiesEnd}
+use Rattle.walks.specs.Layout.{indexEnd}
 use Rattle.walks.specs.Values.{valuesAt}
 use Rattle.walks.specs.Walks.{out}
 use Rattle.walks.specs.Loops.{Aim, Turned}

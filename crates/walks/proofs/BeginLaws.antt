@@ -20,17 +20,17 @@ use Rattle.format.proofs.StandsLaws.{known}
 use Rattle.format.proofs.ByTag.{by-tag}
 use Rattle.hitac.specs.Hiproofs.{inputArity, atomics}
 use Rattle.hitac.proofs.Nodes.{Cell}
+use Rattle.input_arities.specs.Layout.{stackEnd, framesEnd, aritiesEnd}
+use Rattle.input_arities.specs.Arities.{arities, Ahead}
+use Rattle.input_arities.proofs.ArityLaws.{ahead-kept, ahead-first}
 use Rattle.walks.specs.declared.state.Next.{Next}
 use Rattle.walks.specs.declared.state.Turn.the-variants as U
-use Rattle.walks.specs.Layout.{stackEnd, framesEnd, aritiesEnd}
 use Rattle.walks.specs.Values.{valuesAt}
 use Rattle.walks.specs.Walks.{Act, joinedValues, walkOf}
-use Rattle.walks.specs.Arities.{arities, Ahead}
 use Rattle.walks.specs.Waiting.{Waiting, sequenceLeft, tensorLeft, resumed, pending, later, weight}
 use Rattle.walks.specs.Shows.{putFrame, Framed, Shown}
 use Rattle.walks.specs.Loops.{Aim, Roomy, BeginsWith, Begins, Turned, Steps}
 use Rattle.walks.proofs.ValueLaws.{length-values, take-values, drop-values, values-below}
-use Rattle.walks.proofs.ArityLaws.{ahead-kept, ahead-first}
 use Rattle.walks.proofs.ResumedLaws.{resumed-refused, one-field, weight-length}
 use Rattle.walks.proofs.ShownLaws.{shown-depth, shown-kept}
 

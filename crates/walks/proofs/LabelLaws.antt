@@ -17,9 +17,9 @@ use Rattle.format.proofs.StandsLaws.{tagOf, known}
 use Rattle.format.proofs.ByTag.{by-tag}
 use Rattle.hitac.specs.Hiproofs.{atomics}
 use Rattle.hitac.proofs.Nodes.{Cell}
+use Rattle.input_arities.specs.Arities.{arities}
 use Rattle.walks.specs.Walks.{Act, onOneValue, walkOf}
 use Rattle.walks.specs.Labels.{bare, bareAt, labelCountWrong}
-use Rattle.walks.specs.Arities.{arities}
 
 apart : false ≡ true → ⊥
 apart e = let z : _≡_ {A = ℕ} 0 1 = cc in omega arith

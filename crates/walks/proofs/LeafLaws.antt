@@ -18,20 +18,20 @@ use Rattle.format.proofs.StandsLaws.{tagOf, known}
 use Rattle.hitac.specs.Hiproofs.{atomics}
 use Rattle.hitac.proofs.Nodes.{Cell}
 use Rattle.hitac.proofs.TermBounds.{atomics-fields}
+use Rattle.input_arities.specs.Layout.{stackEnd, framesEnd, aritiesEnd}
+use Rattle.input_arities.specs.Arities.{arities, Ahead}
+use Rattle.input_arities.proofs.ArityLaws.{ahead-kept}
 use Rattle.walks.specs.declared.state.Next.{Next}
 use Rattle.walks.specs.declared.state.Turn.{Turn}
 use Rattle.walks.specs.declared.state.Turn.the-variants as U
-use Rattle.walks.specs.Layout.{stackEnd, framesEnd, aritiesEnd}
 use Rattle.walks.specs.Values.{valuesAt}
 use Rattle.walks.specs.Walks.{Act, walkOf}
 use Rattle.walks.specs.Labels.{bare, bareAt, labelCountWrong}
-use Rattle.walks.specs.Arities.{arities, Ahead}
 use Rattle.walks.specs.Waiting.{Waiting, resumed, pending, later, weight}
 use Rattle.walks.specs.Shows.{Shown}
 use Rattle.walks.specs.Loops.{Aim, BeginsWith, Begins, GaveWith, Gave, placed, startOf, Leaf, Acted, Turned, Steps}
 use Rattle.walks.proofs.ValueLaws.{length-values, values-below}
 use Rattle.walks.proofs.LabelLaws.{bare-tag, bare-stands, same-end, same-uses, fewer-fields, same-arities, bare-walks, label-refused}
-use Rattle.walks.proofs.ArityLaws.{ahead-kept}
 use Rattle.walks.proofs.ResumedLaws.{resumed-refused, one-field, weight-length}
 use Rattle.walks.proofs.ShownLaws.{shown-depth, shown-kept}
 

@@ -1,12 +1,8 @@
 pub mod ValueLaws
 pub mod MoveLaws
 pub mod LabelLaws
-pub mod ArityLaws
-pub mod ThreadLaws
-pub mod ListLaws
 pub mod ResumedLaws
 pub mod ShownLaws
 pub mod BeginLaws
 pub mod ResumeLaws
 pub mod LeafLaws
-pub mod ProofLaws

@@ -17,16 +17,17 @@ use Rattle.format.specs.Refusals.{number, joinedTooLong}
 use Rattle.format.specs.Results.{gives, refused, andThen}
 use Rattle.format.specs.Terms.{Term, size}
 use Rattle.hitac.proofs.Nodes.{Cell}
+use Rattle.input_arities.specs.Layout.{stackEnd, framesEnd}
+use Rattle.input_arities.proofs.ArityLaws.{ahead-kept}
 use Rattle.walks.specs.declared.state.Next.{Next}
 use Rattle.walks.specs.declared.state.Turn.the-variants as U
-use Rattle.walks.specs.Layout.{stackEnd, framesEnd, began}
+use Rattle.walks.specs.Layout.{began}
 use Rattle.walks.specs.Values.{valuesAt}
 use Rattle.walks.specs.Walks.{Act, out, joinedValues, walkOf}
 use Rattle.walks.specs.Waiting.{Waiting, sequenceLeft, tensorLeft, tensorRight, resumed, pending, later, weight}
 use Rattle.walks.specs.Shows.{Framed, Joins, Shown}
 use Rattle.walks.specs.Loops.{Aim, BeginsWith, GaveWith, Gave, Turned, Steps}
 use Rattle.walks.proofs.ValueLaws.{length-values, values-append, values-paste, values-below}
-use Rattle.walks.proofs.ArityLaws.{ahead-kept}
 use Rattle.walks.proofs.ResumedLaws.{resumed-refused, weight-length}
 use Rattle.walks.proofs.ShownLaws.{shown-depth, shown-kept}
 

@@ -10,7 +10,7 @@ use Rattle.words.specs.Word.{word}
 use Rattle.words.specs.Kept.{Kept}
 use Rattle.words.proofs.KeptLaws.{word-below, word-above}
 use Rattle.format.specs.Terms.{size}
-use Rattle.walks.specs.Layout.{stackEnd}
+use Rattle.input_arities.specs.Layout.{stackEnd}
 use Rattle.walks.specs.Values.{valuesAt}
 use Rattle.walks.specs.Waiting.{Waiting, sequenceLeft, tensorLeft, tensorRight}
 use Rattle.walks.specs.Shows.{Framed, Shown}

@@ -2,8 +2,6 @@ pub mod Layout
 pub mod Values
 pub mod Walks
 pub mod Labels
-pub mod Arities
-pub mod Threads
 pub mod Waiting
 pub mod Shows
 pub mod Loops

@@ -11,13 +11,13 @@ use Rattle.format.specs.Terms.{Term, size, fields}
 use Rattle.format.specs.Standing.{Stands}
 use Rattle.hitac.specs.Hiproofs.{atomics}
 use Rattle.hitac.proofs.Nodes.{Cell}
+use Rattle.input_arities.specs.Layout.{stackEnd, framesEnd, aritiesEnd}
+use Rattle.input_arities.specs.Arities.{arities, Ahead}
 use Rattle.walks.specs.declared.state.Next.{Next}
 use Rattle.walks.specs.declared.state.Turn.{Turn}
 use Rattle.walks.specs.declared.state.Turn.the-variants as U
-use Rattle.walks.specs.Layout.{stackEnd, framesEnd, aritiesEnd}
 use Rattle.walks.specs.Values.{valuesAt}
 use Rattle.walks.specs.Walks.{Out, out, Act, walkOf}
-use Rattle.walks.specs.Arities.{arities, Ahead}
 use Rattle.walks.specs.Waiting.{Waiting, resumed, pending, later, weight}
 use Rattle.walks.specs.Shows.{Shown}
 

@@ -6,7 +6,8 @@ use lib.ListN.{length, getD}
 use Rattle.words.specs.Word.{word, putWord}
 use Rattle.format.specs.Terms.{size}
 use Rattle.format.specs.Standing.{Stands}
-use Rattle.walks.specs.Layout.{stackEnd, began}
+use Rattle.input_arities.specs.Layout.{stackEnd}
+use Rattle.walks.specs.Layout.{began}
 use Rattle.walks.specs.Values.{valuesAt}
 use Rattle.walks.specs.Waiting.{Waiting, sequenceLeft, tensorLeft, tensorRight}
 

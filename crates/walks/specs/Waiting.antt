@@ -4,8 +4,8 @@ use mathlib.Core.List.{List, [], _∷_}
 use Rattle.format.specs.Results.{Result, andThen}
 use Rattle.format.specs.Terms.{Term, fields}
 use Rattle.hitac.specs.Hiproofs.{atomics}
+use Rattle.input_arities.specs.Arities.{arities}
 use Rattle.walks.specs.Walks.{Out, Act, joinedValues, walkOf}
-use Rattle.walks.specs.Arities.{arities}
 
 -- a sequence or a tensor that waits for its left term, with its right term and that one's place, in a tensor with the values that are left for it; a tensor that waits for its right term, with the values that its left term gave. A tensor's own place is that of 22.
 pub data Waiting : Type 0 where

@@ -6,11 +6,11 @@ ghost use lib.ListN.{getD};
 ghost use Rattle.hitac.proofs.Nodes.{Cell};
 ghost use Rattle.walks.specs.Walks.{Act};
 ghost use Rattle.walks.specs.Loops.{Aim, Roomy, Begins, placed, startOf, Steps};
-use crate::layout::FRAMES_END;
-use crate::layout::STACK_END;
 use crate::state::Next;
 use crate::state::Turn;
 use crate::waiting::push;
+use input_arities::layout::FRAMES_END;
+use input_arities::layout::STACK_END;
 use words::load16;
 
 // The walk begins with the term at a place, on so many values at the end of the stacks.

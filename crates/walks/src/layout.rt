@@ -1,12 +1,6 @@
-// The regions of the work space of check and flatten: two stacks of values from 0 on, the terms that wait, the arities of left terms, the index over the rules.
-// specs/Layout says how each follows from the limits of the format.
+// The work space of check and flatten behind the regions of crate input_arities, the index over the rules; and what marks a frame.
 use index::layout::RULES_ROOM;
-
-pub const STACK_END: usize = 29184;
-
-pub const FRAMES_END: usize = 37372;
-
-pub const ARITIES_END: usize = 41466;
+use input_arities::layout::ARITIES_END;
 
 pub const INDEX_END: usize = ARITIES_END + RULES_ROOM;
 

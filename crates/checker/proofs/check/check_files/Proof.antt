@@ -11,7 +11,8 @@ use Rattle.whole_table.proofs.ReadLaws.{Told, told-indexed}
 use Rattle.files.proofs.Answers as files
 use Rattle.files.proofs.RefusedFiles.{Proof-refused}
 use Rattle.answers.specs.Answers as answer
-use Rattle.walks.specs.Layout.{aritiesEnd, indexEnd}
+use Rattle.input_arities.specs.Layout.{aritiesEnd}
+use Rattle.walks.specs.Layout.{indexEnd}
 use Rattle.checker.proofs.StepLaws.{behind-kept}
 use Rattle.checker.proofs.CheckLaws.{table-refused, proof-refused, both-read}
 use Rattle.checker.proofs.check.check_files.Statement.{statement}

@@ -15,9 +15,9 @@ use Rattle.tables.specs.Tables.{Table}
 use Rattle.tables.specs.Standing.{TableStands}
 use Rattle.files.specs.Proofs.{Proof, readProof}
 use Rattle.answers.specs.declared.Answer.{Answer}
-use Rattle.walks.specs.Layout.{aritiesEnd}
-use Rattle.walks.specs.Arities.{Noted}
-use Rattle.walks.proofs.ProofLaws.{Small, small, term-room}
+use Rattle.input_arities.specs.Layout.{aritiesEnd}
+use Rattle.input_arities.specs.Arities.{Noted}
+use Rattle.input_arities.proofs.ProofLaws.{Small, small, term-room}
 use Rattle.checker.specs.Walks.{Ready}
 use Rattle.checker.specs.Checks.{checkedAnswer}
 use Rattle.checker.proofs.DecideLaws.{term-there, Walking, walk-ready, behind-still, goals-there, decides-refused, decides-bound, decides-accepted, decides-other}

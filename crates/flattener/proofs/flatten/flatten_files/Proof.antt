@@ -13,7 +13,7 @@ use Rattle.files.proofs.Answers as files
 use Rattle.files.proofs.RefusedFiles.{Proof-refused}
 use Rattle.answers.specs.Answers as answer
 use Rattle.entries.specs.LentSpace.{Written}
-use Rattle.walks.specs.Layout.{aritiesEnd}
+use Rattle.input_arities.specs.Layout.{aritiesEnd}
 use Rattle.nodes.specs.Space.{cellsEnd}
 use Rattle.nodes.proofs.WalkLaws.{indexed-still}
 use Rattle.flattener.specs.Forests.{TableReady}

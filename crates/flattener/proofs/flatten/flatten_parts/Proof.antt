@@ -9,7 +9,7 @@ use Rattle.format.specs.Results.{gives}
 use Rattle.tables.specs.Tables.{Table}
 use Rattle.files.specs.Proofs.{Proof, readProof}
 use Rattle.entries.specs.LentSpace.{Written}
-use Rattle.walks.proofs.ProofLaws.{Small, small, term-room}
+use Rattle.input_arities.proofs.ProofLaws.{Small, small, term-room}
 use Rattle.nodes.specs.Walks.{Ends}
 use Rattle.flattener.specs.Forests.{TableReady}
 use Rattle.flattener.proofs.StartLaws.{same-parts, Started, length-started, aim, begins, walkable, ends-refused, nodes-below, ends-accepted, ends-written, ends-other}

@@ -9,7 +9,7 @@ use lib.Seq.{sets, length-sets}
 use denote.Ref.{now}
 use Rattle.files.specs.Derivations.{entriesBytes}
 use Rattle.hitac.proofs.Nodes.{Cell, range, nodeEntries}
-use Rattle.walks.specs.Layout.{stackEnd}
+use Rattle.input_arities.specs.Layout.{stackEnd}
 use Rattle.flattener.specs.Prints.{Printable}
 use Rattle.flattener.proofs.PassLaws.{Running, pushed-cells, pushed-roots, printable-still, pass-begins, node-ready, pass-goes-on, pass-ends}
 use Rattle.flattener.proofs.print.print_forest.Statement.{statement}

@@ -4,7 +4,7 @@ use borrow.Author.Needs.{needs}
 use Prim.Native.Nat.{_+_, _≤_}
 use native.Mathlib.Omega.{arith}
 use denote.Ref.{now}
-use Rattle.walks.specs.Layout.{aritiesEnd}
+use Rattle.input_arities.specs.Layout.{aritiesEnd}
 use Rattle.walks.specs.Loops.{placed}
 use Rattle.walks.proofs.BeginLaws.{Fits, tensor-fits, tensor-few, tensor-pushed}
 use Rattle.walks.proofs.begin.begin_tensor.Statement.{statement}

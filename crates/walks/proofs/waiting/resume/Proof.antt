@@ -9,9 +9,10 @@ use denote.Ref.{now}
 use borrow.Author.Needs.{needs}
 use Rattle.words.specs.Word.{word}
 use Rattle.hitac.proofs.Nodes.{Cell}
+use Rattle.input_arities.specs.Layout.{stackEnd}
 use Rattle.walks.specs.declared.state.Turn.{Turn}
 use Rattle.walks.specs.declared.state.Turn.the-variants as U
-use Rattle.walks.specs.Layout.{stackEnd, began}
+use Rattle.walks.specs.Layout.{began}
 use Rattle.walks.specs.Walks.{Act}
 use Rattle.walks.specs.Loops.{Aim, Roomy, Gave, Steps}
 use Rattle.walks.proofs.ResumeLaws.{TopFrame, Bounds, top-of, bounds-of, ended, sequence-next, tensor-next, joined-over, joined-within}

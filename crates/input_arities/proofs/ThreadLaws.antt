@@ -14,8 +14,8 @@ use Rattle.format.specs.Standing.{Stands}
 use Rattle.format.proofs.StandsLaws.{tagOf, known}
 use Rattle.format.proofs.ByTag.{Two, by-tag}
 use Rattle.hitac.specs.Hiproofs.{inputArity}
-use Rattle.walks.specs.Layout.{stackEnd}
-use Rattle.walks.specs.Threads.{slot, width, after, Forest, total, Past, firstField, nextField, Links, Own, Owns, Room, Threads}
+use Rattle.input_arities.specs.Layout.{stackEnd}
+use Rattle.input_arities.specs.Threads.{slot, width, after, Forest, total, Past, firstField, nextField, Links, Own, Owns, Room, Threads}
 
 -- the links up to a place, and the next place
 pub record Linking (at : ℕ) (t₀ : Term) (w₀ w : List ℕ) (place r : ℕ) : Type 0 where

@@ -14,11 +14,11 @@ use Rattle.format.specs.Terms.{Term, atomic, id, label, sequence, tensor, empty
 use Rattle.format.specs.Standing.{Stands}
 use Rattle.format.proofs.StandsLaws.{tagOf, known}
 use Rattle.format.proofs.ByTag.{by-tag}
-use Rattle.walks.specs.Layout.{stackEnd, framesEnd, aritiesEnd}
-use Rattle.walks.specs.Arities.{arities, Listed, Noted}
-use Rattle.walks.specs.Threads.{slot, width, after, Forest, total, allArities, Own, Owns, Room, ListedHere, Listable, Lists}
-use Rattle.walks.proofs.ArityLaws.{arities-length}
-use Rattle.walks.proofs.ThreadLaws.{slot-rises, slot-apart, arity-le, total-after, forest-after, own-after, own-here, owns-same, some-next}
+use Rattle.input_arities.specs.Layout.{stackEnd, framesEnd, aritiesEnd}
+use Rattle.input_arities.specs.Arities.{arities, Listed, Noted}
+use Rattle.input_arities.specs.Threads.{slot, width, after, Forest, total, allArities, Own, Owns, Room, ListedHere, Listable, Lists}
+use Rattle.input_arities.proofs.ArityLaws.{arities-length}
+use Rattle.input_arities.proofs.ThreadLaws.{slot-rises, slot-apart, arity-le, total-after, forest-after, own-after, own-here, owns-same, some-next}
 
 -- ---- one field
 

@@ -1,11 +1,11 @@
--- `arity::noted` meets its contract: the place that it computes is the slot.
+-- `input_arities::noted` meets its contract: the place that it computes is the slot.
 -- Assumes nothing.
 use borrow.Author.Needs.{needs}
-use Rattle.walks.specs.Threads.{slot}
-use Rattle.walks.proofs.arity.noted.Statement.{statement}
-use Rattle.walks.proofs.arity.noted.Tie as tie
-use Rattle.walks.proofs.arity.noted.Reads as reads
-use Rattle.walks.proofs.arity.noted.Lts as lts
+use Rattle.input_arities.specs.Threads.{slot}
+use Rattle.input_arities.proofs.noted.Statement.{statement}
+use Rattle.input_arities.proofs.noted.Tie as tie
+use Rattle.input_arities.proofs.noted.Reads as reads
+use Rattle.input_arities.proofs.noted.Lts as lts
 use Rattle.words.proofs.load16.Reads as load16-reads
 
 mul-load16 : tie.Need-mul-load16

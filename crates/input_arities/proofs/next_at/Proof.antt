@@ -1,17 +1,17 @@
--- `arity::next_at` meets its contract: the tag says which term it is.
+-- `input_arities::next_at` meets its contract: the tag says which term it is.
 -- Assumes nothing.
 use borrow.Author.Needs.{needs}
-use Rattle.walks.proofs.arity.next_at.Statement.{statement}
-use Rattle.walks.proofs.arity.next_at.Tie as tie
-use Rattle.walks.proofs.arity.next_at.Reads as reads
-use Rattle.walks.proofs.arity.next_at.Lts as lts
+use Rattle.input_arities.proofs.next_at.Statement.{statement}
+use Rattle.input_arities.proofs.next_at.Tie as tie
+use Rattle.input_arities.proofs.next_at.Reads as reads
+use Rattle.input_arities.proofs.next_at.Lts as lts
 use Rattle.words.proofs.load16.Reads as load16-reads
 use mathlib.Core.Path.{ap, _∙_}
 use Prim.Native.Nat.{ℕ, _+_}
 use native.Mathlib.Omega.{arith}
 use denote.Ref.{now}
 use Rattle.format.proofs.StandsLaws.{Known, known}
-use Rattle.walks.proofs.ThreadLaws.{next-label, next-sequence, next-tensor, next-other}
+use Rattle.input_arities.proofs.ThreadLaws.{next-label, next-sequence, next-tensor, next-other}
 
 head : (i : tie.Start) → Known (now (i .args .s)) (i .args .at) (i .pre .0)
 head i = known _ _ _ (i .pre .1)

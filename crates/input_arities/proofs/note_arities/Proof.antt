@@ -1,4 +1,4 @@
--- `arity::note_arities` meets its contract: links, then each field its own arity, then the list of those of the tensors' left terms.
+-- `input_arities::note_arities` meets its contract: links, then each field its own arity, then the list of those of the tensors' left terms.
 -- Assumes nothing.
 use borrow.Author.Needs.{needs}
 use mathlib.Core.Path.{_≡_, subst, _∙_}
@@ -8,16 +8,16 @@ use lib.ListN.{length}
 use denote.Ref.{now}
 use Rattle.format.specs.Terms.{Term, size}
 use Rattle.format.proofs.StandsLaws.{Known, known}
-use Rattle.walks.specs.Threads.{Own, Room}
-use Rattle.walks.proofs.ThreadLaws.{room-again}
-use Rattle.walks.proofs.ListLaws.{noted-all}
-use Rattle.walks.proofs.arity.note_arities.Statement.{statement}
-use Rattle.walks.proofs.arity.note_arities.Tie as tie
-use Rattle.walks.proofs.arity.note_arities.Reads as reads
-use Rattle.walks.proofs.arity.note_arities.Lts as lts
-use Rattle.walks.proofs.arity.link.Reads as link-reads
-use Rattle.walks.proofs.arity.settle.Reads as settle-reads
-use Rattle.walks.proofs.arity.list.Reads as list-reads
+use Rattle.input_arities.specs.Threads.{Own, Room}
+use Rattle.input_arities.proofs.ThreadLaws.{room-again}
+use Rattle.input_arities.proofs.ListLaws.{noted-all}
+use Rattle.input_arities.proofs.note_arities.Statement.{statement}
+use Rattle.input_arities.proofs.note_arities.Tie as tie
+use Rattle.input_arities.proofs.note_arities.Reads as reads
+use Rattle.input_arities.proofs.note_arities.Lts as lts
+use Rattle.input_arities.proofs.link.Reads as link-reads
+use Rattle.input_arities.proofs.settle.Reads as settle-reads
+use Rattle.input_arities.proofs.list.Reads as list-reads
 use Rattle.words.proofs.load16.Reads as load16-reads
 
 head : (i : tie.Start) → Known (now (i .args .s)) (i .args .at) (i .pre .0)

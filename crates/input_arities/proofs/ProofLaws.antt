@@ -14,8 +14,8 @@ use Rattle.files.specs.Shapes.{partsOf}
 use Rattle.files.specs.Standing.{ProofStands}
 use Rattle.files.proofs.WhatStands.{proof-stands}
 use Rattle.files.proofs.Sizes.{proof-size}
-use Rattle.walks.specs.Layout.{aritiesEnd}
-use Rattle.walks.specs.Threads.{slot, Room}
+use Rattle.input_arities.specs.Layout.{aritiesEnd}
+use Rattle.input_arities.specs.Threads.{slot, Room}
 
 pub record Small (s : List ℕ) (q : ProofParts) : Type 0 where
   pub goals : q .goals ≤ mostGoals

@@ -1,11 +1,11 @@
--- `arity::note` meets its contract: the place that it computes is the slot.
+-- `input_arities::note` meets its contract: the place that it computes is the slot.
 -- Assumes nothing.
 use borrow.Author.Needs.{needs}
-use Rattle.walks.specs.Threads.{slot}
-use Rattle.walks.proofs.arity.note.Statement.{statement}
-use Rattle.walks.proofs.arity.note.Tie as tie
-use Rattle.walks.proofs.arity.note.Reads as reads
-use Rattle.walks.proofs.arity.note.Lts as lts
+use Rattle.input_arities.specs.Threads.{slot}
+use Rattle.input_arities.proofs.note.Statement.{statement}
+use Rattle.input_arities.proofs.note.Tie as tie
+use Rattle.input_arities.proofs.note.Reads as reads
+use Rattle.input_arities.proofs.note.Lts as lts
 use Rattle.words.proofs.store16.Reads as store16-reads
 
 mul-store16 : tie.Need-mul-store16

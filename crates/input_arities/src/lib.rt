@@ -1,4 +1,6 @@
 // The arities of the left terms of tensors, without recursion and without a stack: the fields are linked backwards in two bytes of the work space for each, then each gets its own arity from the last to the first, then those of the tensors' left terms are listed in order. The two bytes lie where the stacks will be.
+pub mod layout;
+
 ghost use mathlib.Core.Path.{_≡_};
 ghost use mathlib.Core.List.{List};
 ghost use Prim.Native.Nat.{ℕ, _+_, _≤_, _<_};
@@ -8,9 +10,9 @@ ghost use Rattle.words.specs.Kept.{Kept};
 ghost use Rattle.format.specs.Terms.{Term, size};
 ghost use Rattle.format.specs.Standing.{Stands};
 ghost use Rattle.hitac.specs.Hiproofs.{inputArity};
-ghost use Rattle.walks.specs.Layout.{stackEnd};
-ghost use Rattle.walks.specs.Arities.{Noted};
-ghost use Rattle.walks.specs.Threads.{slot, width, after, Own, Owns, Room, Threads, ListedHere, Listable, Lists};
+ghost use Rattle.input_arities.specs.Layout.{stackEnd};
+ghost use Rattle.input_arities.specs.Arities.{Noted};
+ghost use Rattle.input_arities.specs.Threads.{slot, width, after, Own, Owns, Room, Threads, ListedHere, Listable, Lists};
 use crate::layout::FRAMES_END;
 use words::load16;
 use words::store16;

@@ -9,8 +9,8 @@ use Rattle.format.specs.Limits.{mostBytes, mostTermFields}
 use Rattle.format.specs.Terms.{Term, atomic, id, label, sequence, tensor, empty, alternation, assert, defined, size, fields}
 use Rattle.format.specs.Standing.{Stands}
 use Rattle.hitac.specs.Hiproofs.{inputArity}
-use Rattle.walks.specs.Layout.{stackEnd, framesEnd, aritiesEnd}
-use Rattle.walks.specs.Arities.{arities, Listed}
+use Rattle.input_arities.specs.Layout.{stackEnd, framesEnd, aritiesEnd}
+use Rattle.input_arities.specs.Arities.{arities, Listed}
 
 -- The two bytes of a field. Fields begin at least three bytes apart, so no two have the same.
 unfoldable pub slot : (at : ℕ) → ℕ

@@ -1,4 +1,4 @@
--- `arity::link` meets its contract: the links up to a place, and the next place.
+-- `input_arities::link` meets its contract: the links up to a place, and the next place.
 -- Assumes nothing.
 use mathlib.Core.Path.{_≡_, refl, _∙_}
 use Prim.Native.Nat.{_+_, _-_, _≤_}
@@ -8,11 +8,11 @@ use denote.Ref.{now}
 use Rattle.format.specs.Terms.{Term, size}
 use Rattle.format.specs.Standing.{Stands}
 use Rattle.format.proofs.StandsLaws.{known}
-use Rattle.walks.proofs.ThreadLaws.{Linking}
-use Rattle.walks.specs.Threads.{slot, Room}
-use Rattle.walks.proofs.ThreadLaws as law
-use Rattle.walks.proofs.arity.link.Statement.{statement}
-use Rattle.walks.proofs.arity.link.Tie as tie
+use Rattle.input_arities.proofs.ThreadLaws.{Linking}
+use Rattle.input_arities.specs.Threads.{slot, Room}
+use Rattle.input_arities.proofs.ThreadLaws as law
+use Rattle.input_arities.proofs.link.Statement.{statement}
+use Rattle.input_arities.proofs.link.Tie as tie
 
 abbrev Inv-loop : tie.InvT-loop
 Inv-loop s at end work₀ place₀ next₀ work place next = (length work ≡ length work₀) × ((t : Term) → Room s at end work₀ t → Linking at t work₀ work place next)

@@ -1,4 +1,4 @@
--- `arity::settle` meets its contract: the fields behind a place have their own arities, the others their links.
+-- `input_arities::settle` meets its contract: the fields behind a place have their own arities, the others their links.
 -- Assumes nothing.
 use mathlib.Core.Path.{_≡_, refl, sym, subst, _∙_}
 use mathlib.Core.List.{List}
@@ -8,12 +8,12 @@ use lib.ListN.{length}
 use denote.Ref.{now}
 use Rattle.format.specs.Terms.{Term, size}
 use Rattle.format.specs.Standing.{Stands}
-use Rattle.walks.proofs.ThreadLaws.{Settling, arity-le, slot-rises}
-use Rattle.walks.specs.Threads.{slot, Room, Threads}
-use Rattle.walks.proofs.ThreadLaws as law
-use Rattle.walks.proofs.arity.settle.Statement.{statement}
-use Rattle.walks.proofs.arity.settle.Tie as tie
-use Rattle.walks.proofs.arity.settle.Reads as reads
+use Rattle.input_arities.proofs.ThreadLaws.{Settling, arity-le, slot-rises}
+use Rattle.input_arities.specs.Threads.{slot, Room, Threads}
+use Rattle.input_arities.proofs.ThreadLaws as law
+use Rattle.input_arities.proofs.settle.Statement.{statement}
+use Rattle.input_arities.proofs.settle.Tie as tie
+use Rattle.input_arities.proofs.settle.Reads as reads
 
 abbrev Inv-loop : tie.InvT-loop
 Inv-loop s at end last work₀ place₀ work place = (length work ≡ length work₀) × ((t : Term) (w : List ℕ) → Room s at end work₀ t → Threads at end t w work₀ last → Settling at t work₀ work place)

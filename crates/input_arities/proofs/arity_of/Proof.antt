@@ -1,7 +1,7 @@
--- `arity::arity_of` meets its contract: the tag says which term it is, and what is noted of its inner terms is their arity.
+-- `input_arities::arity_of` meets its contract: the tag says which term it is, and what is noted of its inner terms is their arity.
 -- Assumes nothing.
-use Rattle.walks.proofs.arity.arity_of.Statement.{statement}
-use Rattle.walks.proofs.arity.arity_of.Tie as tie
+use Rattle.input_arities.proofs.arity_of.Statement.{statement}
+use Rattle.input_arities.proofs.arity_of.Tie as tie
 use mathlib.Core.Path.{_≡_, sym, subst, ap₂, _∙_}
 use Prim.Native.Nat.{ℕ, _+_, _<_}
 use native.Mathlib.Omega.{arith}
@@ -9,9 +9,9 @@ use lib.ListN.{getD}
 use denote.Ref.{now}
 use Rattle.format.specs.Terms.{size}
 use Rattle.format.proofs.StandsLaws.{Known, known}
-use Rattle.walks.specs.Threads.{slot}
-use Rattle.walks.proofs.ThreadLaws.{arity-le}
-use Rattle.walks.proofs.ThreadLaws.{Inner, inner-sequence, inner-tensor, arity-sequence, arity-tensor, arity-one, arity-none}
+use Rattle.input_arities.specs.Threads.{slot}
+use Rattle.input_arities.proofs.ThreadLaws.{arity-le}
+use Rattle.input_arities.proofs.ThreadLaws.{Inner, inner-sequence, inner-tensor, arity-sequence, arity-tensor, arity-one, arity-none}
 
 head : (i : tie.Start) → Known (now (i .args .s)) (i .args .at) (i .pre .0)
 head i = known _ _ _ (i .pre .2)

@@ -7,7 +7,7 @@ use Rattle.words.specs.Word.{word}
 use Rattle.words.specs.Kept.{Kept}
 use Rattle.format.specs.Terms.{Term, atomic, id, label, sequence, tensor, empty, alternation, assert, defined}
 use Rattle.hitac.specs.Hiproofs.{inputArity}
-use Rattle.walks.specs.Layout.{framesEnd, aritiesEnd}
+use Rattle.input_arities.specs.Layout.{framesEnd, aritiesEnd}
 
 -- those of a term's tensors, before others
 unfoldable pub arities : Term → List ℕ → List ℕ

@@ -1,4 +1,4 @@
--- `arity::list_one` meets its contract: a tensor's left arity is listed, and nothing of another field.
+-- `input_arities::list_one` meets its contract: a tensor's left arity is listed, and nothing of another field.
 -- Assumes nothing.
 use borrow.Author.Needs.{needs}
 use mathlib.Core.Path.{_≡_, ap, _∙_}
@@ -8,12 +8,12 @@ use lib.ListN.{getD}
 use denote.Ref.{now}
 use Rattle.words.specs.Word.{putWord}
 use Rattle.format.proofs.StandsLaws.{Known, known}
-use Rattle.walks.proofs.ListLaws.{Left, one-other, left-of, one-tensor}
-use Rattle.walks.proofs.arity.list_one.Statement.{statement}
-use Rattle.walks.proofs.arity.list_one.Tie as tie
-use Rattle.walks.proofs.arity.list_one.Reads as reads
-use Rattle.walks.proofs.arity.list_one.Lts as lts
-use Rattle.walks.proofs.arity.noted.Reads as noted-reads
+use Rattle.input_arities.proofs.ListLaws.{Left, one-other, left-of, one-tensor}
+use Rattle.input_arities.proofs.list_one.Statement.{statement}
+use Rattle.input_arities.proofs.list_one.Tie as tie
+use Rattle.input_arities.proofs.list_one.Reads as reads
+use Rattle.input_arities.proofs.list_one.Lts as lts
+use Rattle.input_arities.proofs.noted.Reads as noted-reads
 use Rattle.words.proofs.store16.Reads as store16-reads
 
 head : (i : tie.Start) → Known (now (i .args .s)) (i .args .at) (i .pre .0)

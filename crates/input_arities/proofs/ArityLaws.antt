@@ -10,8 +10,8 @@ use Rattle.words.specs.Word.{word}
 use Rattle.words.specs.Kept.{Kept}
 use Rattle.words.proofs.KeptLaws.{word-below, word-above}
 use Rattle.format.specs.Terms.{Term, atomic, id, label, sequence, tensor, empty, alternation, assert, defined, fields}
-use Rattle.walks.specs.Layout.{framesEnd, aritiesEnd}
-use Rattle.walks.specs.Arities.{arities, Listed, Ahead}
+use Rattle.input_arities.specs.Layout.{framesEnd, aritiesEnd}
+use Rattle.input_arities.specs.Arities.{arities, Listed, Ahead}
 
 -- one for each tensor: less than half of the fields
 pub arities-length : (t : Term) (xs : List ℕ) → 2 * length (arities t xs) + 1 ≤ fields t + 2 * length xs

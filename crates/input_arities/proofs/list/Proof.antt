@@ -1,4 +1,4 @@
--- `arity::list` meets its contract: once the arities of the fields from a place on are listed, so are all.
+-- `input_arities::list` meets its contract: once the arities of the fields from a place on are listed, so are all.
 -- Assumes nothing.
 use mathlib.Core.Path.{_≡_, refl, _∙_}
 use Prim.Native.Nat.{_-_, _<_}
@@ -6,11 +6,11 @@ use native.Mathlib.Omega.{arith}
 use lib.ListN.{length}
 use denote.Ref.{now}
 use Rattle.format.specs.Terms.{Term}
-use Rattle.walks.specs.Threads.{Own, Room}
-use Rattle.walks.proofs.ThreadLaws.{width-three}
-use Rattle.walks.proofs.ListLaws.{Listing, There, there, listing-start, listing-next, listing-end}
-use Rattle.walks.proofs.arity.list.Statement.{statement}
-use Rattle.walks.proofs.arity.list.Tie as tie
+use Rattle.input_arities.specs.Threads.{Own, Room}
+use Rattle.input_arities.proofs.ThreadLaws.{width-three}
+use Rattle.input_arities.proofs.ListLaws.{Listing, There, there, listing-start, listing-next, listing-end}
+use Rattle.input_arities.proofs.list.Statement.{statement}
+use Rattle.input_arities.proofs.list.Tie as tie
 
 abbrev Inv-loop : tie.InvT-loop
 Inv-loop s at end work₀ place₀ next₀ work place next = (length work ≡ length work₀) × ((t : Term) → Room s at end work₀ t → Own work₀ at t → Listing s at end t work₀ work place next)

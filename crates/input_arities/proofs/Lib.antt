@@ -1,0 +1,4 @@
+pub mod ArityLaws
+pub mod ThreadLaws
+pub mod ListLaws
+pub mod ProofLaws

@@ -1,0 +1,3 @@
+pub mod Layout
+pub mod Arities
+pub mod Threads
