@@ -22,7 +22,7 @@ pub struct Counting {
 
 impl Counting {
     pub fn load(library: &Path, proof: Vec<u8>) -> Result<Counting, String> {
-        let address = Loaded::load(library)?.symbol(c"hitac_count_fields")?;
+        let address = Loaded::load(library)?.symbol(c"bench_count_fields")?;
         // SAFETY: crates/counting has the function with this type.
         let function = unsafe { transmute::<*mut c_void, CountFunction>(address) };
         Ok(Counting::by(function, proof))

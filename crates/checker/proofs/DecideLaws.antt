@@ -1,6 +1,6 @@
 -- One law for each ending of decide: what the walk came to, and whether its goals are those stated, say which answer it is.
 -- Assumes nothing.
-use mathlib.Core.Path.{_≡_, refl, sym, subst, ap, _∙_}
+use mathlib.Core.Path.{_≡_, sym, subst, ap, _∙_}
 use mathlib.Core.Bool.{Bool, true, false}
 use mathlib.Core.Logic.{inl}
 use mathlib.Core.List.{List}
@@ -14,8 +14,7 @@ use Rattle.format.specs.declared.values.Goal.{Goal}
 use Rattle.format.specs.Limits.{mostBytes}
 use Rattle.format.specs.Refusals.{Cause, number}
 use Rattle.format.specs.Results.{gives, refused, andThen}
-use Rattle.format.specs.Terms.{size, fields}
-use Rattle.format.specs.Standing.{Stands}
+use Rattle.format.specs.Terms.{fields}
 use Rattle.format.specs.Goals.{goalsAt}
 use Rattle.format.proofs.GoalsAt.{goals-paste}
 use Rattle.tables.specs.Tables.{Table}
@@ -52,13 +51,6 @@ module _ (T : Table) (p : Proof) where
   ends-accepted : (h : List Goal) (u : ℕ) → walk T (p .term) (termPlace p) (p .goals) ≡ gives h → sameGoals h (p .remaining) ≡ true → u ≡ atomics (p .term) → checkedAnswer T p ≡ answer.counted (fields (p .term)) u (length (p .remaining))
   unfolding checkedAnswer checked andThen remainingAre proofCounts
   ends-accepted h u e f n = rw (e, f, n)
-
--- ---- the term of a proof, by the parts that the reader gave: where it stands, and that it ends where the list of those remaining begins
-
-module _ (s : List ℕ) (p : Proof) (e : readProof s ≡ gives p) (q : ProofParts) (is : partsOf p ≡ q) where
-  pub term-there : Stands s (q .term) (p .term) × (q .rest ≡ q .term + size (p .term))
-  unfolding partsOf remainingPlace
-  term-there = subst (λ (y : ProofParts). Stands s (y .term) (p .term) × (y .rest ≡ y .term + size (p .term))) is (standing s p e .term-stands, refl)
 
 -- ---- the walk of a proof's term, on its goals at the end of the stacks
 

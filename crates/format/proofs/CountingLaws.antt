@@ -1,23 +1,23 @@
 -- The loop that counts headers: what is known at each of its turns, and that each turn keeps it.
 -- Assumes nothing.
-use mathlib.Core.Path.{_≡_, subst}
+use mathlib.Core.Path.{_≡_, refl, subst}
 use mathlib.Core.List.{List}
-use Prim.Native.Nat.{ℕ, zero, suc, _+_, _*_, _≤_, _<_}
+use Prim.Native.Nat.{ℕ, zero, suc, _+_, _≤_, _<_}
 use native.Mathlib.Omega.{arith}
 use lib.ListN.{getD}
-use Rattle.format.specs.Tags.{leastOf}
 use Rattle.format.specs.Count.{nextHeader, OfTerm, Counted}
-use Rattle.format.proofs.CountLaws.{counted-few}
+use Rattle.format.proofs.CountLaws.{counted-few, counted-append}
 
--- so many headers are counted, and with those that are left these are all from `at` to `end`
+-- the headers up to a place are counted, and from there to the end there are so many more
 pub record Counting (s : List ℕ) (at end place count : ℕ) : Type 0 where
+  pub counted : Counted s at place count
   pub left : ℕ
   pub ahead : Counted s place end left
-  pub all : Counted s at end (count + left)
 
 module _ (s : List ℕ) (at end : ℕ) where
   pub counting-begun : (n : ℕ) → Counted s at end n → Counting s at end at 0
-  counting-begun n c = let all : n ≡ 0 + n = omega arith in record { left = n; ahead = c; all = subst (Counted s at end) all c }
+  unfolding Counted
+  counting-begun n c = record { counted = refl; left = n; ahead = c }
 
   -- in front of the end stands a term's header
   pub counting-tag : (place count : ℕ) → place < end → Counting s at end place count → OfTerm (getD s place 0)
@@ -26,29 +26,19 @@ module _ (s : List ℕ) (at end : ℕ) where
     where
       go : (n : ℕ) → Counted s place end n → OfTerm (getD s place 0)
       go zero e = absurd (omega (arith, e, l))
-      go (suc n) h = h .1
+      go (suc n) h = h .0
 
-  -- a header more: so many bytes behind it stands the next one, or the end is there
-  pub counting-more : (place count step : ℕ) → step ≡ 3 + leastOf (getD s place 0) → place < end → Counting s at end place count → (place + step ≤ end) × Counting s at end (place + step) (count + 1)
-  unfolding Counted nextHeader
-  counting-more place count step e l c = go (c .left) (c .ahead) (c .all)
+  -- with it one more is counted, up to the next header or the end
+  pub counting-more : (place next count : ℕ) → nextHeader s place ≡ next → place < end → Counting s at end place count → (next ≤ end) × Counting s at end next (count + 1)
+  unfolding Counted
+  counting-more place next count e l c = go (c .left) (c .ahead)
     where
-      next : place + 3 + leastOf (getD s place 0) ≡ place + step
-      next = omega (arith, e)
-
-      go : (n : ℕ) → Counted s place end n → Counted s at end (count + n) → (place + step ≤ end) × Counting s at end (place + step) (count + 1)
-      go zero q a = absurd (omega (arith, q, l))
-      go (suc n) h a =
-          let ahead : Counted s (place + step) end n = subst (λ (i : ℕ). Counted s i end n) next (h .2) in
-          let all : count + suc n ≡ count + 1 + n = omega arith in
-          (omega (arith, counted-few s end n (place + step) ahead), record { left = n; ahead = ahead; all = subst (Counted s at end) all a })
+      go : (n : ℕ) → Counted s place end n → (next ≤ end) × Counting s at end next (count + 1)
+      go zero d = absurd (omega (arith, d, l))
+      go (suc n) h =
+          let ahead : Counted s next end n = subst (λ (i : ℕ). Counted s i end n) e (h .1) in
+          (omega (arith, counted-few s n next end ahead), record { counted = counted-append s count 1 at place next (c .counted) (h .0, e); left = n; ahead = ahead })
 
   -- no header is left
   pub counting-done : (place count : ℕ) → end ≤ place → Counting s at end place count → Counted s at end count
-  counting-done place count l c =
-      let none : count + c .left ≡ count = omega (arith, counted-few s end (c .left) place (c .ahead)) in
-      subst (Counted s at end) none (c .all)
-
-  -- three bytes at least for each that is counted
-  pub counting-few : (place count : ℕ) → Counting s at end place count → at + count * 3 ≤ end
-  counting-few place count c = omega (arith, counted-few s end (count + c .left) at (c .all))
+  counting-done place count l c = let all : place ≡ end = omega (arith, counted-few s (c .left) place end (c .ahead)) in subst (λ (i : ℕ). Counted s at i count) all (c .counted)

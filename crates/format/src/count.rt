@@ -11,6 +11,7 @@ pub fn count_fields(bytes: &[u8], at: usize, end: usize) -> usize
     requires { ⌜ ((t : Term) × Stands (now bytes) at t × (end ≡ at + size t)) ⌝ }
     ensures { λ r. ⌜ ((t : Term) → Stands (now (bytes .entry)) at t → end ≡ at + size t → r ≡ fields t) ⌝ }
 {
+    // Taken once: a constant table is stored anew at each look-up.
     let steps = TERM_STEPS;
     let mut place = at;
     let mut count: usize = 0;

@@ -1,4 +1,4 @@
--- What is known of a proof that reads: its sizes, and that there is room for the arities of its term.
+-- What is known of a proof that reads: its sizes, where its term stands and ends, and that there is room for the arities of it.
 -- Assumes nothing.
 use mathlib.Core.Path.{_≡_, refl, subst}
 use mathlib.Core.List.{List}
@@ -8,6 +8,7 @@ use lib.ListN.{length}
 use Rattle.format.specs.Limits.{mostBytes, mostGoals}
 use Rattle.format.specs.Results.{gives}
 use Rattle.format.specs.Terms.{size}
+use Rattle.format.specs.Standing.{Stands}
 use Rattle.files.specs.declared.proofs.ProofParts.{ProofParts}
 use Rattle.files.specs.Proofs.{Proof, readProof, termPlace, remainingPlace}
 use Rattle.files.specs.Shapes.{partsOf}
@@ -58,6 +59,11 @@ module _ (s : List ℕ) (p : Proof) (e : readProof s ≡ gives p) where
   module _ (q : ProofParts) (is : partsOf p ≡ q) where
     pub small : Small s q
     small = subst (Small s) is small-of
+
+    -- the term ends where the list of those remaining begins
+    pub term-there : Stands s (q .term) (p .term) × (q .rest ≡ q .term + size (p .term))
+    unfolding partsOf remainingPlace
+    term-there = subst (λ (x : ProofParts). Stands s (x .term) (p .term) × (x .rest ≡ x .term + size (p .term))) is (standing .term-stands, refl)
 
     pub term-room : (w : List ℕ) → aritiesEnd ≤ length w → Room s (q .term) (q .term + size (p .term)) w (p .term)
     unfolding partsOf

@@ -1,6 +1,7 @@
 -- The promises of P3: a term that is read stands there, and whatever stands has as many headers as term fields.
 -- Assumes nothing.
 use Prim.Native.Nat.{ℕ, _+_}
+use native.Mathlib.Omega.{arith}
 use mathlib.Core.Path.{_≡_, refl, sym, subst, ap, _∙_}
 use mathlib.Core.Logic.{_↔_}
 use mathlib.Core.List.{List}
@@ -22,7 +23,8 @@ exactly s at end t st e n = (counted-fields s at end t st e n, λ h. subst (Coun
 pub count-reads : Count-reads
 count-reads d s high at end k x top fit e =
     let l = read-gives d s high top at end k fit x e in
-    (exactly s at (x .next) (x .term) (l .stands) (l .next-is), l .count-is)
+    let h = exactly s at (x .next) (x .term) (l .stands) (l .next-is) in
+    record { stands = l .stands; ends = l .next-is; headers = h; read-count = λ n. (λ c. omega (arith, h n .0 c, l .count-is), λ q. h n .1 (omega (arith, q, l .count-is))) }
 
 pub check-fields : Check-fields
 unfolding remainingPlace

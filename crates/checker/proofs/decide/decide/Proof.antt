@@ -17,10 +17,10 @@ use Rattle.files.specs.Proofs.{Proof, readProof}
 use Rattle.answers.specs.declared.Answer.{Answer}
 use Rattle.input_arities.specs.Layout.{aritiesEnd}
 use Rattle.input_arities.specs.Arities.{Noted}
-use Rattle.input_arities.proofs.ProofLaws.{Small, small, term-room}
+use Rattle.input_arities.proofs.ProofLaws.{Small, small, term-there, term-room}
 use Rattle.checker.specs.Walks.{Ready}
 use Rattle.checker.specs.Checks.{checkedAnswer}
-use Rattle.checker.proofs.DecideLaws.{term-there, Walking, walk-ready, behind-still, goals-there, decides-refused, decides-bound, decides-accepted, decides-other}
+use Rattle.checker.proofs.DecideLaws.{Walking, walk-ready, behind-still, goals-there, decides-refused, decides-bound, decides-accepted, decides-other}
 use Rattle.checker.proofs.decide.decide.Statement.{statement}
 use Rattle.checker.proofs.decide.decide.Tie as tie
 
@@ -29,6 +29,9 @@ proof i = i .pre .1 .0
 
 sizes : (i : tie.Start) → Small (now (i .args .proof)) (i .args .parts)
 sizes i = small _ _ (i .pre .1 .1) _ (i .pre .1 .2)
+
+term-stands : (i : tie.Start) → Stands (now (i .args .proof)) (i .args .parts .term) (proof i .term) × (i .args .parts .rest ≡ i .args .parts .term + size (proof i .term))
+term-stands i = term-there _ _ (i .pre .1 .1) _ (i .pre .1 .2)
 
 -- a file reads as one proof
 same-proof : (s : List ℕ) (p p′ : Proof) (T : Table) (r : Answer) → readProof s ≡ gives p → readProof s ≡ gives p′ → r ≡ checkedAnswer T p → r ≡ checkedAnswer T p′
@@ -56,6 +59,9 @@ gave-at c = c .before .before .before .before
 
 abbrev compared-at : tie.After-same-goals → tie.After-walked2
 compared-at c = c .before .before .before
+
+abbrev origin : tie.After-same-goals → tie.Start
+origin c = start (gave-at (compared-at c) .before)
 
 -- the work space as it was given, with the arities, with the goals, and after the walk
 abbrev work₀ : tie.After-walk-arg → List ℕ
@@ -173,14 +179,11 @@ same-goals-requires c κs =
     (omega (arith, decides-bound (table w) _ _ _ _ _ _ (walking w (table w) (in-table w)) _ _ (g .walked2 .given .1), i .pre .2, as-long w), sizes i .remaining-inside)
 
 -- these are the stated ones
-term-stands : (i : tie.Start) → Stands (now (i .args .proof)) (i .args .parts .term) (proof i .term) × (i .args .parts .rest ≡ i .args .parts .term + size (proof i .term))
-term-stands i = term-there _ _ (i .pre .1 .1) _ (i .pre .1 .2)
-
 count-fields-requires : tie.Need-count-fields-requires
-count-fields-requires c κs = let i = start (gave-at (compared-at (c .before)) .before) in (proof i .term, term-stands i .0, term-stands i .1)
+count-fields-requires c κs = let i = origin (c .before) in (proof i .term, term-stands i .0, term-stands i .1)
 
-counted-is : (c : tie.After-count-fields) → c .count-fields .result ≡ fields (proof (start (gave-at (compared-at (c .before .before)) .before)) .term)
-counted-is c = let i = start (gave-at (compared-at (c .before .before)) .before) in c .count-fields .ensures (proof i .term) (term-stands i .0) (term-stands i .1)
+counted-is : (c : tie.After-count-fields) → c .count-fields .result ≡ fields (proof (origin (c .before .before)) .term)
+counted-is c = let i = origin (c .before .before) in c .count-fields .ensures (proof i .term) (term-stands i .0) (term-stands i .1)
 
 counted-requires : tie.Need-counted-requires
 counted-requires c κs =

@@ -1,4 +1,4 @@
--- `count::count_fields` meets its contract. The invariant: those that are counted and those from here to the end are all headers of the term.
+-- `count::count_fields` meets its contract. The invariant: the headers up to here are counted, and the others of the term are ahead.
 -- Assumes nothing.
 use mathlib.Core.Path.{_≡_}
 use mathlib.Core.List.{List, [], _∷_}
@@ -11,8 +11,8 @@ use Rattle.format.specs.Tags.{rows, findRow, rowOf, leastOf}
 use Rattle.format.specs.Count.{OfTerm}
 use Rattle.format.proofs.Rows.{tested}
 use Rattle.format.proofs.StandsLaws.{known}
-use Rattle.format.proofs.CountLaws.{fields-counted, counted-fields}
-use Rattle.format.proofs.CountingLaws.{Counting, counting-begun, counting-tag, counting-more, counting-done, counting-few}
+use Rattle.format.proofs.CountLaws.{counted-few, fields-counted, counted-fields}
+use Rattle.format.proofs.CountingLaws.{Counting, counting-begun, counting-tag, counting-more, counting-done}
 use Rattle.format.proofs.count.count_fields.Statement.{statement}
 use Rattle.format.proofs.count.count_fields.Tie as tie
 
@@ -22,7 +22,7 @@ table = 5 ∷ 3 ∷ 5 ∷ 3 ∷ 3 ∷ 3 ∷ 3 ∷ 5 ∷ 5 ∷ []
 
 stepped : (tag : ℕ) → OfTerm tag → getD table (tag - 16) 0 ≡ 3 + leastOf tag
 unfolding leastOf rowOf rows findRow
-stepped tag o = tested (λ k. getD table (k - 16) 0) (λ k. 3 + leastOf k) 16 9 tt tag (o .0) (omega (arith, o .1))
+stepped tag o = tested (λ k. getD table (k - 16) 0) (λ k. 3 + leastOf k) 16 9 tt tag (omega (arith, o .0)) (omega (arith, o .1))
 
 abbrev Inv-loop : tie.InvT-loop
 Inv-loop bytes at end steps place₀ count₀ place count = Counting bytes at end place count
@@ -44,7 +44,7 @@ abbrev I : L → tie.Start Inv-loop μ-loop
 I l = l .before .before
 
 add-count : tie.Need-add-count Inv-loop μ-loop
-add-count l = omega (arith, l .loop-test .taken, counting-few _ _ _ _ _ (l .before .loop .inv), inside (I l))
+add-count l = omega (arith, l .loop-test .taken, counted-few _ _ _ _ (l .before .loop .inv .counted), inside (I l))
 
 shared-slice-read-tag : tie.Need-shared-slice-read-tag Inv-loop μ-loop
 shared-slice-read-tag c = let l = c .before in omega (arith, l .loop-test .taken, inside (I l))
@@ -69,14 +69,14 @@ array-read-place : tie.Need-array-read-place Inv-loop μ-loop
 array-read-place c = omega (arith, tag-is c)
 
 -- the next turn
-abbrev Then : R → Type 0
-Then c = let l = c .before in
+abbrev NextTurn : R → Type 0
+NextTurn c = let l = c .before in
     let a = I l .args in
     let place = l .before .loop .place + getD table (tag c - 16) 0 in
     (place ≤ a .end) × Counting (now (a .bytes)) (a .at) (a .end) place (l .before .loop .count + 1)
 
-next : (c : R) → Then c
-next c = let l = c .before in counting-more _ _ _ _ _ _ (stepped (tag c) (tag-is c)) (omega (arith, l .loop-test .taken)) (l .before .loop .inv)
+next : (c : R) → NextTurn c
+next c = let l = c .before in counting-more _ _ _ _ _ _ (omega (arith, stepped (tag c) (tag-is c))) (omega (arith, l .loop-test .taken)) (l .before .loop .inv)
 
 cast-place : tie.Need-cast-place Inv-loop μ-loop
 cast-place c = omega (arith, next c .0)
