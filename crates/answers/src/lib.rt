@@ -1,6 +1,7 @@
 // The one answer of every entry.
 // Document 01, "What the bytes bring about" and "What the state brings about": number, file, place and steps.
 ghost use mathlib.Core.Path.{_≡_};
+ghost use mathlib.Core.Bool.{true};
 ghost use Prim.Native.Nat.{_≤_};
 ghost use Rattle.answers.specs.Answers as said;
 
@@ -66,4 +67,35 @@ pub fn wrote(length: usize, steps: usize) -> Answer
         uses: 0,
         remaining: 0,
     }
+}
+
+// Whether all eight numbers are the same.
+pub fn same_answer(a: Answer, b: Answer) -> bool
+    ensures { λ r. ⌜ (r ≡ true → a ≡ b) × (a ≡ b → r ≡ true) ⌝ }
+{
+    if a.number != b.number {
+        return false;
+    }
+    if a.file != b.file {
+        return false;
+    }
+    if a.place != b.place {
+        return false;
+    }
+    if a.steps != b.steps {
+        return false;
+    }
+    if a.length != b.length {
+        return false;
+    }
+    if a.fields != b.fields {
+        return false;
+    }
+    if a.uses != b.uses {
+        return false;
+    }
+    if a.remaining != b.remaining {
+        return false;
+    }
+    true
 }

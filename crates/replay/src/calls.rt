@@ -23,6 +23,7 @@ use crate::records::WRITE_TEXT;
 use crate::tally::Verdict;
 use crate::tally::compared;
 use answers::Answer;
+use answers::same_answer;
 use checker::check::check;
 use derivation::check::check_flat;
 use flattener::flatten::flatten;
@@ -34,37 +35,6 @@ use writer::entry::write_proof;
 
 // Longer than any output space that a vector file of the fixed set lends.
 const ROOM: usize = 32768;
-
-// Whether all eight numbers are the same.
-fn same_answer(a: Answer, b: Answer) -> bool
-    ensures { λ r. ⌜ (r ≡ true → a ≡ b) ⌝ }
-{
-    if a.number != b.number {
-        return false;
-    }
-    if a.file != b.file {
-        return false;
-    }
-    if a.place != b.place {
-        return false;
-    }
-    if a.steps != b.steps {
-        return false;
-    }
-    if a.length != b.length {
-        return false;
-    }
-    if a.fields != b.fields {
-        return false;
-    }
-    if a.uses != b.uses {
-        return false;
-    }
-    if a.remaining != b.remaining {
-        return false;
-    }
-    true
-}
 
 // Whether an answer is the one that is told, and the work space is left as it should be.
 fn agrees(answer: Answer, work: &[u8], told: Answer) -> bool

@@ -1,6 +1,6 @@
 -- `calls::wrote_as_told` meets its contract: where it ends in true, so did `agrees`.
 -- Assumes nothing.
-use Rattle.replay.proofs.Agreeing.{never}
+use Rattle.answers.proofs.Agreeing.{never}
 use borrow.Author.Needs.{needs}
 use Rattle.replay.proofs.calls.wrote_as_told.Statement.{statement}
 use Rattle.replay.proofs.calls.wrote_as_told.Tie as tie

@@ -6,7 +6,7 @@ use native.Mathlib.Omega.{arith}
 use lib.ListN.{length, getD}
 use borrow.Author.Needs.{needs}
 use borrow.Author.Count.{below-none, below-more}
-use Rattle.replay.proofs.Agreeing.{never}
+use Rattle.answers.proofs.Agreeing.{never}
 use Rattle.replay.proofs.lent.is_filled.Statement.{statement}
 use Rattle.replay.proofs.lent.is_filled.Tie as tie
 use Rattle.replay.proofs.lent.is_filled.Reads as reads
