@@ -39,8 +39,9 @@ impl FileKind {
         FileKind::ALL.into_iter().find(|kind| kind.name() == name)
     }
 
-    /// No file reads as two kinds, so a file that reads is recognised for sure;
-    /// of one that does not, the likeliest kind is given.
+    /// No bytes read as a table and, from P7 on, as a proof, and are taken for a
+    /// table. No other file reads as two kinds, so one that reads is recognised for
+    /// sure; of one that does not, the likeliest kind is given.
     pub fn recognise(bytes: &[u8]) -> FileKind {
         let reads_as = |kind: &FileKind| show(*kind, bytes).is_ok();
         FileKind::ALL.into_iter().find(reads_as).unwrap_or_else(|| FileKind::likeliest(bytes))
@@ -102,7 +103,7 @@ fn show_job(bytes: &[u8]) -> Result<String, Refusal> {
 
 fn show_proof(bytes: &[u8]) -> Result<String, Refusal> {
     let proof = Proof::read(bytes)?;
-    let mut text = format!("proof: term fields {}\n", proof.term_fields(bytes));
+    let mut text = format!("proof: term fields {}\n", proof.term_fields());
     let _ = writeln!(text, "goals {}", goals_text(&proof.goals));
     let _ = writeln!(text, "term {}", term_text(&proof.terms, proof.hiproof));
     let _ = writeln!(text, "remaining {}", goals_text(&proof.remaining));

@@ -123,6 +123,37 @@ fn show_prints_each_kind() {
     assert_eq!(folder.says(&["show", "--kind", "term", "term"]).0, term);
 }
 
+/// P7. A file that cannot be opened has the exit status of all files: the line of
+/// the check program for it, `refused 2 file 2 place 0`, is not printed.
+#[test]
+fn a_proof_of_no_bytes_and_one_that_is_missing() {
+    let folder = Folder::new("no-bytes");
+    let line = |text: &str| (text.to_string(), 0);
+    let refused = |text: &str| (text.to_string(), 1);
+    folder.put("nothing", &[]);
+    folder.put("table.kit", &table_a());
+    folder.put("torn.kit", &[1, 0]);
+    for table in ["table.kit", "nothing"] {
+        assert_eq!(folder.says(&["check", table, "nothing"]), line("accepted fields 1 uses 0 open 0\n"));
+        assert_eq!(folder.says(&["flatten", table, "nothing", "flat"]), line("written 3 bytes\n"));
+        assert_eq!(folder.get("flat"), [3, 0, 0]);
+        assert_eq!(folder.says(&["write", table, "flat", "back"]), line("written 9 bytes\n"));
+        assert_eq!(folder.get("back"), proof(&[], &empty(), &[]));
+        assert_eq!(folder.says(&["check-flat", table, "nothing"]), refused("refused 2 file 2 place 0\n"));
+        assert_eq!(folder.says(&["run", table, "nothing", "1", "out"]), refused("refused 2 file 2 place 0\n"));
+        assert_eq!(folder.says(&["check", table, "missing"]), (String::new(), 3));
+    }
+    assert_eq!(folder.says(&["check", "torn.kit", "nothing"]), refused("refused 2 file 1 place 0\n"));
+    assert_eq!(folder.says(&["check", "torn.kit", "missing"]), (String::new(), 3));
+    assert_eq!(folder.says(&["check", "missing", "nothing"]), (String::new(), 3));
+    let shown = "proof: term fields 1\ngoals none\nterm <>\nremaining none\n";
+    assert_eq!(folder.says(&["show", "--kind", "proof", "nothing"]), line(shown));
+    assert_eq!(folder.says(&["show", "back"]), line(shown));
+    let (words, status) = folder.complaint(&["show", "--kind", "job", "nothing"]);
+    assert_eq!(status, 1);
+    assert!(words.contains("refusal 2 at byte 0"), "{words}");
+}
+
 #[test]
 fn files_that_do_not_read_are_explained() {
     let folder = Folder::new("explained");

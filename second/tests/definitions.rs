@@ -3,6 +3,7 @@
 mod common;
 mod plain;
 use common::*;
+use plain::proof_file::proof_of;
 use plain::*;
 use second::generate::build;
 use second::generate::random::Random;
@@ -29,10 +30,9 @@ fn check_is_the_walk() {
             continue;
         }
         let table = Table::of(&table_bytes);
-        let hiproof = end_of(&proof, 0);
-        let remaining = end_of(&proof, hiproof);
+        let says = proof_of(&proof).expect("a proof that reads");
         let mut uses = Vec::new();
-        let given = give(&table, &term_at(&proof, hiproof), &goals_at(&proof, 0), &mut uses);
+        let given = give(&table, &says.hiproof, &says.goals, &mut uses);
         match given {
             // Which number it is instead of 20 is tested in reasons.rs.
             Err((20, place)) => {
@@ -40,8 +40,8 @@ fn check_is_the_walk() {
                 assert_eq!(answer, refused(answer.number, 2, place as u32));
             }
             Err((number, place)) => assert_eq!(answer, refused(number, 2, place as u32)),
-            Ok(goals) if goals != goals_at(&proof, remaining) => {
-                assert_eq!(answer, refused(21, 2, remaining as u32));
+            Ok(goals) if goals != says.remaining => {
+                assert_eq!(answer, refused(21, 2, says.remaining_place as u32));
             }
             Ok(goals) => {
                 accepted_proofs += 1;
@@ -66,9 +66,9 @@ fn flatten_is_the_forest() {
             continue;
         }
         let table = Table::of(&table_bytes);
-        let goals = goals_at(&proof, 0);
-        let trees = forest(&table, &term_at(&proof, end_of(&proof, 0)), &goals);
-        assert_eq!(flat, build::flat(&goals, &entries_of(&trees)));
+        let says = proof_of(&proof).expect("a proof that reads");
+        let trees = forest(&table, &says.hiproof, &says.goals);
+        assert_eq!(flat, build::flat(&says.goals, &entries_of(&trees)));
     }
 }
 

@@ -5,6 +5,7 @@
 mod common;
 mod plain;
 use common::*;
+use plain::proof_file::{dropping_labels, proof_of};
 use plain::*;
 use second::generate::build;
 use second::generate::examples;
@@ -31,19 +32,16 @@ fn from_proof(table_bytes: &[u8], proof: &[u8]) {
     let (answer, flat) = flatten(table_bytes, proof);
     assert_eq!(answer.number, 0);
     assert_eq!(check_flat(table_bytes, &flat).number, 0);
-    let goals = goals_at(proof, 0);
-    let hiproof = end_of(proof, 0);
-    let remaining = goals_at(proof, end_of(proof, hiproof));
-    assert_eq!(goals_at(&flat, 0), goals);
-    assert_eq!(entries(&flat, 33).concat(), remaining);
-    let term = term_at(proof, hiproof);
+    let says = proof_of(proof).unwrap();
+    assert_eq!(goals_at(&flat, 0), says.goals);
+    assert_eq!(entries(&flat, 33).concat(), says.remaining);
     let mut walked = Vec::new();
-    give(&Table::of(table_bytes), &term, &goals, &mut walked).unwrap();
+    give(&Table::of(table_bytes), &says.hiproof, &says.goals, &mut walked).unwrap();
     let mut used: Vec<(u16, u16)> = entries(&flat, 32).iter().map(|values| (values[0], values[1])).collect();
     walked.sort();
     used.sort();
     assert_eq!(used, walked);
-    let unlabelled = build::proof(&goals, &without_labels(&term), &remaining);
+    let unlabelled = dropping_labels(proof);
     assert_eq!(check(table_bytes, &unlabelled).number, 0);
     assert_eq!(flatten(table_bytes, &unlabelled).1, flat);
 }

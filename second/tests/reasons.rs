@@ -3,8 +3,9 @@
 mod common;
 mod plain;
 use common::*;
+use plain::proof_file::{proof_of, Proof};
 use plain::reasons::walk;
-use plain::{end_of, give, goals_at, term_at, Table};
+use plain::{end_of, give, term_at, Table};
 use second::engine;
 use second::generate::build::*;
 use second::generate::case::Entry;
@@ -26,11 +27,10 @@ fn coarsened(answer: Answer) -> Answer {
 }
 
 /// Number and place of a proof that reads: (0, 0) if it is accepted.
-fn with_remaining(given: Result<Vec<u16>, (u32, usize)>, proof: &[u8]) -> (u32, usize) {
-    let remaining = end_of(proof, end_of(proof, 0));
+fn with_remaining(given: Result<Vec<u16>, (u32, usize)>, proof: &Proof) -> (u32, usize) {
     match given {
         Err(ending) => ending,
-        Ok(goals) if goals != goals_at(proof, remaining) => (21, remaining),
+        Ok(goals) if goals != proof.remaining => (21, proof.remaining_place),
         Ok(_) => (0, 0),
     }
 }
@@ -43,15 +43,14 @@ fn answer_of(result: Result<(), second::answer::Refusal>) -> Answer {
 /// that of document 01. The table and the proof must read.
 fn compare(table_bytes: &[u8], proof: &[u8], tally: &mut Tally) {
     let table = Table::of(table_bytes);
-    let term = term_at(proof, end_of(proof, 0));
-    let goals = goals_at(proof, 0);
-    let finer = walk(&table, &term, &goals).map_err(|ending| ending.number_and_place());
-    let (number, place) = with_remaining(finer, proof);
+    let says = proof_of(proof).expect("a proof that reads");
+    let finer = walk(&table, &says.hiproof, &says.goals).map_err(|ending| ending.number_and_place());
+    let (number, place) = with_remaining(finer, &says);
     let file = if number == 0 { 0 } else { 2 };
     let checked = answer_of(engine::check(table_bytes, proof).map(drop));
     assert_eq!(checked, refused(number, file, place as u32), "{proof:?}");
     assert_eq!(answer_of(engine::flatten(table_bytes, proof).map(drop)), checked);
-    let before = with_remaining(give(&table, &term, &goals, &mut Vec::new()), proof);
+    let before = with_remaining(give(&table, &says.hiproof, &says.goals, &mut Vec::new()), &says);
     assert_eq!(coarsened(checked), refused(before.0, file, before.1 as u32));
     *tally.entry(number).or_default() += 1;
 }

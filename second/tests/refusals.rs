@@ -39,7 +39,9 @@ fn number_2_in_tables() {
 
 #[test]
 fn number_2_where_a_field_must_begin() {
-    assert_eq!(proof_answer(&[]), refused(2, 2, 0));
+    // P7: a proof of no bytes reads.
+    assert_eq!(proof_answer(&[]), accepted(1, 0, 0));
+    assert_eq!(proof_answer(&[3]), refused(2, 2, 0));
     assert_eq!(proof_answer(&[3, 0]), refused(2, 2, 0));
     assert_eq!(proof_answer(&goal_list(&[10])), refused(2, 2, 5));
     assert_eq!(proof_answer(&job(&[10], &id())), refused(2, 2, 8));

@@ -37,12 +37,11 @@ pub struct SuccessfulRun {
     pub steps: u32,
 }
 
-pub fn check(table: &[u8], proof_bytes: &[u8]) -> Result<AcceptedProof, Refusal> {
+pub fn check(table: &[u8], proof: &[u8]) -> Result<AcceptedProof, Refusal> {
     let table = Table::read(table)?;
-    let proof = Proof::read(proof_bytes)?;
+    let proof = Proof::read(proof)?;
     walk::walk_proof(&table, &proof)?;
-    let fields = proof.term_fields(proof_bytes);
-    Ok(AcceptedProof { fields, uses: proof.atomic_fields(), open: proof.remaining.len() })
+    Ok(AcceptedProof { fields: proof.term_fields(), uses: proof.atomic_fields(), open: proof.remaining.len() })
 }
 
 /// A proof that is not accepted gets the checker's refusal (READINGS A32).

@@ -24,7 +24,7 @@ enum Waiting {
 
 struct Walk<'a> {
     table: &'a Table,
-    proof: &'a Proof,
+    proof: &'a Proof<'a>,
     arities: Vec<usize>,
     forest: Forest,
     waiting: Vec<Waiting>,

@@ -72,6 +72,11 @@ impl Entry {
         Entry::WITH_TABLE.contains(&self)
     }
 
+    /// Whether the other file is a proof.
+    pub fn takes_proof(self) -> bool {
+        matches!(self, Entry::Check | Entry::Flatten)
+    }
+
     /// The largest budget that is not refused; 0 for an entry that has none.
     pub fn most_budget(self) -> u32 {
         match self {
@@ -153,7 +158,17 @@ impl Case {
         if !self.entry.has_output() {
             return 0;
         }
-        self.result().map_or(20, |result| result.len() + 5)
+        self.measured_result().map_or(20, |result| result.len() + 5)
+    }
+
+    /// The result that lent output spaces are measured by. The flat form of a proof
+    /// of no bytes is left out: before P7 there was none, and the vectors that stood
+    /// then keep the spaces they lend.
+    pub fn measured_result(&self) -> Option<Vec<u8>> {
+        if self.entry.takes_proof() && self.other.is_empty() {
+            return None;
+        }
+        self.result()
     }
 
     /// The bytes a call gives if the spaces suffice; None if it refuses, or if

@@ -116,8 +116,7 @@ fn spoil(random: &mut Random, mut case: Case) -> Case {
 /// proofs a sixth has a term that mostly takes another number of goals than there
 /// are.
 pub fn other_file(entry: Entry, random: &mut Random, table: &RandomTable) -> Vec<u8> {
-    let takes_proof = matches!(entry, Entry::Check | Entry::Flatten);
-    if takes_proof && random.below(6) == 0 {
+    if entry.takes_proof() && random.below(6) == 0 {
         return random_file::random_miscounted_proof(random, table);
     }
     other_file_of_vectors(entry, random, table)
@@ -171,7 +170,7 @@ pub fn vary_lent_spaces(random: &mut Random, case: Case) -> Case {
         _ => size,
     };
     let roomy = case.output_length;
-    let output_length = match (case.result(), random.below(10)) {
+    let output_length = match (case.measured_result(), random.below(10)) {
         (Some(result), 0) => result.len(),
         (Some(result), 1) => result.len() - 1,
         (Some(_), 2) => 0,

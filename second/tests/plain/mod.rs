@@ -5,6 +5,7 @@
 use second::generate::build;
 
 pub mod notation;
+pub mod proof_file;
 pub mod reasons;
 pub mod search;
 
