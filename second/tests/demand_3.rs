@@ -10,6 +10,7 @@ use plain::*;
 use second::generate::build;
 use second::generate::examples;
 use second::generate::limit_files;
+use second::generate::no_bytes;
 use second::generate::random::Random;
 use second::generate::random_file::{random_flat, random_proof};
 use second::generate::random_table::{RandomTable, Size};
@@ -100,6 +101,22 @@ fn from_examples_and_limits() {
     from_derivation(&chain, &limit_files::flat_chain(2_048));
     from_derivation(&examples::table_of_eight(), &limit_files::flat_of_eights(36));
     from_derivation(&examples::table_of_eight(), &limit_files::flat_of_roots(128, 128));
+}
+
+/// P7: the flat form of no bytes is written back as the proof of nine bytes that
+/// says the same (B7.4), and that one has the same flat form.
+#[test]
+fn from_a_proof_of_no_bytes() {
+    let mut random = Random::new(203);
+    let mut tables = no_bytes::good_tables();
+    tables.extend((0..200).map(|_| RandomTable::make(&mut random, Size::Small).bytes()));
+    for table in tables {
+        from_proof(&table, &[]);
+        let (_, flat) = flatten(&table, &[]);
+        from_derivation(&table, &flat);
+        assert_eq!(write_proof(&table, &flat).1, build::proof(&[], &build::empty(), &[]));
+    }
+    assert_eq!(dropping_labels(&[]), []);
 }
 
 /// READINGS A31: a flattened accepted proof can be too long for the writer.

@@ -88,7 +88,7 @@ fn sizes_stay_as_documented() {
         }
         total += bytes.len();
     }
-    assert!(total <= 2_500_000, "{total} bytes in all");
+    assert!(total <= 2_600_000, "{total} bytes in all");
 }
 
 /// The committed files answer as this engine does. That they are also, byte for

@@ -9,6 +9,7 @@ pub mod case;
 pub mod damage;
 pub mod examples;
 pub mod limit_files;
+pub mod no_bytes;
 pub mod positions;
 pub mod random;
 pub mod random_file;
@@ -42,11 +43,31 @@ type FileMaker = fn(Entry, &mut Random, &RandomTable) -> Vec<u8>;
 /// A case for any entry: most of them small, some large, some at a limit.
 pub fn random_case(random: &mut Random) -> Case {
     let entry = *random.pick(&Entry::ALL);
-    match random.below(20) {
+    let case = match random.below(20) {
         0 => random_case_at_a_limit(entry, random),
         1 => random_case_with(other_file, entry, Size::Large, random),
         _ => random_case_with(other_file, entry, Size::Small, random),
+    };
+    with_short_proof(random, case)
+}
+
+/// P7: of the calls that take a proof one in fifty gets one of no bytes, and as many
+/// get one of one or two bytes, with whatever table and work space they have.
+fn with_short_proof(random: &mut Random, mut case: Case) -> Case {
+    if !case.entry.takes_proof() {
+        return case;
     }
+    case.other = match random.below(100) {
+        0 | 1 => vec![],
+        2 => vec![random.byte()],
+        3 if random.chance(50) => vec![3, 0],
+        3 => vec![random.byte(), random.byte()],
+        _ => return case,
+    };
+    if case.entry.has_output() {
+        case.output_length = *random.pick(&[0, 1, 2, 3, 3, 4, 8, 20]);
+    }
+    case
 }
 
 /// A case for that entry: files that fit, damaged ones and foreign ones, with

@@ -5,7 +5,8 @@ use super::case::{Case, Entry};
 use super::random::Random;
 use super::random_table::{RandomTable, Size};
 use super::{
-    damage, examples, limit_files, other_file_of_vectors, positions, random_case_of, reading, reasons, searches, texts,
+    damage, examples, limit_files, no_bytes, other_file_of_vectors, positions, random_case_of, reading, reasons,
+    searches, texts,
 };
 use crate::limits::MOST_BUDGET;
 
@@ -25,6 +26,7 @@ pub fn vector_set() -> Vec<(&'static str, Vec<Case>)> {
         ("write-text.vec", write_text()),
         ("search.vec", search()),
         ("reasons.vec", reasons::cases()),
+        ("no-bytes.vec", no_bytes::cases()),
     ]
 }
 
