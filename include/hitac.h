@@ -36,14 +36,21 @@ struct hitac_answer {
 };
 
 /*
- * Every file and space is a pointer and its length in bytes. A pointer is never NULL, also where the length is 0.
+ * Every file and space is a pointer and its length in bytes. A pointer is never NULL, also where the length is 0. The address of
+ * an empty container may be NULL; pass that of any byte in its place, since none is read or written.
  * The spaces of a call overlap neither each other nor a file. Any bytes, lengths, height and budget get an answer. Nothing is
  * allocated and nothing is kept between calls, so calls with spaces of their own may run at the same time.
  * Work space that is long enough is all zero afterwards. A refusal leaves the output space untouched; a success
  * leaves the bytes behind its result untouched.
  */
 
-/* Whether the proof is accepted in the table; answers number, fields, uses and remaining. */
+/*
+ * Whether the proof is accepted in the table; answers number, fields, uses and remaining.
+ * A proof of zero bytes, a blank document, has no goals, the empty hiproof and none remaining: it is accepted in every table
+ * that is not refused, with one field and no use. So do not pass zero bytes for a proof that could not be opened or read: it
+ * would be accepted by mistake. A library that was built before answers HITAC_FIELD_TORN to zero bytes, also with version 1.3:
+ * they came without a new call. Every library accepts the nine bytes 3 0 0 21 0 0 3 0 0, which say the same.
+ */
 struct hitac_answer hitac_check(const uint8_t *table, size_t table_length,
                                 const uint8_t *proof, size_t proof_length,
                                 uint8_t *work, size_t work_length);
@@ -55,7 +62,7 @@ struct hitac_answer hitac_run(const uint8_t *table, size_t table_length,
                               uint8_t *work, size_t work_length,
                               uint8_t *out, size_t out_length);
 
-/* Flattens an accepted proof; writes a flat file. */
+/* Flattens an accepted proof; writes a flat file. That of a proof of zero bytes is an empty goal list, 3 0 0. */
 struct hitac_answer hitac_flatten(const uint8_t *table, size_t table_length,
                                   const uint8_t *proof, size_t proof_length,
                                   uint8_t *work, size_t work_length,

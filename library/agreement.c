@@ -102,11 +102,10 @@ static int writes(enum call call)
     return call != CHECK && call != CHECK_FLAT;
 }
 
-/* One byte too few of work space, and just enough; the same of output space. */
-static void spaces(enum call call)
+/* One byte too few of work space, and just enough; the same of output space. The files stand ready, for a success. */
+static void spaces_for(enum call call)
 {
     size_t size = work_of(call);
-    good_files(call);
     memset(work, POISON, size);
     memset(out, POISON, sizeof out);
     is("29 of a byte too few", answer_in(call, size - 1, sizeof out, 9), HITAC_WORK_TOO_SHORT, HITAC_NO_FILE, 0);
@@ -122,6 +121,12 @@ static void spaces(enum call call)
     memset(out, POISON, sizeof out);
     is("26", answer_in(call, size, got.length - 1, 9), HITAC_OUTPUT_TOO_SHORT, HITAC_NO_FILE, 0);
     expect("26 leaves the output space", all(out, sizeof out, POISON));
+}
+
+static void spaces(enum call call)
+{
+    good_files(call);
+    spaces_for(call);
 }
 
 static void layout(void)
@@ -490,6 +495,48 @@ static int leaves(enum call call, const void *bytes, size_t length)
     return got.number == HITAC_SUCCESS && got.length == length && memcmp(out, bytes, length) == 0;
 }
 
+/* A proof of zero bytes, in a table with rules and in one of zero bytes; it is written back as nine bytes. */
+static void blank_proofs(void)
+{
+    static const uint8_t NO_GOALS[] = {3, 0, 0}, WRITTEN[] = {3, 0, 0, 21, 0, 0, 3, 0, 0};
+    small_table();
+    for (size_t i = 0; i < 2; i++) {
+        other.length = 0;
+        struct hitac_answer got = answer(CHECK);
+        is("a proof of zero bytes", got, HITAC_SUCCESS, HITAC_NO_FILE, 0);
+        expect("its counts", got.fields == 1 && got.uses == 0 && got.remaining == 0);
+        spaces_for(CHECK);
+        expect("its flat file", leaves(FLATTEN, NO_GOALS, sizeof NO_GOALS));
+        spaces_for(FLATTEN);
+        field(&other, 3, 0, 0);
+        expect("the proof of no goals", leaves(WRITE_PROOF, WRITTEN, sizeof WRITTEN));
+        table.length = 0;
+    }
+}
+
+/* Zero bytes are no good job, flat file, term file or text; one or two are no good proof either. The table comes first. */
+static void hardly_any_bytes(void)
+{
+    static const enum call NO_PROOF[] = {RUN, SEARCH, CHECK_FLAT, WRITE_PROOF, WRITE_TEXT}, PROOF[] = {CHECK, FLATTEN};
+    small_table();
+    other.length = 0;
+    for (size_t i = 0; i < sizeof NO_PROOF / sizeof NO_PROOF[0]; i++)
+        is("2 of zero bytes", answer(NO_PROOF[i]), HITAC_FIELD_TORN, HITAC_OTHER_FILE, 0);
+    is("36 of zero bytes", answer(READ_TEXT), HITAC_TEXT_WRONG, HITAC_OTHER_FILE, 0);
+    for (size_t i = 0; i < 2; i++) {
+        header(&other, 3, 0);
+        for (other.length = 1; other.length <= 2; other.length++)
+            is("2 of a byte or two", answer(PROOF[i]), HITAC_FIELD_TORN, HITAC_OTHER_FILE, 0);
+        other.length = 0;
+        table.length = 2;
+        is("2 of the table", answer(PROOF[i]), HITAC_FIELD_TORN, HITAC_TABLE, 0);
+        small_table();
+        rule(&table, 2, 20, 1, 20);
+        is("6 of the table", answer(PROOF[i]), HITAC_RULE_REPEATED, HITAC_TABLE, 18);
+        small_table();
+    }
+}
+
 /* A term in both forms: a1 * ([3]a2) ; a3, whose brackets keep the label from reaching too far. */
 static void both_forms(void)
 {
@@ -581,6 +628,8 @@ int main(void)
     limits_of_terms();
     longest_results();
     limits_of_flats();
+    blank_proofs();
+    hardly_any_bytes();
     both_forms();
     refusals_of_texts();
     refusals_of_term_files();

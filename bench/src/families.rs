@@ -112,9 +112,13 @@ pub fn all() -> Vec<Family> {
         list.push(family(entry, "small", "document 01's first example", "file", 1, move |_| files::small(entry)));
         match entry {
             Entry::Check => {
-                list.extend([of_rules(entry), of_depth(entry), of_check(), of_count()].into_iter().flatten())
+                let sets = [of_blank(entry), of_rules(entry), of_depth(entry), of_check(), of_count()];
+                list.extend(sets.into_iter().flatten())
             }
-            Entry::Flatten => list.extend([of_rules(entry), of_depth(entry), of_flatten()].into_iter().flatten()),
+            Entry::Flatten => {
+                let sets = [of_blank(entry), of_rules(entry), of_depth(entry), of_flatten()];
+                list.extend(sets.into_iter().flatten())
+            }
             Entry::CheckFlat => list.extend([of_rules(entry), of_check_flat()].into_iter().flatten()),
             Entry::WriteProof => list.extend([of_rules(entry), of_write_proof()].into_iter().flatten()),
             Entry::Run => list.extend(of_run()),
@@ -124,6 +128,15 @@ pub fn all() -> Vec<Family> {
         }
     }
     list
+}
+
+/// A proof of zero bytes (document 02, P7), with no table and with a long one.
+fn of_blank(entry: Entry) -> Vec<Family> {
+    let title = "a blank proof, a long table";
+    vec![
+        family(entry, "blank", "a blank proof, no table", "file", 1, |_| files::blank()),
+        family(entry, "blank-table", title, "bytes of table", 65_535, files::blank_in_a_long_table),
+    ]
 }
 
 /// As many rules as a table may have, in several orders, and uses of the last ones.
@@ -347,6 +360,8 @@ mod tests {
     fn the_largest_calls_use_their_limits() {
         assert_eq!(largest("check-labels").0.fields, 4_096);
         assert_eq!(largest("check-table").1.table.len(), 65_535);
+        assert_eq!(largest("check-blank-table").1.table, largest("check-table").1.table);
+        assert_eq!(largest("flatten-blank-table").1.table, largest("check-table").1.table);
         assert_eq!(largest("check_flat-uses").0.uses, 4_096);
         assert_eq!(largest("run-alternatives").0.steps, 4_094);
         assert_eq!(largest("run-labels").0.steps, 4_096);
@@ -357,6 +372,18 @@ mod tests {
         for shape in ["labels", "sequences-left", "sequences-right"] {
             assert_eq!(largest(&format!("count-{shape}")).1, largest(&format!("check-{shape}")).1);
         }
+    }
+
+    /// One field, and a flat file of one empty goal list, in a table of zero bytes and in the longest.
+    #[test]
+    fn blank_proofs_have_no_bytes() {
+        for table in ["blank", "blank-table"] {
+            let ((checked, check), (flattened, flatten)) =
+                (largest(&format!("check-{table}")), largest(&format!("flatten-{table}")));
+            assert!(check.other.is_empty() && flatten.other.is_empty());
+            assert_eq!((checked.fields, flattened.length), (1, 3));
+        }
+        assert!(largest("check-blank").1.table.is_empty() && largest("flatten-blank").1.table.is_empty());
     }
 
     /// 4,095 fields, refused at the last field or at the last but four: a tensor of three ids.

@@ -139,13 +139,25 @@ pub fn tensors_to_the_left(empties: usize) -> Files {
     proof_of(&[], &left_leaning_tensor_of(&vec![empty(); empties]))
 }
 
+/// Two files of zero bytes: little is left to do but to clear the work space.
+pub fn blank() -> Files {
+    (Vec::new(), Vec::new())
+}
+
+pub fn blank_in_a_long_table(bytes: usize) -> Files {
+    (table_of(bytes), Vec::new())
+}
+
 /// 23 bytes a rule of eight premises; the longest is exactly 65,535 bytes.
-pub fn long_table(bytes: usize) -> Files {
-    let short = proof(&[1], &id(), &[1]);
+fn table_of(bytes: usize) -> Vec<u8> {
     if bytes == 65_535 {
-        return (limit_files::longest_table(), short);
+        return limit_files::longest_table();
     }
-    ((0..bytes / 23).flat_map(|name| rule(name as u16, 1, &[0; 8])).collect(), short)
+    (0..bytes / 23).flat_map(|name| rule(name as u16, 1, &[0; 8])).collect()
+}
+
+pub fn long_table(bytes: usize) -> Files {
+    (table_of(bytes), proof(&[1], &id(), &[1]))
 }
 
 /// Every label is compared with those in front of it (9).

@@ -117,12 +117,10 @@ mod tests {
     #[test]
     fn what_is_over_a_limit_is_said() {
         let families = families::all();
+        let rising = families.iter().find(|family| family.key == "check-rising").unwrap();
         let counts = |size, ours| Counts { size, ours, seconds: 100 };
-        let row = Row {
-            family: &families[1],
-            counts: vec![counts(1, 50), counts(2, 120)],
-            times: Times { ours: 1.0, ratio: 0.9 },
-        };
+        let row =
+            Row { family: rising, counts: vec![counts(1, 50), counts(2, 120)], times: Times { ours: 1.0, ratio: 0.9 } };
         assert_eq!(over(&[row]), ["check-rising instructions 1.20, over 1", "check-rising growth 2.40, over 2.2"]);
     }
 }

@@ -18,7 +18,8 @@ pub enum Kind {
     Large,
     /// One to three pieces of damage in one of the files.
     Mutated,
-    /// A file cut short, a piece cut out, or two halves of different files.
+    /// A file cut short, a piece cut out, two halves of different files, or
+    /// nothing left: zero bytes are a good table and proof, and no other file.
     Torn,
     /// A table of another maker, or one that is nearly the right one; files of
     /// the wrong kind.
@@ -108,8 +109,19 @@ impl Mix {
             Kind::AtALimit => random.pick(&self.at_limits).clone(),
             Kind::Known => random.pick(&self.known).clone(),
         };
-        (kind, vary_lent_spaces(random, case))
+        let case = vary_lent_spaces(random, case);
+        (kind, around_three_bytes(random, case))
     }
+}
+
+/// A proof of no bytes has a flat form of three, by which the fixed vectors do not
+/// measure what they lend: here the output space is longer or shorter than that.
+fn around_three_bytes(random: &mut Random, case: Case) -> Case {
+    if case.entry != Entry::Flatten || !case.other.is_empty() {
+        return case;
+    }
+    let length = random.below(6);
+    case.with_output(length)
 }
 
 /// A table and a case over it; the case has none of it if the entry takes none.
@@ -146,20 +158,21 @@ fn mutated(entry: Entry, random: &mut Random) -> Case {
 fn torn(entry: Entry, random: &mut Random) -> Case {
     let (_, mut case) = fitting(entry, Size::Small, random);
     let (_, another) = fitting(entry, Size::Small, random);
-    let way = random.below(4);
+    let way = random.below(13);
     let (first, second) = (random.number() as usize, random.number() as usize);
     let of_table = spoils_table(entry, random);
     let (file, stranger) = if of_table { (&mut case.table, another.table) } else { (&mut case.other, another.other) };
     // A cut may fall before the first byte and behind the last.
     let cut = first % (file.len() + 1);
     match way {
-        0 => file.truncate(cut),
-        1 => drop(file.drain(..cut)),
-        2 => drop(file.drain(cut..cut + second % (file.len() - cut + 1))),
-        _ => {
+        0..=2 => file.truncate(cut),
+        3..=5 => drop(file.drain(..cut)),
+        6..=8 => drop(file.drain(cut..cut + second % (file.len() - cut + 1))),
+        9..=11 => {
             file.truncate(cut);
             file.extend(&stranger[second % (stranger.len() + 1)..]);
         }
+        _ => file.clear(),
     }
     case
 }
@@ -288,6 +301,27 @@ mod tests {
             let places: BTreeSet<u32> =
                 answers.iter().filter(|answer| answer.number == number).map(|answer| answer.place).collect();
             assert!(places.len() > 4, "{number} at {places:?}");
+        }
+    }
+
+    /// Zero bytes come in the place of every file: a good proof, and no other file beside a table or alone.
+    #[test]
+    fn files_of_no_bytes_come_for_every_entry() {
+        let mix = Mix::new(6);
+        let cases = (0..24_000).map(|number| mix.case(number).1);
+        let files: Vec<Case> = cases.filter(|case| case.other.is_empty()).collect();
+        for entry in Entry::ALL {
+            let of_entry = files.iter().filter(|case| case.entry == entry).map(|case| case.outcome().answer);
+            // What is refused before the file is looked at does not count.
+            let read = of_entry.filter(|answer| answer.file != 1 && ![25, 29, 42].contains(&answer.number));
+            let numbers: BTreeSet<u32> = read.map(|answer| answer.number).collect();
+            let expected: &[u32] = match entry {
+                Entry::Check => &[0],
+                Entry::Flatten => &[0, 26],
+                Entry::ReadText => &[36],
+                _ => &[2],
+            };
+            assert_eq!(numbers, expected.iter().copied().collect(), "{entry:?}");
         }
     }
 

@@ -41,9 +41,10 @@ pub fn inspect(inspector: &mut Inspector) -> Result<String, String> {
     ))
 }
 
-/// Accepted proofs of some size, the paper's among them.
+/// Accepted proofs of some size, the paper's and a blank one, which the engine never writes, among them.
 pub fn accepted_proofs(seed: u64, count: usize) -> Vec<(Vec<u8>, Vec<u8>)> {
     let mut proofs = examples::proofs();
+    proofs.push((examples::table_a(), Vec::new()));
     let random = &mut Random::new(seed);
     while proofs.len() < count {
         let table = RandomTable::make(random, Size::Small);

@@ -6,7 +6,7 @@ use second::generate::case::{Case, Entry};
 use second::generate::random::Random;
 use second::generate::random_table::{RandomTable, Size};
 use second::generate::{build, examples, limit_files, other_file, reading, texts};
-use second::Reason;
+use second::{Answer, Reason};
 
 pub fn inspect(inspector: &mut Inspector) -> Result<String, String> {
     for entry in Entry::ALL {
@@ -17,7 +17,11 @@ pub fn inspect(inspector: &mut Inspector) -> Result<String, String> {
         } else {
             foreign_files(inspector, entry);
         }
-        lent_spaces(inspector, entry);
+        torn_off_files(inspector, entry);
+        lent_spaces(inspector, entry, &good_file(entry));
+        if matches!(entry, Entry::Check | Entry::Flatten) {
+            lent_spaces(inspector, entry, &[]);
+        }
     }
     refusals_of_the_walk(inspector);
     reasons(inspector);
@@ -109,10 +113,37 @@ fn foreign_files(inspector: &mut Inspector, entry: Entry) {
     }
 }
 
+/// What no bytes, or one or two, are answered with in a table that reads: torn off
+/// to nothing a proof is a blank one and accepted, and no other file is good.
+fn answer_to_torn_off(entry: Entry, file: &[u8]) -> Answer {
+    let number = if entry == Entry::ReadText { 36 } else { 2 };
+    match entry {
+        Entry::Check if file.is_empty() => Answer { fields: 1, ..Answer::default() },
+        Entry::Flatten if file.is_empty() => Answer { length: 3, ..Answer::default() },
+        _ => Answer { number, file: 2, ..Answer::default() },
+    }
+}
+
+/// Files of no, one and two bytes; the refusals of the table come first.
+fn torn_off_files(inspector: &mut Inspector, entry: Entry) {
+    for file in [&[][..], &[3], &[3, 0]] {
+        for table in [Vec::new(), reading::table_with_every_field()] {
+            let case = Case::new(entry, &table, file);
+            let (answer, _) = inspector.call(&case);
+            let holds = answer == answer_to_torn_off(entry, file);
+            inspector.demand(holds, &case, "fewer than three bytes were not answered as a file of their kind");
+        }
+        for table in reading::refused_tables().iter().filter(|_| entry.takes_table()) {
+            let case = Case::new(entry, table, file);
+            let (answer, _) = inspector.call(&case);
+            inspector.demand(answer.file == 1, &case, "the table was not refused first");
+        }
+    }
+}
+
 /// 29, 25, 42 and 26 with spaces, budgets and heights around their borders.
-fn lent_spaces(inspector: &mut Inspector, entry: Entry) {
-    let (table, other) = (reading::table_with_every_field(), good_file(entry));
-    let good = Case::new(entry, &table, &other);
+fn lent_spaces(inspector: &mut Inspector, entry: Entry, other: &[u8]) {
+    let good = Case::new(entry, &reading::table_with_every_field(), other);
     let size = entry.work_size();
     for work in [0, 1, size / 2, size - 1, size, size + 1, size + 4_096] {
         inspector.call(&good.clone().with_work(work));

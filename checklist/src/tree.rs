@@ -38,8 +38,11 @@ fn goals_at(bytes: &[u8], place: usize) -> Vec<u16> {
 }
 
 impl Parts {
-    /// Takes a job or proof apart that is known to read.
+    /// Takes a job or proof apart that is known to read; no bytes are a blank proof.
     pub fn of(bytes: &[u8]) -> Parts {
+        if bytes.is_empty() {
+            return Parts { goals: Vec::new(), term: Empty, remaining: Vec::new() };
+        }
         let term = end_of(bytes, 0);
         let behind = end_of(bytes, term);
         let remaining = if behind < bytes.len() { goals_at(bytes, behind) } else { Vec::new() };
@@ -198,7 +201,9 @@ mod tests {
 
     #[test]
     fn files_are_taken_apart_and_made_again() {
-        for (_, proof) in examples::proofs() {
+        let blank = build::proof(&[], &build::empty(), &[]);
+        assert_eq!(Parts::of(&[]).proof(), blank);
+        for (_, proof) in examples::proofs().into_iter().filter(|(_, proof)| !proof.is_empty()) {
             assert_eq!(Parts::of(&proof).proof(), proof);
         }
         for case in examples::run_cases() {

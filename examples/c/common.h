@@ -13,22 +13,30 @@ struct file {
     size_t length;
 };
 
+/* Unless that holds, ends the program with what the system says. */
+static inline void must(int holds, const char *name)
+{
+    if (!holds) {
+        perror(name);
+        exit(EXIT_FAILURE);
+    }
+}
+
 static inline FILE *opened(const char *folder, const char *name)
 {
     char path[1024];
     snprintf(path, sizeof path, "%s/%s", folder, name);
     FILE *stream = fopen(path, "rb");
-    if (stream == NULL) {
-        perror(path);
-        exit(EXIT_FAILURE);
-    }
+    must(stream != NULL, path);
     return stream;
 }
 
+/* Ends the program if the file cannot be read (a directory opens): zero bytes in its place would be a good table or proof. */
 static inline void load(struct file *file, const char *folder, const char *name)
 {
     FILE *stream = opened(folder, name);
     file->length = fread(file->bytes, 1, sizeof file->bytes, stream);
+    must(!ferror(stream), name);
     fclose(stream);
 }
 

@@ -1,19 +1,25 @@
-/* Checks a proof, runs a tactic, flattens a proof, checks the derivation and writes it back, on the files of a folder. */
+/*
+ * Checks a proof, runs a tactic, flattens a proof, checks the derivation and writes it back, on the files of a folder; then
+ * checks and flattens a proof of zero bytes.
+ */
 #include "common.h"
 
 static struct file table, proof, job;
+
+/* A blank document: a proof of zero bytes. */
+static struct file blank;
 
 /* Space that is lent to the calls: as much work space as the most demanding call needs. */
 static uint8_t work[HITAC_RUN_WORK];
 static uint8_t flat[HITAC_LONGEST_FLAT];
 static uint8_t written[HITAC_LONGEST_PROOF];
 
-static void check(void)
+static void check(const char *words, const struct file *its_proof)
 {
     struct hitac_answer answer =
-        hitac_check(table.bytes, table.length, proof.bytes, proof.length, work, HITAC_CHECK_WORK);
-    if (succeeded("check", answer))
-        printf("check: accepted fields %u uses %u open %u\n", answer.fields, answer.uses, answer.remaining);
+        hitac_check(table.bytes, table.length, its_proof->bytes, its_proof->length, work, HITAC_CHECK_WORK);
+    if (succeeded(words, answer))
+        printf("%s: accepted fields %u uses %u open %u\n", words, answer.fields, answer.uses, answer.remaining);
 }
 
 static void run(uint32_t budget)
@@ -27,13 +33,13 @@ static void run(uint32_t budget)
 }
 
 /* Leaves the flat file in flat; its length, or 0 after a refusal. */
-static size_t flatten(void)
+static size_t flatten(const char *words, const struct file *its_proof)
 {
-    struct hitac_answer answer = hitac_flatten(table.bytes, table.length, proof.bytes, proof.length, work,
+    struct hitac_answer answer = hitac_flatten(table.bytes, table.length, its_proof->bytes, its_proof->length, work,
                                                HITAC_FLATTEN_WORK, flat, sizeof flat);
-    if (!succeeded("flatten", answer))
+    if (!succeeded(words, answer))
         return 0;
-    printf("flatten: bytes %u\n", answer.length);
+    printf("%s: bytes %u\n", words, answer.length);
     print_bytes(flat, answer.length);
     return answer.length;
 }
@@ -63,13 +69,15 @@ int main(int count, char **arguments)
     load(&proof, folder, "proof.hip");
     load(&job, folder, "job.tac");
     printf("version: %u.%u\n", hitac_version() / 65536, hitac_version() % 65536);
-    check();
+    check("check", &proof);
     run(HITAC_MOST_STEPS);
     run(18);
-    size_t flat_length = flatten();
+    size_t flat_length = flatten("flatten", &proof);
     if (flat_length > 0) {
         check_flat(flat_length);
         write_proof(flat_length);
     }
+    check("check of zero bytes", &blank);
+    flatten("flatten of zero bytes", &blank);
     return EXIT_SUCCESS;
 }

@@ -1,4 +1,5 @@
-"""Checks a proof, runs a tactic, flattens a proof, checks the derivation and writes it back, on the files of a folder."""
+"""Checks a proof, runs a tactic, flattens a proof, checks the derivation and writes it back, on the files of a folder; then
+checks and flattens a proof of zero bytes."""
 import pathlib
 import sys
 
@@ -8,6 +9,11 @@ import hitac
 def listed(data):
     """The length of a file, and its bytes on the next line."""
     return f"bytes {len(data)}\n{data.hex(' ')}"
+
+
+def counted(accepted):
+    """What is counted in an accepted proof."""
+    return f"accepted fields {accepted.fields} uses {accepted.uses} open {accepted.open}"
 
 
 def run(engine, table, job, budget):
@@ -25,8 +31,7 @@ def main():
     engine = hitac.Engine()
 
     print(f"version: {engine.version().major}.{engine.version().minor}")
-    accepted = engine.check(table, proof)
-    print(f"check: accepted fields {accepted.fields} uses {accepted.uses} open {accepted.open}")
+    print(f"check: {counted(engine.check(table, proof))}")
     print(f"run: {run(engine, table, job, 4096)}")
     print(f"run: {run(engine, table, job, 18)}")
     flat = engine.flatten(table, proof)
@@ -34,6 +39,9 @@ def main():
     right = engine.check_flat(table, flat)
     print(f"check_flat: right uses {right.uses} open {right.open}")
     print(f"write_proof: {listed(engine.write_proof(table, flat))}")
+    blank = b""
+    print(f"check of zero bytes: {counted(engine.check(table, blank))}")
+    print(f"flatten of zero bytes: {listed(engine.flatten(table, blank))}")
 
 
 if __name__ == "__main__":

@@ -175,7 +175,8 @@ class Engine:
         return _version_of(self._library)
 
     def check(self, table, proof):
-        """Whether the proof is accepted in the table."""
+        """Whether the proof is accepted in the table. Zero bytes are a proof, a blank document: no goals, the empty hiproof and
+        none remaining. They are accepted, so do not pass b"" for a file that cannot be read."""
         answer = self._checks("hitac_check", CHECK_WORK, table, proof)
         return Accepted(answer.fields, answer.uses, answer.remaining)
 
@@ -194,7 +195,7 @@ class Engine:
         return Ran(self._result(answer), answer.steps)
 
     def flatten(self, table, proof):
-        """The flat file of an accepted proof."""
+        """The flat file of an accepted proof; of one of zero bytes, an empty goal list."""
         return self._result(self._writes("hitac_flatten", FLATTEN_WORK, table, proof))
 
     def check_flat(self, table, flat):

@@ -78,7 +78,8 @@ impl Engine {
 
     // Each call is lent no more work space than it needs, because it clears all that it was lent.
 
-    /// Whether the proof is accepted in the table.
+    /// Whether the proof is accepted in the table. Zero bytes are a proof, a blank document: no goals, the empty hiproof and none
+    /// remaining. They are accepted, so do not pass `fs::read(path).unwrap_or_default()`: a missing file would be accepted.
     pub fn check(&mut self, table: &[u8], proof: &[u8]) -> Result<Accepted, Refusal> {
         let work = &mut self.work[..raw::CHECK_WORK];
         let answer = succeeded(raw::check(table, proof, work))?;
@@ -100,7 +101,7 @@ impl Engine {
         Ok(Ran { proof: self.result(answer), steps: answer.steps })
     }
 
-    /// The flat file of an accepted proof.
+    /// The flat file of an accepted proof; of one of zero bytes, an empty goal list.
     pub fn flatten(&mut self, table: &[u8], proof: &[u8]) -> Result<Vec<u8>, Refusal> {
         let work = &mut self.work[..raw::FLATTEN_WORK];
         let answer = succeeded(raw::flatten(table, proof, work, &mut self.out))?;

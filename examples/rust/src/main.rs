@@ -1,5 +1,6 @@
-//! Checks a proof, runs a tactic, flattens a proof, checks the derivation and writes it back, on the files of a folder.
-use hitac::Engine;
+//! Checks a proof, runs a tactic, flattens a proof, checks the derivation and writes it back, on the files of a folder; then
+//! checks and flattens a proof of zero bytes.
+use hitac::{Accepted, Engine};
 use std::path::Path;
 use std::{env, error, fs};
 
@@ -10,8 +11,7 @@ fn main() -> Result<(), Box<dyn error::Error>> {
     let mut engine = Engine::new();
 
     println!("version: {}", hitac::version());
-    let accepted = engine.check(&table, &proof)?;
-    println!("check: accepted fields {} uses {} open {}", accepted.fields, accepted.uses, accepted.open);
+    println!("check: {}", counted(engine.check(&table, &proof)?));
     for budget in [4096, 18] {
         match engine.run(&table, &job, budget) {
             Ok(ran) => println!("run: steps {} {}", ran.steps, listed(&ran.proof)),
@@ -23,7 +23,15 @@ fn main() -> Result<(), Box<dyn error::Error>> {
     let right = engine.check_flat(&table, &flat)?;
     println!("check_flat: right uses {} open {}", right.uses, right.open);
     println!("write_proof: {}", listed(&engine.write_proof(&table, &flat)?));
+    let blank = [];
+    println!("check of zero bytes: {}", counted(engine.check(&table, &blank)?));
+    println!("flatten of zero bytes: {}", listed(&engine.flatten(&table, &blank)?));
     Ok(())
+}
+
+/// What is counted in an accepted proof.
+fn counted(accepted: Accepted) -> String {
+    format!("accepted fields {} uses {} open {}", accepted.fields, accepted.uses, accepted.open)
 }
 
 /// The length of a file, and its bytes on the next line.
