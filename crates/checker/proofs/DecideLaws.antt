@@ -19,7 +19,7 @@ use Rattle.format.specs.Goals.{goalsAt}
 use Rattle.format.proofs.GoalsAt.{goals-paste}
 use Rattle.tables.specs.Tables.{Table}
 use Rattle.files.specs.declared.proofs.ProofParts.{ProofParts}
-use Rattle.files.specs.Proofs.{Proof, readProof, termPlace, remainingPlace}
+use Rattle.files.specs.Proofs.{Proof, readProofFields, termPlace, remainingPlace}
 use Rattle.files.specs.Shapes.{partsOf}
 use Rattle.hitac.specs.Hiproofs.{atomics}
 use Rattle.hitac.specs.Walk.{walk}
@@ -57,7 +57,7 @@ module _ (T : Table) (p : Proof) where
 abbrev top : ProofParts → ℕ
 top q = stackEnd - q .goals * 2
 
-module _ (s : List ℕ) (p : Proof) (e : readProof s ≡ gives p) (q : ProofParts) (is : partsOf p ≡ q) (w₁ w₂ : List ℕ) (copied : w₂ ≡ paste w₁ (top q) (drop 3 s) (q .goals * 2)) (enough : aritiesEnd ≤ length w₁) where
+module _ (s : List ℕ) (p : Proof) (e : readProofFields s ≡ gives p) (q : ProofParts) (is : partsOf p ≡ q) (w₁ w₂ : List ℕ) (copied : w₂ ≡ paste w₁ (top q) (drop 3 s) (q .goals * 2)) (enough : aritiesEnd ≤ length w₁) where
   copy-kept : Kept w₁ w₂ 0 stackEnd
   copy-kept =
       let z = small s p e q is in
@@ -85,7 +85,7 @@ module _ (s : List ℕ) (p : Proof) (e : readProof s ≡ gives p) (q : ProofPart
 
 -- what was walked
 pub record Walking (T : Table) (s : List ℕ) (p : Proof) (q : ProofParts) (w₂ w₃ : List ℕ) (r : Walked) : Type 0 where
-  pub reads : readProof s ≡ gives p
+  pub reads : readProofFields s ≡ gives p
   pub parts-are : partsOf p ≡ q
   pub goals-are : goalsAt w₂ (top q) (q .goals) ≡ p .goals
   pub walked : Walks T (p .term) (q .term) (length s) w₂ w₃ (q .goals) r

@@ -1,6 +1,6 @@
 // The entry check: table, proof and work space in, one answer out.
 ghost use mathlib.Core.Path.{_≡_};
-ghost use Prim.Native.Nat.{_≤_};
+ghost use Prim.Native.Nat.{_≤_, _<_};
 ghost use lib.ListN.{length};
 ghost use Rattle.walks.specs.Layout.{indexEnd};
 ghost use Rattle.entries.specs.LentSpace.{countedAnswer};
@@ -10,7 +10,9 @@ use crate::decide::decide;
 use answers::Answer;
 use answers::refusal;
 use files::proofs::ProofRead;
-use files::proofs::read_proof;
+use files::proofs::empty_proof;
+use files::proofs::or_empty_proof;
+use files::proofs::read_proof_fields;
 use input_arities::layout::ARITIES_END;
 use tables::fields::TableRead;
 use whole_table::read_table;
@@ -19,16 +21,16 @@ use words::clear;
 // The size of the work space that is named for this entry.
 const WORK: usize = 65536;
 
-// Both files, in a work space that is long enough. While they are read, the start of it holds the fields that wait.
+// Both files, of which the proof has a byte, in a work space that is long enough. While they are read, the start of it holds the fields that wait.
 fn check_files(table: &[u8], proof: &[u8], work: &mut [u8]) -> Answer
-    requires { ⌜ indexEnd ≤ length (now work) ⌝ }
+    requires { ⌜ (0 < length (now proof)) × (indexEnd ≤ length (now work)) ⌝ }
     ensures { λ r. ⌜ r ≡ countedAnswer (onProof proofCounts (now (table .entry)) (now (proof .entry))) ⌝ }
 {
     let read = read_table(table, work, 0, ARITIES_END);
     match read {
         TableRead::Refused(number, place) => refusal(number, 1, place, 0),
         TableRead::Read(_, _, first) => {
-            let file = read_proof(proof, work, 0);
+            let file = read_proof_fields(proof, work, 0);
             match file {
                 ProofRead::Refused(number, place) => refusal(number, 2, place, 0),
                 ProofRead::Read(parts) => decide(table, first, proof, work, parts),
@@ -45,7 +47,9 @@ pub fn check(table: &[u8], proof: &[u8], work: &mut [u8]) -> Answer
     if work.len() < WORK {
         return refusal(29, 0, 0, 0);
     }
-    let answer = check_files(table, proof, work);
+    let empty = empty_proof();
+    let file = or_empty_proof(proof, &empty);
+    let answer = check_files(table, file, work);
     clear(work);
     answer
 }

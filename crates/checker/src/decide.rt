@@ -6,7 +6,7 @@ ghost use Rattle.format.specs.Goals.{goalsAt};
 ghost use Rattle.format.specs.Results.{gives};
 ghost use Rattle.tables.specs.Tables.{Table};
 ghost use Rattle.tables.specs.Standing.{TableStands};
-ghost use Rattle.files.specs.Proofs.{Proof, readProof};
+ghost use Rattle.files.specs.Proofs.{Proof, readProofFields};
 ghost use Rattle.files.specs.Shapes.{partsOf};
 ghost use Rattle.entries.specs.Check.{sameGoals};
 ghost use Rattle.input_arities.specs.Layout.{aritiesEnd};
@@ -59,8 +59,8 @@ pub fn decide(
     work: &mut [u8],
     parts: ProofParts,
 ) -> Answer
-    requires { ⌜ ((T : Table) × TableStands (now table) first T) × ((p : Proof) × (readProof (now proof) ≡ gives p) × (partsOf p ≡ parts)) × (aritiesEnd ≤ length (now work)) × Behind (now table) first (now work) ⌝ }
-    ensures { λ r. ⌜ ((T : Table) (p : Proof) → TableStands (now (table .entry)) first T → readProof (now (proof .entry)) ≡ gives p → r ≡ checkedAnswer T p) ⌝ }
+    requires { ⌜ ((T : Table) × TableStands (now table) first T) × ((p : Proof) × (readProofFields (now proof) ≡ gives p) × (partsOf p ≡ parts)) × (aritiesEnd ≤ length (now work)) × Behind (now table) first (now work) ⌝ }
+    ensures { λ r. ⌜ ((T : Table) (p : Proof) → TableStands (now (table .entry)) first T → readProofFields (now (proof .entry)) ≡ gives p → r ≡ checkedAnswer T p) ⌝ }
 {
     note_arities(proof, parts.term, work);
     let goals = parts.goals;

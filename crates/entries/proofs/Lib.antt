@@ -1,3 +1,4 @@
 pub mod LeftLaws
 pub mod Worked
 pub mod SameGoals
+pub mod ProofFiles

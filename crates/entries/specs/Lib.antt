@@ -7,5 +7,6 @@ pub mod Search
 pub mod Texts
 pub mod Left
 pub mod PrintedLine
+pub mod CheckProgram
 pub mod Lines
 pub mod Worked

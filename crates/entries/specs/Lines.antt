@@ -1,6 +1,7 @@
 -- Document 01, "A table and its edges": a worked line is a call on bytes and what it comes to.
 use Prim.Native.Nat.{ℕ}
 use mathlib.Core.Path.{_≡_}
+use mathlib.Core.Bool.{Bool, cond}
 use mathlib.Core.List.{List, [], _∷_}
 use lib.ListN.{length}
 use Rattle.format.specs.Results.{Result}
@@ -15,6 +16,7 @@ use Rattle.entries.specs.Run.{runOutcome, runTactic}
 use Rattle.entries.specs.Search.{searchOutcome, searchTactic}
 use Rattle.entries.specs.Texts.{readTextOutcome, writeTextOutcome}
 use Rattle.entries.specs.PrintedLine.{printedLine}
+use Rattle.entries.specs.CheckProgram.{withoutProof}
 
 pub data Line : Type 0 where
   ofBytes : (file : List ℕ) → (bytes : ℕ) → Line
@@ -32,6 +34,7 @@ pub data Line : Type 0 where
   searchesWith : (table job : List ℕ) → (height budget : ℕ) → (work out : List ℕ) → Written → Line
   checksWith : (table proof work : List ℕ) → Checked → Line
   prints : Answer → (line : List ℕ) → Line
+  printsFor : (table proof : List ℕ) → (opened : Bool) → (line : List ℕ) → Line
   readsText : (text : List ℕ) → Outcome (List ℕ) → Line
   writesText : (term : List ℕ) → Outcome (List ℕ) → Line
 
@@ -55,6 +58,8 @@ Holds (searchesInto t j h b w o x) = writeOut w o (searchOutcome t j h b) ≡ x
 Holds (searchesWith t j h b w o x) = searchTactic t j h b w o ≡ x
 Holds (checksWith t p w x) = check t p w ≡ x
 Holds (prints a l) = printedLine a ≡ l
+-- the check program, which has enough work space
+Holds (printsFor t p b l) = printedLine (countedAnswer (cond b (onProof proofCounts t p) (withoutProof t))) ≡ l
 Holds (readsText s o) = readTextOutcome s ≡ o
 Holds (writesText s o) = writeTextOutcome s ≡ o
 

@@ -1,5 +1,6 @@
 -- Document 01, "A table and its edges": the starred lines, and one line for each refusal and some edges, over bytes. `proofs/Worked.antt` proves them.
 use Prim.Native.Nat.{ℕ, zero, suc}
+use mathlib.Core.Bool.{true, false}
 use mathlib.Core.List.{List, [], _∷_, _++_}
 use lib.ListN.{replicate}
 use Rattle.format.specs.Refusals.{inputTooLong, fieldTorn, tagNotAllowed, lengthWrong, limitPassed, ruleRepeated, premiseCountDiffers, tacticRedefined, labelRepeated, goalCountWrong, remainingDiffer, joinedTooLong, tacticFailed, budgetSpent, budgetTooLarge, entryWrong, goalsPending, entriesTooMany, textWrong, noEvaluation, heightOutside}
@@ -13,7 +14,7 @@ use Rattle.search.specs.Worked.{beside}
 use Rattle.answers.specs.Answers as answer
 use Rattle.entries.specs.Outcomes.{success, refusal, done, tableFile, otherFile, noFile}
 use Rattle.entries.specs.LentSpace.{Counts}
-use Rattle.entries.specs.Lines.{Line, ofBytes, checks, checksAs, flattens, checksFlat, writes, writesOf, runs, runsInto, runsWith, searches, searchesInto, searchesWith, checksWith, prints, readsText, writesText}
+use Rattle.entries.specs.Lines.{Line, ofBytes, checks, checksAs, flattens, checksFlat, writes, writesOf, runs, runsInto, runsWith, searches, searchesInto, searchesWith, checksWith, prints, printsFor, readsText, writesText}
 
 abbrev pub counts : (fields uses remaining : ℕ) → Counts
 counts t u o = record { fields = t; uses = u; remaining = o }
@@ -108,7 +109,7 @@ edgeLines =
     -- 2: two bytes where a field could begin
     ∷ checks (1 ∷ 0 ∷ 4 ∷ 0 ∷ 1 ∷ 0 ∷ 1 ∷ 1 ∷ 0 ∷ []) [] (refusal fieldTorn tableFile 7 0)
     -- 2: no field where one must begin
-    ∷ checks tableA [] (refusal fieldTorn otherFile 0 0)
+    ∷ checksFlat tableA [] (refusal fieldTorn otherFile 0 0)
     -- 2: an inner term that is missing is torn at its own place
     ∷ runs [] (3 ∷ 0 ∷ 0 ∷ 19 ∷ 0 ∷ 3 ∷ 17 ∷ 0 ∷ 0 ∷ []) 1 (refusal fieldTorn otherFile 9 0)
     -- 3: a rule behind a definition
@@ -194,6 +195,40 @@ edgeLines =
     ∷ writes tableB (3 ∷ 0 ∷ 2 ∷ 0 ∷ 50 ∷ 32 ∷ 0 ∷ 4 ∷ 0 ∷ 5 ∷ 0 ∷ 50 ∷ 33 ∷ 0 ∷ 2 ∷ 0 ∷ 10 ∷ 33 ∷ 0 ∷ 2 ∷ 0 ∷ 20 ∷ 33 ∷ 0 ∷ 2 ∷ 0 ∷ 50 ∷ []) (done (3 ∷ 0 ∷ 2 ∷ 0 ∷ 50 ∷ 19 ∷ 0 ∷ 20 ∷ 16 ∷ 0 ∷ 2 ∷ 0 ∷ 5 ∷ 20 ∷ 0 ∷ 12 ∷ 17 ∷ 0 ∷ 0 ∷ 20 ∷ 0 ∷ 6 ∷ 17 ∷ 0 ∷ 0 ∷ 17 ∷ 0 ∷ 0 ∷ 3 ∷ 0 ∷ 6 ∷ 0 ∷ 10 ∷ 0 ∷ 20 ∷ 0 ∷ 50 ∷ []))
     -- no roots are written back as empty
     ∷ writes [] (3 ∷ 0 ∷ 0 ∷ []) (done (3 ∷ 0 ∷ 0 ∷ 21 ∷ 0 ∷ 0 ∷ 3 ∷ 0 ∷ 0 ∷ []))
+    ∷ []
+
+-- document 02, P7: a proof file of no bytes, the nine bytes that mean the same, and files of no bytes that are still refused
+abbrev pub noGoalsProof : List ℕ
+noGoalsProof = 3 ∷ 0 ∷ 0 ∷ 21 ∷ 0 ∷ 0 ∷ 3 ∷ 0 ∷ 0 ∷ []
+
+-- `accepted fields 1 uses 0 open 0`
+abbrev pub noBytesLine : List ℕ
+noBytesLine = 97 ∷ 99 ∷ 99 ∷ 101 ∷ 112 ∷ 116 ∷ 101 ∷ 100 ∷ 32 ∷ 102 ∷ 105 ∷ 101 ∷ 108 ∷ 100 ∷ 115 ∷ 32 ∷ 49 ∷ 32 ∷ 117 ∷ 115 ∷ 101 ∷ 115 ∷ 32 ∷ 48 ∷ 32 ∷ 111 ∷ 112 ∷ 101 ∷ 110 ∷ 32 ∷ 48 ∷ 10 ∷ []
+
+-- `refused 2 file 2 place 0`
+abbrev pub unopenedLine : List ℕ
+unopenedLine = 114 ∷ 101 ∷ 102 ∷ 117 ∷ 115 ∷ 101 ∷ 100 ∷ 32 ∷ 50 ∷ 32 ∷ 102 ∷ 105 ∷ 108 ∷ 101 ∷ 32 ∷ 50 ∷ 32 ∷ 112 ∷ 108 ∷ 97 ∷ 99 ∷ 101 ∷ 32 ∷ 48 ∷ 10 ∷ []
+
+unfoldable pub noByteLines : List Line
+noByteLines =
+    -- "accepted, with one term field and no use"
+    checks tableA [] (done (counts 1 0 0))
+    ∷ checks tableA noGoalsProof (done (counts 1 0 0))
+    -- "One or two bytes are still 2."
+    ∷ checks tableA (3 ∷ []) (refusal fieldTorn otherFile 0 0)
+    ∷ checks tableA (3 ∷ 0 ∷ []) (refusal fieldTorn otherFile 0 0)
+    -- "Flattening it writes an empty goal list.", which is written back as the nine bytes
+    ∷ flattens tableA [] (done (3 ∷ 0 ∷ 0 ∷ []))
+    ∷ flattens tableA noGoalsProof (done (3 ∷ 0 ∷ 0 ∷ []))
+    ∷ writes tableA (3 ∷ 0 ∷ 0 ∷ []) (done noGoalsProof)
+    -- jobs and flat files must begin with a goal list, as before
+    ∷ runs tableA [] 4096 (refusal fieldTorn otherFile 0 0)
+    ∷ writes tableA [] (refusal fieldTorn otherFile 0 0)
+    -- the check program, with a proof.hip of no bytes
+    ∷ printsFor tableA [] true noBytesLine
+    -- and with one that cannot be opened, "the table's refusals coming first": `refused 2 file 1 place 0`
+    ∷ printsFor tableA [] false unopenedLine
+    ∷ printsFor (1 ∷ []) [] false (114 ∷ 101 ∷ 102 ∷ 117 ∷ 115 ∷ 101 ∷ 100 ∷ 32 ∷ 50 ∷ 32 ∷ 102 ∷ 105 ∷ 108 ∷ 101 ∷ 32 ∷ 49 ∷ 32 ∷ 112 ∷ 108 ∷ 97 ∷ 99 ∷ 101 ∷ 32 ∷ 48 ∷ 10 ∷ [])
     ∷ []
 
 -- document 02, P8: the body of tactic 3 of table A as text and as a term file, and what is refused

@@ -14,7 +14,7 @@ use Rattle.files.specs.declared.jobs.JobRead.the-variants as J
 use Rattle.files.specs.declared.terms.TermFileRead.the-variants as R
 use Rattle.files.specs.declared.flats.FlatParts.{FlatParts}
 use Rattle.files.specs.declared.flats.FlatRead.the-variants as F
-use Rattle.files.specs.Proofs.{Proof, readProof}
+use Rattle.files.specs.Proofs.{Proof, readProofFields}
 use Rattle.files.specs.Jobs.{Job, readJob}
 use Rattle.files.specs.TermFiles.{readTermFile}
 use Rattle.files.specs.Derivations.{Derivation, readFlat}
@@ -51,13 +51,13 @@ flat-tells = record {
 }
 
 module _ (s : List ℕ) where
-  pub proof-read : (q : ProofParts) → proofShape (readProof s) ≡ P.Read q → (p : Proof) × (readProof s ≡ gives p) × (partsOf p ≡ q)
+  pub proof-read : (q : ProofParts) → proofShape (readProofFields s) ≡ P.Read q → (p : Proof) × (readProofFields s ≡ gives p) × (partsOf p ≡ q)
   unfolding proofShape
-  proof-read q e = told-value proof-tells partsOf (readProof s) q e
+  proof-read q e = told-value proof-tells partsOf (readProofFields s) q e
 
-  pub proof-refused : (k p : ℕ) → proofShape (readProof s) ≡ P.Refused k p → (c : Cause) × (readProof s ≡ refused c p) × (number c ≡ k)
+  pub proof-refused : (k p : ℕ) → proofShape (readProofFields s) ≡ P.Refused k p → (c : Cause) × (readProofFields s ≡ refused c p) × (number c ≡ k)
   unfolding proofShape
-  proof-refused k p e = told-cause proof-tells partsOf (readProof s) k p e
+  proof-refused k p e = told-cause proof-tells partsOf (readProofFields s) k p e
 
   pub job-read : (q : JobParts) → jobShape (readJob s) ≡ J.Read q → (j : Job) × (readJob s ≡ gives j) × (jobPartsOf j ≡ q)
   unfolding jobShape

@@ -15,9 +15,11 @@ pub mod EntriesStanding
 pub mod Files
 pub mod WhatStands
 pub mod Sizes
+pub mod EmptyProof
 pub mod ReadsProof
 pub mod ReadsJob
 pub mod ReadsTermFile
 pub mod ReadsFlat
+pub mod ShortFiles
 pub mod RefusedFiles
 pub mod Answers

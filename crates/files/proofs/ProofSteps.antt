@@ -20,7 +20,7 @@ use Rattle.parts.proofs.AskLaws.{high-of-proof}
 use Rattle.reading.specs.Reading.{Reading, Step, Reaches}
 use Rattle.reading.proofs.ReachLaws.{holds-on}
 use Rattle.files.specs.declared.proofs.ProofRead.the-variants as P
-use Rattle.files.specs.Proofs.{readProof}
+use Rattle.files.specs.Proofs.{readProofFields}
 use Rattle.files.specs.Shapes.{proofParts, proofShape, toldProof}
 use Rattle.files.proofs.ListSteps.{stated, ListStep, stops, reads, list-step, First, Begins, long, first, begins, first-step}
 use Rattle.files.proofs.TermSteps.{termAt, InTerm, Turn, goes-on, refuses, leaves, term-begun, term-turn}
@@ -33,11 +33,11 @@ module _ (s : List ℕ) (base : ℕ) where
 
   -- by how far it was read
   data Known (w : List ℕ) (x : State) : Type 0 where
-    is-refused : x .mode ≡ 0 → proofShape (readProof s) ≡ P.Refused (x .number) (x .place) → Known w x
+    is-refused : x .mode ≡ 0 → proofShape (readProofFields s) ≡ P.Refused (x .number) (x .place) → Known w x
     in-goals : First s 4 x → Known w x
     in-hiproof : InTerm s 8 hiproofKind Front base w x → Known w x
     in-remaining : x .mode ≡ 1 → x .part ≡ 5 → x .at ≡ x .rest → stated s ≡ G.Read (x .goals) (x .from) → termAt s 8 hiproofKind Front (x .from) ≡ T.Read (x .rest) (x .fields) → Known w x
-    is-read : x .mode ≡ 2 → proofShape (readProof s) ≡ P.Read (proofParts (x .goals) (x .from) (x .rest) (x .second)) → Known w x
+    is-read : x .mode ≡ 2 → proofShape (readProofFields s) ≡ P.Read (proofParts (x .goals) (x .from) (x .rest) (x .second)) → Known w x
 
   module _ (w : List ℕ) (x : State) (h : Reading s w base x) (w′ : List ℕ) (r : State) where
     behind-goals : First s 4 x → w′ ≡ w → ListStep s x (stated s) r → Known w′ r
@@ -84,7 +84,7 @@ module _ (s : List ℕ) (base : ℕ) where
   begins-known w x (long m e) = is-refused m (stated-refused s _ _ e)
   begins-known w x (first f) = in-goals f
 
-  tells : (w : List ℕ) (x : State) → Known w x → (x .mode ≡ 1 → ⊥) → toldProof x ≡ proofShape (readProof s)
+  tells : (w : List ℕ) (x : State) → Known w x → (x .mode ≡ 1 → ⊥) → toldProof x ≡ proofShape (readProofFields s)
   unfolding toldProof
   tells w x (is-refused m e) n = rw (eq-eqb (x .mode) 0 m) (sym e)
   tells w x (in-goals f) n = absurd (n (f .mode-is))
@@ -97,5 +97,5 @@ module _ (s : List ℕ) (base : ℕ) where
     start-known : Known w x
     start-known = begins-known w x (subst (Begins s 4) (sym e) (begins s 4))
 
-    pub proof-told : Reading s w base x → (w′ : List ℕ) (r : State) → Reaches s base w x w′ r → (r .mode ≡ 1 → ⊥) → toldProof r ≡ proofShape (readProof s)
+    pub proof-told : Reading s w base x → (w′ : List ℕ) (r : State) → Reaches s base w x w′ r → (r .mode ≡ 1 → ⊥) → toldProof r ≡ proofShape (readProofFields s)
     proof-told h w′ r reaches n = tells w′ r (holds-on s base Known keeps w x h start-known w′ r reaches) n

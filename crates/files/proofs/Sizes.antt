@@ -9,7 +9,7 @@ use Rattle.format.specs.Results.{gives}
 use Rattle.format.specs.Terms.{Term, atomic, id, label, sequence, tensor, empty, alternation, assert, defined, size, fields}
 use Rattle.format.specs.Encoding.{termBytes, goalListBytes}
 use Rattle.format.proofs.Encoded.{length-termBytes}
-use Rattle.files.specs.Proofs.{Proof, readProof, proofBytes, termPlace, remainingPlace}
+use Rattle.files.specs.Proofs.{Proof, readProofFields, proofBytes, termPlace, remainingPlace}
 use Rattle.files.specs.Jobs.{Job, readJob, jobBytes}
 use Rattle.files.specs.Derivations.{Derivation, readFlat, entriesBytes, flatBytes, entriesPlace}
 use Rattle.files.specs.Counts.{jobTermPlace, usesIn, opensIn}
@@ -60,7 +60,7 @@ unfolding entriesPlace
 flat-most d w = omega (arith, length-flatBytes d, w .few-roots, w .few-uses, w .few-opens)
 
 -- of a file that reads
-pub proof-size : (s : List ℕ) (p : Proof) → readProof s ≡ gives p → length s ≤ 21510
+pub proof-size : (s : List ℕ) (p : Proof) → readProofFields s ≡ gives p → length s ≤ 21510
 unfolding remainingPlace termPlace
 proof-size s p e =
     let st = proof-stands s p e in

@@ -18,7 +18,7 @@ use Rattle.format.specs.Standing.{Stands}
 use Rattle.format.proofs.ResultLaws.{and-gives, passed, kept, same-value}
 use Rattle.format.proofs.ReadLaw.{read-gives}
 use Rattle.format.proofs.GoalListBytes.{goals-stand}
-use Rattle.files.specs.Proofs.{Proof, remainingOf, hiproofOf, proofOf, readProof, termPlace, remainingPlace}
+use Rattle.files.specs.Proofs.{Proof, remainingOf, hiproofOf, proofOf, readProofFields, termPlace, remainingPlace, orEmptyProof, readProof}
 use Rattle.files.specs.Jobs.{Job, lastTermOf, readLastTerm, jobOf, readJob}
 use Rattle.files.specs.TermFiles.{readTermFile}
 use Rattle.files.specs.Derivations.{Derivation, readEntries, derivationOf, readFlat, entriesPlace}
@@ -28,8 +28,8 @@ use Rattle.files.proofs.EntriesLaw.{entries-found}
 use Rattle.files.proofs.Files.{list-stands, begun}
 
 module _ (s : List ℕ) where
-  pub proof-stands : (p : Proof) → readProof s ≡ gives p → ProofStands s p
-  unfolding readProof proofOf hiproofOf remainingOf termPlace remainingPlace
+  pub proof-stands : (p : Proof) → readProofFields s ≡ gives p → ProofStands s p
+  unfolding readProofFields proofOf hiproofOf remainingOf termPlace remainingPlace
   proof-stands p e =
       let b = begun s (proofOf s) p e in
       let g = b .parsed in
@@ -97,3 +97,8 @@ module _ (s : List ℕ) where
         few-uses = omega (arith, f .few-uses (omega arith));
         few-opens = omega (arith, f .few-opens (omega arith));
       })
+
+-- of a proof file, in the bytes that are read of it
+pub read-stands : (s : List ℕ) (p : Proof) → readProof s ≡ gives p → ProofStands (orEmptyProof s) p
+unfolding readProof
+read-stands s p e = proof-stands (orEmptyProof s) p e

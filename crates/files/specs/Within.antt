@@ -1,11 +1,13 @@
 -- Document 01, "Fields": the limits of a proof, of a job, of a term by itself and of a derivation; "Values in contents are 16 bits wide".
 -- The numbers stand here once more: what is proved of reading then also holds the constants of the readers to the document.
-use Prim.Native.Nat.{_≤_, _<_}
+use Prim.Native.Nat.{ℕ, _≤_, _<_}
+use mathlib.Core.Path.{_≡_}
+use mathlib.Core.Logic.{_⊎_}
 use mathlib.Core.List.{List, [], _∷_}
 use lib.ListN.{length}
 use Rattle.format.specs.Terms.{Term, fields, Hiproof}
 use Rattle.format.specs.Encoding.{GoalValues, TermValues}
-use Rattle.files.specs.Proofs.{Proof}
+use Rattle.files.specs.Proofs.{Proof, proofBytes, emptyProof}
 use Rattle.files.specs.Jobs.{Job}
 use Rattle.files.specs.Derivations.{Entry, useEntry, openEntry, Derivation}
 use Rattle.files.specs.Counts.{usesIn, opensIn}
@@ -18,6 +20,10 @@ pub record ProofWithin (p : Proof) : Type 0 where
   pub term-values : TermValues (p .term)
   pub few-remaining : length (p .remaining) ≤ 256
   pub remaining-values : GoalValues (p .remaining)
+
+-- the files that read as a proof: its encoding, if the proof is within the limits; and, of the empty proof, no bytes too (document 02, P7)
+abbrev pub ProofFile : List ℕ → Proof → Type 0
+ProofFile s p = ((s ≡ proofBytes p) × ProofWithin p) ⊎ ((s ≡ []) × (p ≡ emptyProof))
 
 pub record JobWithin (j : Job) : Type 0 where
   pub few-goals : length (j .goals) ≤ 256

@@ -4,7 +4,7 @@ ghost use Prim.Native.Nat.{_+_, _≤_};
 ghost use lib.ListN.{length};
 ghost use Rattle.words.specs.Kept.{Kept};
 ghost use Rattle.reading.specs.Waiting.{readingRoom};
-ghost use Rattle.files.specs.Proofs.{readProof};
+ghost use Rattle.files.specs.Proofs.{readProofFields, proofBytes, emptyProof, orEmptyProof};
 ghost use Rattle.files.specs.Shapes.{proofShape, toldProof};
 use parts::begin_file;
 use parts::state::PROOF_GOALS;
@@ -41,10 +41,30 @@ fn found(x: State) -> ProofRead
     })
 }
 
-// A proof file; nothing may be left behind its last list. While its term is read the fields of it wait in work, from base on.
-pub fn read_proof(s: &[u8], work: &mut [u8], base: usize) -> ProofRead
+// The nine bytes of the proof that zero bytes mean.
+const EMPTY_PROOF: [u8; 9] = [3, 0, 0, 21, 0, 0, 3, 0, 0];
+
+pub fn empty_proof() -> [u8; 9]
+    ensures { λ r. ⌜ r ≡ proofBytes emptyProof ⌝ }
+{
+    EMPTY_PROOF
+}
+
+// The bytes that are read of a proof file: its own, or, in the place of none, those of the empty proof. There are no statics, so these are lent, by every entry that takes a proof file.
+pub fn or_empty_proof<'a>(s: &'a [u8], empty: &'a [u8]) -> &'a [u8]
+    requires { ⌜ now empty ≡ proofBytes emptyProof ⌝ }
+    ensures { λ r. ⌜ now r ≡ orEmptyProof (now (s .entry)) ⌝ }
+{
+    if s.len() == 0 {
+        return empty;
+    }
+    s
+}
+
+// The fields of a proof file; nothing may be left behind its last list. While its term is read the fields of it wait in work, from base on.
+pub fn read_proof_fields(s: &[u8], work: &mut [u8], base: usize) -> ProofRead
     requires { ⌜ base + readingRoom ≤ length (now work) ⌝ }
-    ensures { λ r. ⌜ r ≡ proofShape (readProof (now (s .entry))) ⌝ }
+    ensures { λ r. ⌜ r ≡ proofShape (readProofFields (now (s .entry))) ⌝ }
     ensures { λ _. ⌜ Kept (now (work .entry)) (now (work .exit)) base (base + readingRoom) ⌝ }
 {
     let start = begin_file(s, PROOF_GOALS);

@@ -17,7 +17,7 @@ use Rattle.format.proofs.GoalsLaws.{length-goalsAt}
 use Rattle.format.proofs.ResultLaws.{same-value}
 use Rattle.tables.specs.Tables.{Table}
 use Rattle.files.specs.declared.proofs.ProofParts.{ProofParts}
-use Rattle.files.specs.Proofs.{Proof, readProof, termPlace, remainingPlace}
+use Rattle.files.specs.Proofs.{Proof, readProofFields, termPlace, remainingPlace}
 use Rattle.files.specs.Shapes.{partsOf}
 use Rattle.hitac.specs.Hiproofs.{atomics}
 use Rattle.hitac.specs.Premises.{Finds}
@@ -53,7 +53,7 @@ use Rattle.flattener.proofs.RemainingLaws.{carried, below-later}
 use Rattle.flattener.proofs.FlattenLaws.{outcomeOf}
 
 -- a file reads as one proof, which has these parts
-pub same-parts : (s : List ℕ) (p p′ : Proof) (q : ProofParts) → readProof s ≡ gives p → partsOf p ≡ q → readProof s ≡ gives p′ → partsOf p′ ≡ q
+pub same-parts : (s : List ℕ) (p p′ : Proof) (q : ProofParts) → readProofFields s ≡ gives p → partsOf p ≡ q → readProofFields s ≡ gives p′ → partsOf p′ ≡ q
 same-parts s p p′ q e h e′ = subst (λ (x : Proof). partsOf x ≡ q) (same-value (sym e ∙ e′)) h
 
 abbrev top : ProofParts → ℕ
@@ -62,7 +62,7 @@ top q = stackEnd - q .goals * 2
 -- the arities were noted, the stated goals made the first cells, and their nodes put at the end of the stacks
 pub record Started (T : Table) (p : Proof) (table : List ℕ) (first : ℕ) (s : List ℕ) (q : ProofParts) (w₀ w₁ w₂ w : List ℕ) : Type 0 where
   pub ready : TableReady T table first w₀
-  pub reads : readProof s ≡ gives p
+  pub reads : readProofFields s ≡ gives p
   pub parts-are : partsOf p ≡ q
   pub space : cellsEnd ≤ length w₀
   pub noted : Noted w₀ w₁ (p .term)

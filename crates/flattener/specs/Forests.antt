@@ -8,7 +8,7 @@ use Rattle.tables.specs.Tables.{Table}
 use Rattle.tables.specs.Standing.{TableStands}
 use Rattle.index.specs.Build.{RulesIndexed}
 use Rattle.files.specs.declared.proofs.ProofParts.{ProofParts}
-use Rattle.files.specs.Proofs.{Proof, readProof, termPlace}
+use Rattle.files.specs.Proofs.{Proof, readProofFields, termPlace}
 use Rattle.files.specs.Shapes.{partsOf}
 use Rattle.hitac.specs.Premises.{FewPremises}
 use Rattle.hitac.specs.Hiproofs.{atomics}
@@ -32,7 +32,7 @@ forestCells T p = nodeWalk T (p .term) (map openCell (p .goals)) (range 0 (lengt
 
 -- An accepted proof: the walk gives the remaining goals, and the cells of its nodes are made.
 pub record Accepted (T : Table) (p : Proof) (s w : List ℕ) (parts : ProofParts) (uses nodes : ℕ) : Type 0 where
-  pub reads : readProof s ≡ gives p
+  pub reads : readProofFields s ≡ gives p
   pub parts-are : partsOf p ≡ parts
   pub walks : walk T (p .term) (termPlace p) (p .goals) ≡ gives (p .remaining)
   pub uses-are : uses ≡ atomics (p .term)

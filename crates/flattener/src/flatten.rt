@@ -1,11 +1,11 @@
 // The entry flatten: table, proof, work and output space in; one answer, and the flat file, out.
 ghost use mathlib.Core.Path.{_≡_};
 ghost use mathlib.Core.List.{[]};
-ghost use Prim.Native.Nat.{_≤_};
+ghost use Prim.Native.Nat.{_≤_, _<_};
 ghost use lib.ListN.{length};
 ghost use Rattle.format.specs.Results.{gives};
 ghost use Rattle.tables.specs.Tables.{Table};
-ghost use Rattle.files.specs.Proofs.{Proof, readProof};
+ghost use Rattle.files.specs.Proofs.{Proof, readProofFields};
 ghost use Rattle.files.specs.Shapes.{partsOf};
 ghost use Rattle.entries.specs.LentSpace.{writeOut};
 ghost use Rattle.entries.specs.Check.{onProof, forestFile};
@@ -20,7 +20,9 @@ use answers::refusal;
 use answers::wrote;
 use files::proofs::ProofParts;
 use files::proofs::ProofRead;
-use files::proofs::read_proof;
+use files::proofs::empty_proof;
+use files::proofs::or_empty_proof;
+use files::proofs::read_proof_fields;
 use input_arities::layout::ARITIES_END;
 use input_arities::layout::STACK_END;
 use input_arities::note_arities;
@@ -68,9 +70,9 @@ fn flatten_parts(
     work: &mut [u8],
     out: &mut [u8],
 ) -> Answer
-    requires { ⌜ ((T : Table) × TableReady T (now table) first (now work)) × ((p : Proof) × (readProof (now proof) ≡ gives p) × (partsOf p ≡ parts)) × (cellsEnd ≤ length (now work)) ⌝ }
-    ensures answer { λ r. ⌜ ((T : Table) (p : Proof) → TableReady T (now (table .entry)) first (now (work .entry)) → readProof (now (proof .entry)) ≡ gives p → r ≡ flattened T p (now (out .entry)) .answer) ⌝ }
-    ensures out { λ _. ⌜ ((T : Table) (p : Proof) → TableReady T (now (table .entry)) first (now (work .entry)) → readProof (now (proof .entry)) ≡ gives p → now (out .exit) ≡ flattened T p (now (out .entry)) .out) ⌝ }
+    requires { ⌜ ((T : Table) × TableReady T (now table) first (now work)) × ((p : Proof) × (readProofFields (now proof) ≡ gives p) × (partsOf p ≡ parts)) × (cellsEnd ≤ length (now work)) ⌝ }
+    ensures answer { λ r. ⌜ ((T : Table) (p : Proof) → TableReady T (now (table .entry)) first (now (work .entry)) → readProofFields (now (proof .entry)) ≡ gives p → r ≡ flattened T p (now (out .entry)) .answer) ⌝ }
+    ensures out { λ _. ⌜ ((T : Table) (p : Proof) → TableReady T (now (table .entry)) first (now (work .entry)) → readProofFields (now (proof .entry)) ≡ gives p → now (out .exit) ≡ flattened T p (now (out .entry)) .out) ⌝ }
 {
     let goals = parts.goals;
     note_arities(proof, parts.term, work);
@@ -89,9 +91,9 @@ fn flatten_parts(
     }
 }
 
-// Both files, in a work space that is long enough. While they are read, the start of it holds the fields that wait.
+// Both files, of which the proof has a byte, in a work space that is long enough. While they are read, the start of it holds the fields that wait.
 fn flatten_files(table: &[u8], proof: &[u8], work: &mut [u8], out: &mut [u8]) -> Answer
-    requires { ⌜ cellsEnd ≤ length (now work) ⌝ }
+    requires { ⌜ (0 < length (now proof)) × (cellsEnd ≤ length (now work)) ⌝ }
     ensures answer { λ r. ⌜ r ≡ writeOut [] (now (out .entry)) (onProof forestFile (now (table .entry)) (now (proof .entry))) .answer ⌝ }
     ensures out { λ _. ⌜ now (out .exit) ≡ writeOut [] (now (out .entry)) (onProof forestFile (now (table .entry)) (now (proof .entry))) .out ⌝ }
 {
@@ -99,7 +101,7 @@ fn flatten_files(table: &[u8], proof: &[u8], work: &mut [u8], out: &mut [u8]) ->
     match read {
         TableRead::Refused(number, place) => refusal(number, 1, place, 0),
         TableRead::Read(_, _, first) => {
-            let file = read_proof(proof, work, 0);
+            let file = read_proof_fields(proof, work, 0);
             match file {
                 ProofRead::Refused(number, place) => refusal(number, 2, place, 0),
                 ProofRead::Read(parts) => flatten_parts(table, first, proof, parts, work, out),
@@ -117,7 +119,9 @@ pub fn flatten(table: &[u8], proof: &[u8], work: &mut [u8], out: &mut [u8]) -> A
     if work.len() < WORK {
         return refusal(29, 0, 0, 0);
     }
-    let answer = flatten_files(table, proof, work, out);
+    let empty = empty_proof();
+    let file = or_empty_proof(proof, &empty);
+    let answer = flatten_files(table, file, work, out);
     clear(work);
     answer
 }

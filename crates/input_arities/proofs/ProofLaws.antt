@@ -10,7 +10,7 @@ use Rattle.format.specs.Results.{gives}
 use Rattle.format.specs.Terms.{size}
 use Rattle.format.specs.Standing.{Stands}
 use Rattle.files.specs.declared.proofs.ProofParts.{ProofParts}
-use Rattle.files.specs.Proofs.{Proof, readProof, termPlace, remainingPlace}
+use Rattle.files.specs.Proofs.{Proof, readProofFields, termPlace, remainingPlace}
 use Rattle.files.specs.Shapes.{partsOf}
 use Rattle.files.specs.Standing.{ProofStands}
 use Rattle.files.proofs.WhatStands.{proof-stands}
@@ -25,7 +25,7 @@ pub record Small (s : List ℕ) (q : ProofParts) : Type 0 where
   pub remaining-inside : q .rest + 3 + q .remaining * 2 ≤ length s
   pub file : length s ≤ mostBytes
 
-module _ (s : List ℕ) (p : Proof) (e : readProof s ≡ gives p) where
+module _ (s : List ℕ) (p : Proof) (e : readProofFields s ≡ gives p) where
   pub standing : ProofStands s p
   standing = proof-stands s p e
 

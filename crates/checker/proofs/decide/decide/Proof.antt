@@ -13,7 +13,7 @@ use Rattle.format.specs.Standing.{Stands}
 use Rattle.format.proofs.ResultLaws.{same-value}
 use Rattle.tables.specs.Tables.{Table}
 use Rattle.tables.specs.Standing.{TableStands}
-use Rattle.files.specs.Proofs.{Proof, readProof}
+use Rattle.files.specs.Proofs.{Proof, readProofFields}
 use Rattle.answers.specs.declared.Answer.{Answer}
 use Rattle.input_arities.specs.Layout.{aritiesEnd}
 use Rattle.input_arities.specs.Arities.{Noted}
@@ -34,7 +34,7 @@ term-stands : (i : tie.Start) → Stands (now (i .args .proof)) (i .args .parts 
 term-stands i = term-there _ _ (i .pre .1 .1) _ (i .pre .1 .2)
 
 -- a file reads as one proof
-same-proof : (s : List ℕ) (p p′ : Proof) (T : Table) (r : Answer) → readProof s ≡ gives p → readProof s ≡ gives p′ → r ≡ checkedAnswer T p → r ≡ checkedAnswer T p′
+same-proof : (s : List ℕ) (p p′ : Proof) (T : Table) (r : Answer) → readProofFields s ≡ gives p → readProofFields s ≡ gives p′ → r ≡ checkedAnswer T p → r ≡ checkedAnswer T p′
 same-proof s p p′ T r e e′ h = subst (λ (x : Proof). r ≡ checkedAnswer T x) (same-value (sym e ∙ e′)) h
 
 -- ---- the places: the arities are noted, the goals copied; the walk is to begin, and has ended, refused or with goals; these are compared

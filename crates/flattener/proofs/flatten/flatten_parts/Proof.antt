@@ -7,7 +7,7 @@ use denote.Ref.{now}
 use borrow.Author.Needs.{needs}
 use Rattle.format.specs.Results.{gives}
 use Rattle.tables.specs.Tables.{Table}
-use Rattle.files.specs.Proofs.{Proof, readProof}
+use Rattle.files.specs.Proofs.{Proof, readProofFields}
 use Rattle.entries.specs.LentSpace.{Written}
 use Rattle.input_arities.proofs.ProofLaws.{Small, small, term-room}
 use Rattle.nodes.specs.Walks.{Ends}
@@ -17,7 +17,7 @@ use Rattle.flattener.proofs.flatten.flatten_parts.Statement.{statement}
 use Rattle.flattener.proofs.flatten.flatten_parts.Tie as tie
 
 abbrev Ready : tie.Start → Table → Proof → Type 0
-Ready i T p = TableReady T (now (i .args .table)) (i .args .first) (now (i .args .work)) × (readProof (now (i .args .proof)) ≡ gives p)
+Ready i T p = TableReady T (now (i .args .table)) (i .args .first) (now (i .args .work)) × (readProofFields (now (i .args .proof)) ≡ gives p)
 
 sizes : (i : tie.Start) → Small (now (i .args .proof)) (i .args .parts)
 sizes i = small _ (i .pre .1 .0) (i .pre .1 .1) _ (i .pre .1 .2)

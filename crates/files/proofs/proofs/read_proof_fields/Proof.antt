@@ -1,4 +1,4 @@
--- `proofs::read_proof` meets its contract: each turn of the reading keeps what is known of the file, and the last state tells it.
+-- `proofs::read_proof_fields` meets its contract: each turn of the reading keeps what is known of the file, and the last state tells it.
 -- Assumes nothing.
 use mathlib.Core.Path.{_∙_}
 use native.Mathlib.Omega.{arith}
@@ -6,8 +6,8 @@ use borrow.Author.Needs.{needs}
 use Rattle.reading.proofs.ReachLaws.{reaches-kept}
 use Rattle.files.proofs.ListSteps.{start-reading}
 use Rattle.files.proofs.ProofSteps.{proof-told}
-use Rattle.files.proofs.proofs.read_proof.Statement.{statement}
-use Rattle.files.proofs.proofs.read_proof.Tie as tie
+use Rattle.files.proofs.proofs.read_proof_fields.Statement.{statement}
+use Rattle.files.proofs.proofs.read_proof_fields.Tie as tie
 
 begin-file-requires : tie.Need-begin-file-requires
 begin-file-requires c κs = search needs
@@ -28,5 +28,5 @@ returns c =
     let h = start-reading _ 4 _ _ (b .before .before .before .pre) (omega arith) (λ z. absurd (omega arith)) (λ z. absurd (omega arith)) _ (b .begin-file .ensures) in
     (c .found .ensures ∙ proof-told _ _ _ _ (b .begin-file .ensures) h _ _ (r .read-on .ensures .0) (r .read-on .ensures .1), reaches-kept _ _ _ _ _ _ (r .read-on .ensures .0))
 
-pub read-proof-spec : {M : Type 1} → statement M
-read-proof-spec = tie.close (tie.spec begin-file-requires read-on-requires found-requires same-length returns)
+pub read-proof-fields-spec : {M : Type 1} → statement M
+read-proof-fields-spec = tie.close (tie.spec begin-file-requires read-on-requires found-requires same-length returns)
