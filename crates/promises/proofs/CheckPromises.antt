@@ -5,23 +5,25 @@ use native.Mathlib.Omega.{arith}
 use mathlib.Core.Path.{_≡_, refl, sym, subst, ap, _∙_}
 use mathlib.Core.Bool.{Bool, true, false, false≢true}
 use mathlib.Core.Logic.{_⊎_, inl, inr, _↔_}
-use mathlib.Core.List.{List}
+use mathlib.Core.List.{List, [], _∷_}
 use lib.ListN.{length}
 use Rattle.format.specs.declared.values.Goal.{Goal}
 use Rattle.format.specs.Refusals.{Cause, number, remainingDiffer}
 use Rattle.format.specs.Results.{Result, gives, refused, andThen}
 use Rattle.format.specs.Terms.{size, fields, Hiproof}
-use Rattle.format.proofs.ResultLaws.{number-positive, same-place, same-cause, never-gives}
+use Rattle.format.proofs.ResultLaws.{number-positive, same-value, same-place, same-cause, never-gives}
 use Rattle.tables.specs.Tables.{Table, HasRule, UniqueRules}
 use Rattle.tables.specs.ReadTables.{readTable}
 use Rattle.tables.proofs.ReadsTable.{reads-unique-rules}
-use Rattle.files.specs.Proofs.{Proof, readProof, termPlace, remainingPlace}
+use Rattle.files.specs.Proofs.{Proof, readProofFields, termPlace, remainingPlace, emptyProof, readProof}
+use Rattle.files.proofs.EmptyProof.{read-itself}
+use Rattle.files.proofs.ReadsProof.{reads-none}
 use Rattle.files.proofs.RefusedFiles.{Proof-refused}
-use Rattle.files.proofs.WhatStands.{proof-stands}
+use Rattle.files.proofs.WhatStands.{proof-stands, read-stands}
 use Rattle.hitac.specs.Hiproofs.{atomics}
 use Rattle.hitac.specs.Validates.{AtMost256, Validates}
 use Rattle.hitac.specs.Stops.{Stops, StopNumber}
-use Rattle.hitac.specs.Walk.{walk}
+use Rattle.hitac.specs.Walk.{onNoGoal, walk}
 use Rattle.hitac.proofs.WalkValidates.{walk↔validates}
 use Rattle.hitac.proofs.WalkStops.{walk↔stops}
 use Rattle.hitac.proofs.StopReasons.{reached-stops, stops-reached}
@@ -71,7 +73,7 @@ module _ (t p : List ℕ) (T : Table) (x : Proof) (e : readTable t ≡ gives T) 
   unique = reads-unique-rules t T e
 
   hiproof : Hiproof (x .term)
-  hiproof = proof-stands p x f .hiproof
+  hiproof = read-stands p x f .hiproof
 
   validated : (h : List Goal) → (walked ≡ gives h) ↔ Validates (HasRule T) AtMost256 (x .term) (x .goals) h
   validated h = walk↔validates T unique (x .term) (termPlace x) (x .goals) h
@@ -190,7 +192,7 @@ unfolding remainingPlace
 remaining-behind x = refl
 
 -- demand 1, for every entry that checks a proof: its own refusals are those of the walk, then 21
-module _ {B : Type 0} (t p : List ℕ) (T : Table) (x : Proof) (f : readProof p ≡ gives x) (v : B) where
+module _ {B : Type 0} (t p : List ℕ) (T : Table) (x : Proof) (f : readProofFields p ≡ gives x) (v : B) where
   agreeing : (l : List Goal) → sameGoals l (x .remaining) ≡ true → remainingAre x v l ≡ gives v
   unfolding remainingAre
   agreeing l s = rw s
@@ -226,11 +228,21 @@ module _ {B : Type 0} (t p : List ℕ) (T : Table) (x : Proof) (f : readProof p 
       (sym (stopped-so b i g) ∙ h)
       (inl (walk-number T (x .term) y (termPlace x) (x .goals) g), omega (arith, walk-place T (x .term) y (termPlace x) (x .goals) g, proof-stands p x f .end-is, remaining-behind x))
 
+-- the empty proof is accepted in every table
+pub empty-checked : {B : Type 0} (T : Table) (v : B) → checked T emptyProof v ≡ gives v
+unfolding checked walk onNoGoal andThen remainingAre sameGoals emptyProof
+empty-checked T v = refl
+
+-- a file of no bytes reads as that proof, and any other by its own fields
+own-refusals : {B : Type 0} (t p : List ℕ) (T : Table) (x : Proof) (v : B) → readProof p ≡ gives x → (c : Cause) (q : ℕ) → checked T x v ≡ refused c q → CheckRefuses p (number c) q
+own-refusals t [] T x v f c q g = never-gives (sym g ∙ ap (λ (y : Proof). checked T y v) (same-value (sym f ∙ reads-none)) ∙ empty-checked T v)
+own-refusals t (b ∷ p) T x v f c q g = by-walk t (b ∷ p) T x (sym (read-itself (b ∷ p) (omega arith)) ∙ f) v (walk T (x .term) (termPlace x) (x .goals)) refl c q g
+
 pub proof-comes : {B : Type 0} (value : Table → Proof → B) (t p : List ℕ) → Comes t p (CheckRefuses p) (onProof value t p)
 unfolding onProof
 proof-comes value t p =
     comes t p (CheckRefuses p) (readProof p) (λ T x. checked T x (value T x)) (λ c q e. Proof-refused p c q e)
-    (λ T x e f c q g. by-walk t p T x f (value T x) (walk T (x .term) (termPlace x) (x .goals)) refl c q g)
+    (λ T x e f c q g. own-refusals t p T x (value T x) f c q g)
 
 pub check-ends : Check-ends
 unfolding check

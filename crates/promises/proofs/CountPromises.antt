@@ -10,8 +10,8 @@ use Rattle.format.specs.Count.{Counted}
 use Rattle.format.specs.Standing.{Stands}
 use Rattle.format.proofs.CountLaws.{fields-counted, counted-fields}
 use Rattle.format.proofs.ReadLaw.{read-gives}
-use Rattle.files.specs.Proofs.{termPlace, remainingPlace}
-use Rattle.files.proofs.WhatStands.{proof-stands}
+use Rattle.files.specs.Proofs.{termPlace, remainingPlace, orEmptyProof}
+use Rattle.files.proofs.WhatStands.{read-stands}
 use Rattle.answers.specs.declared.Answer.{Answer}
 use Rattle.promises.specs.CountPromises.{Count-reads, Check-fields}
 use Rattle.promises.proofs.CheckPromises.{check-counts}
@@ -31,4 +31,4 @@ unfolding remainingPlace
 check-fields t p w h a n =
     let x = a .the-proof in
     let e = ap (λ (r : Answer). r .fields) (check-counts t p w h a) in
-    subst (λ (m : ℕ). Counted p (termPlace x) (remainingPlace x) n ↔ (n ≡ m)) (sym e) (exactly p (termPlace x) (remainingPlace x) (x .term) (proof-stands p x (a .proof-reads) .term-stands) refl n)
+    subst (λ (m : ℕ). Counted (orEmptyProof p) (termPlace x) (remainingPlace x) n ↔ (n ≡ m)) (sym e) (exactly (orEmptyProof p) (termPlace x) (remainingPlace x) (x .term) (read-stands p x (a .proof-reads) .term-stands) refl n)

@@ -1,10 +1,11 @@
 -- The promises of flatten: the forest of an accepted proof is a right derivation within the limits, by `Flatten` in hitac; and the same without labels.
 -- Assumes nothing.
-use Prim.Native.Nat.{ℕ, _+_, _*_, _≤_}
+use Prim.Native.Nat.{ℕ, _+_, _*_, _≤_, _<_}
 use native.Mathlib.Omega.{arith}
 use mathlib.Core.Path.{_≡_, refl, sym, subst, ap, _∙_}
 use mathlib.Core.Bool.{Bool, true, false, cond}
-use mathlib.Core.List.{List, []}
+use mathlib.Core.Logic.{inl, inr}
+use mathlib.Core.List.{List, [], _∷_}
 use lib.ListN.{length}
 use borrow.Author.Tests.{le-ltb}
 use Rattle.format.specs.declared.values.Goal.{Goal}
@@ -12,13 +13,15 @@ use Rattle.format.specs.Encoding.{Bytes}
 use Rattle.format.specs.Refusals.{Cause, remainingDiffer}
 use Rattle.format.specs.Results.{Result, gives, refused, andThen}
 use Rattle.format.specs.Terms.{fields}
+use Rattle.format.proofs.ResultLaws.{same-value}
 use Rattle.tables.specs.Tables.{Table, HasRule, UniqueRules}
 use Rattle.tables.specs.ReadTables.{readTable}
 use Rattle.tables.proofs.ReadsTable.{reads-unique-rules, reads-table}
 use Rattle.files.specs.Derivations.{Derivation, Entry, readFlat, flatBytes}
-use Rattle.files.specs.Proofs.{Proof, readProof, proofBytes, termPlace, remainingPlace}
-use Rattle.files.specs.Within.{ProofWithin, FlatWithin}
-use Rattle.files.proofs.ReadsProof.{reads-proof, proof-back}
+use Rattle.files.specs.Proofs.{Proof, proofBytes, termPlace, remainingPlace, emptyProof, readProof}
+use Rattle.files.specs.Within.{ProofWithin, ProofFile, FlatWithin}
+use Rattle.files.proofs.Sizes.{length-proofBytes}
+use Rattle.files.proofs.ReadsProof.{proof-back, reads-none, reads-proof, read-within}
 use Rattle.files.proofs.ReadsFlat.{flat-back}
 use Rattle.hitac.specs.Derives.{Derives}
 use Rattle.hitac.specs.Forest.{Tree, leaves, entries, forest}
@@ -44,11 +47,11 @@ use Rattle.promises.specs.Right.{Right}
 use Rattle.promises.specs.Ended.{InOther}
 use Rattle.promises.specs.CheckPromises.{CheckRefuses}
 use Rattle.promises.specs.WriteProofPromises.{wrote}
-use Rattle.promises.specs.FlattenPromises.{derivationOf, plain, FlattensRight, Flattens-right, Flatten-refuses, Flatten-ends}
+use Rattle.promises.specs.FlattenPromises.{derivationOf, plain, plainFile, FlattensRight, Flattens-right, Flatten-refuses, Flatten-ends}
 use Rattle.promises.proofs.LentLaws.{answered, ends-written}
 use Rattle.promises.proofs.OutcomeLaws.{both-in-file, written-ends}
 use Rattle.promises.proofs.CheckPromises.{proof-comes}
-use Rattle.promises.proofs.FlattenedWithin.{derived-values, plain-values}
+use Rattle.promises.proofs.FlattenedWithin.{derived-values, plain-values, five-each}
 
 -- a call on a proof that is accepted writes the file of its forest
 module _ (t p : List ℕ) (a : Accepted t p) where
@@ -69,6 +72,11 @@ module _ (t p : List ℕ) (a : Accepted t p) where
   unfolding flatten writeIn writeOut
   writes-forest b w o e h k = rw (outcome, e, le-ltb (length w) flattenWork h, le-ltb (length o) (length b) k)
 
+-- the empty proof has no label
+plain-empty : emptyProof ≡ plain emptyProof
+unfolding emptyProof dropLabels
+plain-empty = refl
+
 module _ (t p : List ℕ) (table-bytes : Bytes t) (proof-bytes : Bytes p) (a : Accepted t p) where
   abbrev T : Table
   T = a .the-table
@@ -86,7 +94,7 @@ module _ (t p : List ℕ) (table-bytes : Bytes t) (proof-bytes : Bytes p) (a : A
   unique = reads-unique-rules t T (a .table-reads)
 
   proof-within : ProofWithin x
-  proof-within = reads-proof p x proof-bytes .0 (a .proof-reads) .1
+  proof-within = read-within p x proof-bytes (a .proof-reads)
 
   walked : walk T (x .term) 0 (x .goals) ≡ gives (x .remaining)
   walked = accepted-walk t p a 0
@@ -121,10 +129,27 @@ module _ (t p : List ℕ) (table-bytes : Bytes t) (proof-bytes : Bytes p) (a : A
     remaining-values = proof-within .remaining-values;
   }
 
-  plain-reads : readProof (proofBytes (plain x)) ≡ gives (plain x)
-  plain-reads = proof-back (plain x) plain-within
+  plain-reads : readProof (plainFile p x) ≡ gives (plain x)
+  unfolding plainFile
+  plain-reads = by-bytes p (a .proof-reads)
+    where
+      by-bytes : (s : List ℕ) → readProof s ≡ gives x → readProof (plainFile s x) ≡ gives (plain x)
+      by-bytes [] e = reads-none ∙ ap gives (plain-empty ∙ ap plain (same-value (sym reads-none ∙ e)))
+      by-bytes (b ∷ s) e = proof-back (plain x) plain-within
 
-  abbrev plain-accepted : Accepted t (proofBytes (plain x))
+  plain-shorter : length (plainFile p x) + fields (x .term) * 5 ≡ length p + fields (plain x .term) * 5
+  unfolding plainFile remainingPlace termPlace
+  plain-shorter = by-bytes p proof-bytes (a .proof-reads)
+    where
+      encoded : (s : List ℕ) → ProofFile s x → 0 < length s → length s ≡ length (proofBytes x)
+      encoded s (inl q) some = ap (λ (l : List ℕ). length l) (q .0)
+      encoded s (inr q) some = absurd (omega (arith, some, ap (λ (l : List ℕ). length l) (q .0)))
+
+      by-bytes : (s : List ℕ) → Bytes s → readProof s ≡ gives x → length (plainFile s x) + fields (x .term) * 5 ≡ length s + fields (plain x .term) * 5
+      by-bytes [] bytes e = omega (arith, subst (λ (y : Proof). fields (y .term) ≡ fields (plain y .term)) (same-value (sym reads-none ∙ e)) (ap (λ (y : Proof). fields (y .term)) plain-empty))
+      by-bytes (b ∷ s) bytes e = omega (arith, encoded (b ∷ s) (reads-proof (b ∷ s) x bytes .0 e) (omega arith), length-proofBytes x, length-proofBytes (plain x), five-each (x .term))
+
+  abbrev plain-accepted : Accepted t (plainFile p x)
   plain-accepted = record { the-table = T; the-proof = plain x; table-reads = a .table-reads; proof-reads = plain-reads; validates = unlabelled (a .validates) }
 
   file : forestFile T x ≡ flatBytes d
@@ -145,8 +170,9 @@ module _ (t p : List ℕ) (table-bytes : Bytes t) (proof-bytes : Bytes p) (a : A
     open-leaves = open-leaves;
     one-for-one = forest-uses T (x .term) 0 (x .goals) (x .remaining) walked;
     plain-reads = plain-reads;
+    plain-shorter = plain-shorter;
     plain-accepted = plain-accepted;
-    plain-flattens = λ w o h k. writes-forest t (proofBytes (plain x)) plain-accepted (flatBytes d) w o plain-file h k;
+    plain-flattens = λ w o h k. writes-forest t (plainFile p x) plain-accepted (flatBytes d) w o plain-file h k;
   }
 
 pub flattens-right : Flattens-right

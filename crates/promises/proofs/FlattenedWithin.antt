@@ -1,12 +1,13 @@
--- Values of 16 bits: a derivation by a table's rules has them if its roots and the rules do, and a term keeps them without its labels. By induction over `Derives` and the term.
+-- Values of 16 bits: a derivation by a table's rules has them if its roots and the rules do, and a term keeps them without its labels; and how much shorter that makes it. By induction over `Derives` and the term.
 -- Assumes nothing.
-use Prim.Native.Nat.{ℕ, _<_}
-use mathlib.Core.Path.{_≡_, sym, subst}
+use Prim.Native.Nat.{ℕ, _+_, _*_, _<_}
+use native.Mathlib.Omega.{arith}
+use mathlib.Core.Path.{_≡_, refl, sym, subst}
 use mathlib.Core.Logic.{_⊎_, inl, inr}
 use mathlib.Core.List.{List, [], _∷_, _++_, List·Memᴰ, List·Memᴰ·not-nil, List·Memᴰ·cases-cons}
 use Rattle.format.specs.declared.values.Goal.{Goal}
 use Rattle.format.specs.Encoding.{GoalValues, TermValues}
-use Rattle.format.specs.Terms.{Term, atomic, id, label, sequence, tensor, empty, alternation, assert, defined}
+use Rattle.format.specs.Terms.{Term, atomic, id, label, sequence, tensor, empty, alternation, assert, defined, size, fields}
 use Rattle.tables.specs.Tables.{Table, HasRule}
 use Rattle.tables.specs.Within.{RuleWithin, Every}
 use Rattle.files.specs.Derivations.{Entry}
@@ -48,3 +49,16 @@ plain-values empty v = tt
 plain-values (alternation s t) v = (plain-values s (v .0), plain-values t (v .1))
 plain-values (assert γ) v = v
 plain-values (defined n) v = v
+
+-- a label is a field of five bytes
+pub five-each : (s : Term) → size (dropLabels s) + fields s * 5 ≡ size s + fields (dropLabels s) * 5
+unfolding dropLabels size fields
+five-each (atomic a) = refl
+five-each id = refl
+five-each (label l s) = omega (arith, five-each s)
+five-each (sequence s t) = omega (arith, five-each s, five-each t)
+five-each (tensor s t) = omega (arith, five-each s, five-each t)
+five-each empty = refl
+five-each (alternation s t) = omega (arith, five-each s, five-each t)
+five-each (assert γ) = refl
+five-each (defined n) = refl

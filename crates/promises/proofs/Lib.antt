@@ -8,6 +8,7 @@ pub mod WrittenWithin
 pub mod WriteProofPromises
 pub mod FlattenedWithin
 pub mod FlattenPromises
+pub mod NoBytesPromises
 pub mod RunWithin
 pub mod RunPromises
 pub mod RunMeaning

@@ -10,7 +10,7 @@ use Rattle.format.specs.Terms.{size, fields}
 use Rattle.format.specs.Count.{Counted}
 use Rattle.format.specs.Standing.{Stands}
 use Rattle.format.specs.ReadTerms.{ParsedTerm, readTerm}
-use Rattle.files.specs.Proofs.{termPlace, remainingPlace}
+use Rattle.files.specs.Proofs.{termPlace, remainingPlace, orEmptyProof}
 use Rattle.entries.specs.Check.{checkWork, check}
 use Rattle.promises.specs.Accepted.{Accepted}
 
@@ -28,6 +28,6 @@ pub record FieldsCounted (s : List ℕ) (at before : ℕ) (x : ParsedTerm) : Typ
 abbrev pub Count-reads : Type 0
 Count-reads = (depth : ℕ) (s : List ℕ) (high at end before : ℕ) (x : ParsedTerm) → high ≤ tacticKind → end ≤ length s → readTerm depth s high at end before ≡ gives x → FieldsCounted s at before x
 
--- of an accepted proof check answers with the number of headers from its hiproof to the list of those remaining
+-- of an accepted proof check answers with the number of headers from its hiproof to the list of those remaining, in the bytes that are read of it
 abbrev pub Check-fields : Type 0
-Check-fields = (t p w : List ℕ) → checkWork ≤ length w → (a : Accepted t p) → (n : ℕ) → Counted p (termPlace (a .the-proof)) (remainingPlace (a .the-proof)) n ↔ (n ≡ check t p w .answer .fields)
+Check-fields = (t p w : List ℕ) → checkWork ≤ length w → (a : Accepted t p) → (n : ℕ) → Counted (orEmptyProof p) (termPlace (a .the-proof)) (remainingPlace (a .the-proof)) n ↔ (n ≡ check t p w .answer .fields)

@@ -1,13 +1,14 @@
 -- Demand 3, first half, for the entry flatten, as statements about its definition: "Every accepted proof flattens to a flat derivation that is right in the same table
 -- (roots, open leaves in order, uses one for one, labels irrelevant)".
-use Prim.Native.Nat.{ℕ, _≤_}
+use Prim.Native.Nat.{ℕ, _+_, _*_, _≤_}
 use mathlib.Core.Path.{_≡_}
-use mathlib.Core.List.{List}
+use mathlib.Core.List.{List, [], _∷_}
 use lib.ListN.{length}
 use Rattle.format.specs.declared.values.RuleName.{RuleName}
 use Rattle.format.specs.declared.values.Goal.{Goal}
 use Rattle.format.specs.Encoding.{Bytes}
 use Rattle.format.specs.Results.{gives}
+use Rattle.format.specs.Terms.{fields}
 use Rattle.tables.specs.Tables.{HasRule}
 use Rattle.files.specs.Proofs.{Proof, readProof, proofBytes}
 use Rattle.files.specs.Derivations.{Derivation, readFlat, flatBytes}
@@ -30,6 +31,11 @@ derivationOf x trees = record { roots = x .goals; entries = entries trees }
 abbrev pub plain : Proof → Proof
 plain x = record { goals = x .goals; term = dropLabels (x .term); remaining = x .remaining }
 
+-- its file; one of no bytes has no label to drop, and stays as it is
+unfoldable pub plainFile : (file : List ℕ) → Proof → List ℕ
+plainFile [] x = []
+plainFile (b ∷ s) x = proofBytes (plain x)
+
 -- the derivation that is written for an accepted proof
 pub record FlattensRight (t p : List ℕ) (a : Accepted t p) : Type 0 where
   pub trees : List Tree
@@ -41,10 +47,12 @@ pub record FlattensRight (t p : List ℕ) (a : Accepted t p) : Type 0 where
   pub open-leaves : leaves (entries trees) ≡ a .the-proof .remaining
   -- "for every rule name and goal, as many uses carry the two as atomic fields of that name take that goal in the walk"
   pub one-for-one : (b : RuleName) (γ : Goal) → uses (thisUse b γ) (entries trees) ≡ taken (thisUse b γ) (a .the-table) (a .the-proof .term) (a .the-proof .goals)
-  pub plain-reads : readProof (proofBytes (plain (a .the-proof))) ≡ gives (plain (a .the-proof))
-  pub plain-accepted : Accepted t (proofBytes (plain (a .the-proof)))
+  pub plain-reads : readProof (plainFile p (a .the-proof)) ≡ gives (plain (a .the-proof))
+  -- five bytes less for each label, so that a file without labels has as many as before
+  pub plain-shorter : length (plainFile p (a .the-proof)) + fields (a .the-proof .term) * 5 ≡ length p + fields (plain (a .the-proof) .term) * 5
+  pub plain-accepted : Accepted t (plainFile p (a .the-proof))
   pub plain-flattens : (w o : List ℕ) → flattenWork ≤ length w → length (flatBytes (derivationOf (a .the-proof) trees)) ≤ length o
-      → flatten t (proofBytes (plain (a .the-proof))) w o ≡ wrote (flatBytes (derivationOf (a .the-proof) trees)) w o
+      → flatten t (plainFile p (a .the-proof)) w o ≡ wrote (flatBytes (derivationOf (a .the-proof) trees)) w o
 
 -- the bytes of the table are needed: a value of a rule's premises is written
 abbrev pub Flattens-right : Type 0

@@ -8,6 +8,7 @@ pub mod Finer
 pub mod CheckFlatPromises
 pub mod WriteProofPromises
 pub mod FlattenPromises
+pub mod NoBytesPromises
 pub mod RunPromises
 pub mod RunMeaning
 pub mod SearchPromises
