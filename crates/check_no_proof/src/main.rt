@@ -1,4 +1,4 @@
-// The check program without proof.hip: it counts as zero bytes.
+// The check program without proof.hip: 2 at place 0 of file 2, once the table is read.
 fn main() {
     check_kit::run();
 }

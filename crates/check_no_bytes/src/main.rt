@@ -1,0 +1,4 @@
+// The check program with a proof.hip of zero bytes: the empty proof, which is accepted in every table.
+fn main() {
+    check_kit::run();
+}
