@@ -107,6 +107,7 @@ pub fn run() {
     differences += replay_file(b"write-text.vec");
     differences += replay_file(b"search.vec");
     differences += replay_file(b"reasons.vec");
+    differences += replay_file(b"no-bytes.vec");
     print_count(b"all differences ", differences);
     io::write_all(STDOUT_FILENO, b"\n");
 }

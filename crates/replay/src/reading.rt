@@ -13,7 +13,9 @@ use files::flats::read_flat;
 use files::jobs::JobRead;
 use files::jobs::read_job;
 use files::proofs::ProofRead;
-use files::proofs::read_proof;
+use files::proofs::empty_proof;
+use files::proofs::or_empty_proof;
+use files::proofs::read_proof_fields;
 use files::terms::TermFileRead;
 use files::terms::read_term_file;
 use tables::fields::TableRead;
@@ -41,7 +43,9 @@ fn table_finding(s: &[u8], space: &mut [u8; SPACE]) -> Finding {
 }
 
 fn proof_finding(s: &[u8], space: &mut [u8; SPACE]) -> Finding {
-    let read = read_proof(s, space, 0);
+    let empty = empty_proof();
+    let file = or_empty_proof(s, &empty);
+    let read = read_proof_fields(file, space, 0);
     match read {
         ProofRead::Refused(number, place) => Finding { number, place },
         ProofRead::Read(_) => Finding {
