@@ -19,7 +19,7 @@ pub fn inspect(inspector: &mut Inspector) -> Result<String, String> {
         }
         torn_off_files(inspector, entry);
         lent_spaces(inspector, entry, &good_file(entry));
-        if matches!(entry, Entry::Check | Entry::Flatten) {
+        if entry.takes_proof() {
             lent_spaces(inspector, entry, &[]);
         }
     }

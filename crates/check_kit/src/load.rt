@@ -3,7 +3,7 @@ ghost use Prim.Native.Nat.{_+_, _≤_};
 ghost use lib.ListN.{length};
 ghost use Rattle.io.specs.Counts.{Counts};
 
-// Whether a file was opened, and how many of its bytes stand at the start of the space; none where it was not.
+// Whether a file was opened and every read of it so far succeeded, and how many bytes came; none where not.
 pub struct Loaded {
     pub opened: bool,
     pub count: usize,

@@ -55,7 +55,7 @@ use Rattle.notation.specs.Scans as S
 use Rattle.notation.specs.Parse.{termFound, parse}
 use Rattle.entries.specs.Texts.{readTextOutcome, writeTextOutcome}
 use Rattle.entries.specs.PrintedLine.{acceptedLine, refusedLine, printedLine}
-use Rattle.entries.specs.CheckProgram.{withoutProof}
+use Rattle.entries.specs.CheckProgram.{withoutProof, programOutcome}
 use Rattle.entries.specs.Run.{runEnd, runResult, runOutcome, runTactic}
 use Rattle.entries.specs.Search.{searchEnd, searchOutcome, searchTactic}
 use Rattle.entries.specs.Worked.{sideBySide, sideBySideOr, starredLines, edgeLines, noByteLines, textLines, searchLines}
@@ -80,7 +80,7 @@ edges =
     & refl & refl & refl & refl & refl & refl & refl & refl & refl & refl & no-more
 
 pub noBytes : AllHold noByteLines
-unfolding word termBytes goalBytes goalsAt goalsOf readGoals headerAt leaf pair closed contents termOf readTerm number andThen rows findRow rowOf kindOf leastOf mostOf innerOf lengthFits size fields findRuleIn findRule findBodyIn findBody matches fullTable lowest ruleOf definitionOf fieldOf readField withRule withDefinition fieldsOf readFields readTable ruleSize definitionSize rulesSize placedRules placedTactics placedLabels labelsOf clashesAny firstClash repeatsRule recountsRule repeatsTactic repeatsLabel refuseAt wholeTable searchedTag stepAt besides clashAt places clashTold jobTermPlace fullFlat withEntry entriesOf readEntries derivationOf readFlat entryBytes entriesBytes flatBytes entriesPlace lastTermOf readLastTerm jobOf readJob jobBytes remainingOf hiproofOf proofOf readProofFields proofBytes emptyProof orEmptyProof readProof termPlace remainingPlace taken flatWalk forest inputArity atomics dropLabels Unlabelled unwind begin stepFrom step run start arityIn arityAfter tacticArity onOneGoal onNoGoal premisesOr tooLong joined walk treeTerms written sameGoals remainingAre checked onProof proofCounts forestFile check flatten nonePending right flatCounts checkFlatOutcome writtenProof writtenFile writeOutcome checkFlat writeProof checkIn writeOut writeIn Holds digits acceptedLine refusedLine printedLine withoutProof runEnd runResult runOutcome runTactic beside sideBySide sideBySideOr starredLines noByteLines
+unfolding word termBytes goalBytes goalsAt goalsOf readGoals headerAt leaf pair closed contents termOf readTerm number andThen rows findRow rowOf kindOf leastOf mostOf innerOf lengthFits size fields findRuleIn findRule findBodyIn findBody matches fullTable lowest ruleOf definitionOf fieldOf readField withRule withDefinition fieldsOf readFields readTable ruleSize definitionSize rulesSize placedRules placedTactics placedLabels labelsOf clashesAny firstClash repeatsRule recountsRule repeatsTactic repeatsLabel refuseAt wholeTable searchedTag stepAt besides clashAt places clashTold jobTermPlace fullFlat withEntry entriesOf readEntries derivationOf readFlat entryBytes entriesBytes flatBytes entriesPlace lastTermOf readLastTerm jobOf readJob jobBytes remainingOf hiproofOf proofOf readProofFields proofBytes emptyProof orEmptyProof readProof termPlace remainingPlace taken flatWalk forest inputArity atomics dropLabels Unlabelled unwind begin stepFrom step run start arityIn arityAfter tacticArity onOneGoal onNoGoal premisesOr tooLong joined walk treeTerms written sameGoals remainingAre checked onProof proofCounts forestFile check flatten nonePending right flatCounts checkFlatOutcome writtenProof writtenFile writeOutcome checkFlat writeProof checkIn writeOut writeIn Holds digits acceptedLine refusedLine printedLine withoutProof programOutcome runEnd runResult runOutcome runTactic beside sideBySide sideBySideOr starredLines noByteLines
 noBytes = refl & refl & refl & refl & refl & refl & refl & refl & refl & refl & refl & refl & no-more
 
 pub texts : AllHold textLines

@@ -12,6 +12,9 @@ use Rattle.entries.specs.Check.{onProof, proofCounts, checkWork}
 unfoldable pub withoutProof : (table : List ℕ) → Outcome Counts
 withoutProof table = inFile tableFile (readTable table) (λ T. refusal fieldTorn otherFile 0 0)
 
--- the bytes of both files, and whether proof.hip was opened; if it was, the entry check
+-- the bytes of both files, and whether proof.hip was opened; if it was, what check comes to
+unfoldable pub programOutcome : (table proof : List ℕ) → (opened : Bool) → Outcome Counts
+programOutcome table proof opened = cond opened (onProof proofCounts table proof) (withoutProof table)
+
 unfoldable pub checkProgram : (table proof : List ℕ) → (opened : Bool) → (work : List ℕ) → Checked
-checkProgram table proof opened work = checkIn checkWork work (cond opened (onProof proofCounts table proof) (withoutProof table))
+checkProgram table proof opened work = checkIn checkWork work (programOutcome table proof opened)

@@ -1,7 +1,7 @@
 -- Document 01, "A table and its edges": a worked line is a call on bytes and what it comes to.
 use Prim.Native.Nat.{ℕ}
 use mathlib.Core.Path.{_≡_}
-use mathlib.Core.Bool.{Bool, cond}
+use mathlib.Core.Bool.{Bool}
 use mathlib.Core.List.{List, [], _∷_}
 use lib.ListN.{length}
 use Rattle.format.specs.Results.{Result}
@@ -16,7 +16,7 @@ use Rattle.entries.specs.Run.{runOutcome, runTactic}
 use Rattle.entries.specs.Search.{searchOutcome, searchTactic}
 use Rattle.entries.specs.Texts.{readTextOutcome, writeTextOutcome}
 use Rattle.entries.specs.PrintedLine.{printedLine}
-use Rattle.entries.specs.CheckProgram.{withoutProof}
+use Rattle.entries.specs.CheckProgram.{programOutcome}
 
 pub data Line : Type 0 where
   ofBytes : (file : List ℕ) → (bytes : ℕ) → Line
@@ -59,7 +59,7 @@ Holds (searchesWith t j h b w o x) = searchTactic t j h b w o ≡ x
 Holds (checksWith t p w x) = check t p w ≡ x
 Holds (prints a l) = printedLine a ≡ l
 -- the check program, which has enough work space
-Holds (printsFor t p b l) = printedLine (countedAnswer (cond b (onProof proofCounts t p) (withoutProof t))) ≡ l
+Holds (printsFor t p b l) = printedLine (countedAnswer (programOutcome t p b)) ≡ l
 Holds (readsText s o) = readTextOutcome s ≡ o
 Holds (writesText s o) = writeTextOutcome s ≡ o
 

@@ -37,7 +37,7 @@ use Rattle.entries.specs.Run.{runWork, runOutcome, runTactic}
 use Rattle.entries.specs.Search.{searchWork, searchOutcome, searchTactic}
 use Rattle.entries.specs.Texts.{writeTextWork, writeTextOutcome, writeText}
 use Rattle.entries.specs.PrintedLine.{acceptedLine, refusedLine, printedLine}
-use Rattle.entries.specs.CheckProgram.{withoutProof, checkProgram}
+use Rattle.entries.specs.CheckProgram.{withoutProof, programOutcome, checkProgram}
 use Rattle.entries.specs.Worked.{noGoalsProof, noBytesLine, unopenedLine}
 use Rattle.notation.specs.Written.{digits}
 use Rattle.promises.specs.WriteProofPromises.{wrote}
@@ -136,7 +136,7 @@ no-bytes-alone t p w o some = (ap (checkIn checkWork w) (on-fields proofCounts t
 -- ---- the check program
 
 pub program-answers : Program-answers
-unfolding checkProgram withoutProof check checkIn number acceptedLine refusedLine printedLine digits
+unfolding checkProgram programOutcome withoutProof check checkIn number acceptedLine refusedLine printedLine digits
 program-answers t p w h = record {
   opened = refl;
   unopened = λ T e. without T e;

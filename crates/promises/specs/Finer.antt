@@ -51,7 +51,7 @@ walkBefore T (alternation s t) p g = refusedBefore p
 walkBefore T (assert γ) p g = refusedBefore p
 walkBefore T (defined n) p g = refusedBefore p
 
--- check and flatten before P5: both files are read, then that walk, then 21
+-- check and flatten with the walk of before P5: both files are read, then that walk, then 21
 unfoldable pub onProofBefore : {A : Type 0} → (Table → Proof → A) → (table proof : List ℕ) → Outcome A
 onProofBefore value table proof =
     inFile tableFile (readTable table) (λ T.

@@ -25,7 +25,7 @@ use Rattle.entries.specs.CheckProgram.{checkProgram}
 use Rattle.entries.specs.Worked.{noGoalsProof, noBytesLine, unopenedLine}
 use Rattle.promises.specs.WriteProofPromises.{wrote}
 
--- "no goals, the empty hiproof and none remaining"
+-- "no goals, the empty hiproof and none remaining": said here once more, so that what is stated of it holds `emptyProof` to these words
 abbrev pub noGoals : Proof
 noGoals = record { goals = []; term = empty; remaining = [] }
 

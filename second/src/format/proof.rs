@@ -25,8 +25,8 @@ pub struct Proof<'a> {
 
 impl<'a> Proof<'a> {
     /// Every entry that takes a proof reads it here, so a file of no bytes is decided
-    /// here and nowhere else (B7.1). It is accepted in every table, so no answer names
-    /// a place in the fields that stand for it.
+    /// here and nowhere else (B7.1). It is accepted in every table that reads, so no
+    /// answer names a place in the fields that stand for it.
     pub fn read(file: &'a [u8]) -> Result<Proof<'a>, Refusal> {
         let bytes = if file.is_empty() { MEANING_OF_NO_BYTES } else { file };
         let mut reader = Reader::open(bytes, InputFile::Other)?;

@@ -37,6 +37,9 @@ impl Entry {
     pub const WITH_TABLE: [Entry; 6] =
         [Entry::Check, Entry::Run, Entry::Flatten, Entry::CheckFlat, Entry::WriteProof, Entry::Search];
 
+    /// Those whose other file is a proof.
+    pub const WITH_PROOF: [Entry; 2] = [Entry::Check, Entry::Flatten];
+
     /// The entry's number in vector files.
     pub fn code(self) -> u8 {
         match self {
@@ -74,7 +77,7 @@ impl Entry {
 
     /// Whether the other file is a proof.
     pub fn takes_proof(self) -> bool {
-        matches!(self, Entry::Check | Entry::Flatten)
+        Entry::WITH_PROOF.contains(&self)
     }
 
     /// The largest budget that is not refused; 0 for an entry that has none.

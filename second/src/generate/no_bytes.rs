@@ -7,9 +7,6 @@ use super::case::{Case, Entry};
 use super::{examples, reading};
 use crate::limits::{MOST_BUDGET, MOST_HEIGHT};
 
-/// The entries that take a proof.
-const TAKE_PROOF: [Entry; 2] = [Entry::Check, Entry::Flatten];
-
 /// The entries that take another kind of file: for them no bytes are refused as
 /// before.
 const TAKE_OTHER_FILE: [Entry; 6] =
@@ -53,8 +50,8 @@ fn around_nine_bytes() -> Vec<Vec<u8>> {
     files
 }
 
-/// Proofs that differ from the nine bytes in one field: some are accepted, and some
-/// would be if the files that mean nothing at all were taken too widely.
+/// Files near the nine bytes: proofs with one or two other fields, and zeros. Some
+/// are accepted, and some would be if no bytes were taken too widely.
 fn next_to_nine_bytes() -> Vec<Vec<u8>> {
     vec![
         proof(&[], &sequence(&empty(), &empty()), &[]),
@@ -86,8 +83,8 @@ fn cases_of(entries: &[Entry], table: &[u8], others: &[Vec<u8>]) -> Vec<Case> {
 /// What each of these files is as a proof.
 fn as_proofs() -> Vec<Case> {
     let files = [around_nine_bytes(), shortest_files(), next_to_nine_bytes()].concat();
-    let mut cases = cases_of(&TAKE_PROOF, &examples::table_a(), &files);
-    cases.extend(good_tables().iter().flat_map(|table| cases_of(&TAKE_PROOF, table, &none_one_and_two_bytes())));
+    let mut cases = cases_of(&Entry::WITH_PROOF, &examples::table_a(), &files);
+    cases.extend(good_tables().iter().flat_map(|table| cases_of(&Entry::WITH_PROOF, table, &none_one_and_two_bytes())));
     cases
 }
 
@@ -95,7 +92,7 @@ fn as_proofs() -> Vec<Case> {
 fn behind_refused_tables() -> Vec<Case> {
     let proofs = [vec![], vec![3], written_out()];
     let mut cases: Vec<Case> =
-        reading::refused_tables().iter().flat_map(|table| cases_of(&TAKE_PROOF, table, &proofs)).collect();
+        reading::refused_tables().iter().flat_map(|table| cases_of(&Entry::WITH_PROOF, table, &proofs)).collect();
     cases.push(Case::new(Entry::Flatten, &TORN_TABLE, &[]).with_output(0));
     cases
 }
@@ -113,7 +110,7 @@ fn output_spaces() -> Vec<Case> {
 /// 29 comes before everything else.
 fn work_spaces() -> Vec<Case> {
     let mut cases = Vec::new();
-    for entry in TAKE_PROOF {
+    for entry in Entry::WITH_PROOF {
         let size = entry.work_size();
         for file in none_one_and_two_bytes().into_iter().chain([written_out()]) {
             let case = Case::new(entry, &examples::table_a(), &file);

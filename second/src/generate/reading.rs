@@ -78,7 +78,8 @@ pub fn refused_tables() -> Vec<Vec<u8>> {
 }
 
 /// The faults that every other file can have, behind a good goal list where there
-/// is one: refusals 1 to 5. Only for a proof no bytes are none, from P7 on.
+/// is one: refusals 1 to 5. No bytes are among them; of a proof they are no fault
+/// from P7 on.
 pub fn refused_others() -> Vec<Vec<u8>> {
     vec![
         vec![0; 65_536],
