@@ -33,8 +33,7 @@ pub data Line : Type 0 where
   searchesInto : (table job : List ℕ) → (height budget : ℕ) → (work out : List ℕ) → Written → Line
   searchesWith : (table job : List ℕ) → (height budget : ℕ) → (work out : List ℕ) → Written → Line
   checksWith : (table proof work : List ℕ) → Checked → Line
-  prints : Answer → (line : List ℕ) → Line
-  printsFor : (table proof : List ℕ) → (opened : Bool) → (line : List ℕ) → Line
+  prints : (table proof : List ℕ) → (opened : Bool) → (line : List ℕ) → Line
   readsText : (text : List ℕ) → Outcome (List ℕ) → Line
   writesText : (term : List ℕ) → Outcome (List ℕ) → Line
 
@@ -57,9 +56,8 @@ Holds (searches t j h b o) = searchOutcome t j h b ≡ o
 Holds (searchesInto t j h b w o x) = writeOut w o (searchOutcome t j h b) ≡ x
 Holds (searchesWith t j h b w o x) = searchTactic t j h b w o ≡ x
 Holds (checksWith t p w x) = check t p w ≡ x
-Holds (prints a l) = printedLine a ≡ l
 -- the check program, which has enough work space
-Holds (printsFor t p b l) = printedLine (countedAnswer (programOutcome t p b)) ≡ l
+Holds (prints t p b l) = printedLine (countedAnswer (programOutcome t p b)) ≡ l
 Holds (readsText s o) = readTextOutcome s ≡ o
 Holds (writesText s o) = writeTextOutcome s ≡ o
 

@@ -14,7 +14,7 @@ use Rattle.search.specs.Worked.{beside}
 use Rattle.answers.specs.Answers as answer
 use Rattle.entries.specs.Outcomes.{success, refusal, done, tableFile, otherFile, noFile}
 use Rattle.entries.specs.LentSpace.{Counts}
-use Rattle.entries.specs.Lines.{Line, ofBytes, checks, checksAs, flattens, checksFlat, writes, writesOf, runs, runsInto, runsWith, searches, searchesInto, searchesWith, checksWith, prints, printsFor, readsText, writesText}
+use Rattle.entries.specs.Lines.{Line, ofBytes, checks, checksAs, flattens, checksFlat, writes, writesOf, runs, runsInto, runsWith, searches, searchesInto, searchesWith, checksWith, prints, readsText, writesText}
 
 abbrev pub counts : (fields uses remaining : ℕ) → Counts
 counts t u o = record { fields = t; uses = u; remaining = o }
@@ -94,12 +94,12 @@ starredLines =
 -- One line for each refusal, and edges that the readings settle.
 unfoldable pub edgeLines : List Line
 edgeLines =
-    -- the check program's example: `accepted fields 11 uses 3 open 0`
+    -- the first proof above
     checks tableA proofT3 (done (counts 11 3 0))
-    -- and its line
-    ∷ prints (answer.counted 11 3 0) (97 ∷ 99 ∷ 99 ∷ 101 ∷ 112 ∷ 116 ∷ 101 ∷ 100 ∷ 32 ∷ 102 ∷ 105 ∷ 101 ∷ 108 ∷ 100 ∷ 115 ∷ 32 ∷ 49 ∷ 49 ∷ 32 ∷ 117 ∷ 115 ∷ 101 ∷ 115 ∷ 32 ∷ 51 ∷ 32 ∷ 111 ∷ 112 ∷ 101 ∷ 110 ∷ 32 ∷ 48 ∷ 10 ∷ [])
-    -- the line of a refusal
-    ∷ prints (answer.refusal 20 2 5 0) (114 ∷ 101 ∷ 102 ∷ 117 ∷ 115 ∷ 101 ∷ 100 ∷ 32 ∷ 50 ∷ 48 ∷ 32 ∷ 102 ∷ 105 ∷ 108 ∷ 101 ∷ 32 ∷ 50 ∷ 32 ∷ 112 ∷ 108 ∷ 97 ∷ 99 ∷ 101 ∷ 32 ∷ 53 ∷ 10 ∷ [])
+    -- "For the first proof above it prints `accepted fields 11 uses 3 open 0`"
+    ∷ prints tableA proofT3 true (97 ∷ 99 ∷ 99 ∷ 101 ∷ 112 ∷ 116 ∷ 101 ∷ 100 ∷ 32 ∷ 102 ∷ 105 ∷ 101 ∷ 108 ∷ 100 ∷ 115 ∷ 32 ∷ 49 ∷ 49 ∷ 32 ∷ 117 ∷ 115 ∷ 101 ∷ 115 ∷ 32 ∷ 51 ∷ 32 ∷ 111 ∷ 112 ∷ 101 ∷ 110 ∷ 32 ∷ 48 ∷ 10 ∷ [])
+    -- "every refusal is printed like that of goal 10 with term 2, `refused 20 file 2 place 5`"
+    ∷ prints tableA (3 ∷ 0 ∷ 2 ∷ 0 ∷ 10 ∷ 16 ∷ 0 ∷ 2 ∷ 0 ∷ 2 ∷ 3 ∷ 0 ∷ 0 ∷ []) true (114 ∷ 101 ∷ 102 ∷ 117 ∷ 115 ∷ 101 ∷ 100 ∷ 32 ∷ 50 ∷ 48 ∷ 32 ∷ 102 ∷ 105 ∷ 108 ∷ 101 ∷ 32 ∷ 50 ∷ 32 ∷ 112 ∷ 108 ∷ 97 ∷ 99 ∷ 101 ∷ 32 ∷ 53 ∷ 10 ∷ [])
     -- the right derivation that the flattener wrote
     ∷ checksFlat tableA flatT3 (done (counts 0 3 0))
     -- 1: 65,536 bytes, before anything is read
@@ -225,10 +225,10 @@ noByteLines =
     ∷ runs tableA [] 4096 (refusal fieldTorn otherFile 0 0)
     ∷ writes tableA [] (refusal fieldTorn otherFile 0 0)
     -- the check program, with a proof.hip of no bytes
-    ∷ printsFor tableA [] true noBytesLine
-    -- and with one that cannot be opened, "the table's refusals coming first": `refused 2 file 1 place 0`
-    ∷ printsFor tableA [] false unopenedLine
-    ∷ printsFor (1 ∷ []) [] false (114 ∷ 101 ∷ 102 ∷ 117 ∷ 115 ∷ 101 ∷ 100 ∷ 32 ∷ 50 ∷ 32 ∷ 102 ∷ 105 ∷ 108 ∷ 101 ∷ 32 ∷ 49 ∷ 32 ∷ 112 ∷ 108 ∷ 97 ∷ 99 ∷ 101 ∷ 32 ∷ 48 ∷ 10 ∷ [])
+    ∷ prints tableA [] true noBytesLine
+    -- and with one that cannot be opened, whatever stands in its buffer, "the table's refusals coming first": `refused 2 file 1 place 0`
+    ∷ prints tableA proofT3 false unopenedLine
+    ∷ prints (1 ∷ []) proofT3 false (114 ∷ 101 ∷ 102 ∷ 117 ∷ 115 ∷ 101 ∷ 100 ∷ 32 ∷ 50 ∷ 32 ∷ 102 ∷ 105 ∷ 108 ∷ 101 ∷ 32 ∷ 49 ∷ 32 ∷ 112 ∷ 108 ∷ 97 ∷ 99 ∷ 101 ∷ 32 ∷ 48 ∷ 10 ∷ [])
     ∷ []
 
 -- document 02, P8: the body of tactic 3 of table A as text and as a term file, and what is refused

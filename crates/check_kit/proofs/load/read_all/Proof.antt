@@ -19,13 +19,22 @@ abbrev μ-loop : tie.MeasureT-loop
 counts : (n : ℕ) (l : List ℕ) → n ≤ length l → Counts n l
 counts n l h = (h, sym (length-take-le n l h))
 
--- ---- the places: the loop's test before a read, the read, and the function's beginning
+-- ---- the places: the loop's test before a read, and the function's beginning; from where a read failed, got something or got nothing, that read
 
 abbrev tested : tie.After-read-more Inv-loop μ-loop → tie.In-loop Inv-loop μ-loop
 tested k = k .before .before
 
 abbrev begun : tie.After-read-more Inv-loop μ-loop → tie.Start Inv-loop μ-loop
 begun k = tested k .before .before .before
+
+abbrev failed : tie.Then1 Inv-loop μ-loop → tie.After-read-more Inv-loop μ-loop
+failed c = c .before .before .before .before
+
+abbrev got-some : tie.After-struct-known3 Inv-loop μ-loop → tie.After-read-more Inv-loop μ-loop
+got-some c = c .before .before .before .before .before .before .before
+
+abbrev got-none : tie.Then2 Inv-loop μ-loop → tie.After-read-more Inv-loop μ-loop
+got-none c = c .before .before .before .before .before .before
 
 -- the space stays as long as it was, and has room for what came
 as-long : (k : tie.After-read-more Inv-loop μ-loop) → length (k .read-more .last .1 .0) ≡ length (begun k .args .buf .now)
@@ -41,19 +50,19 @@ read-more-requires : tie.Need-read-more-requires Inv-loop μ-loop
 read-more-requires c κs = omega (arith, c .before .before .loop .inv .0)
 
 same-length : tie.Need-same-length Inv-loop μ-loop
-same-length c = as-long (c .before .before .before .before)
+same-length c = as-long (failed c)
 
 returns : tie.Need-returns Inv-loop μ-loop
 returns c = (omega arith, refl)
 
 add-count : tie.Need-add-count Inv-loop μ-loop
-add-count c = let k = c .before .before .before .before .before .before .before in omega (arith, room k, as-long k, begun k .fits)
+add-count c = let k = got-some c in omega (arith, room k, as-long k, begun k .fits)
 
 loop-less : tie.Need-loop-less Inv-loop μ-loop
-loop-less c = let k = c .before .before .before .before .before .before .before in omega (arith, room k, k .read-more .kept .1 .0, c .before .if2 .left, tested k .loop-test)
+loop-less c = let k = got-some c in omega (arith, room k, k .read-more .kept .1 .0, c .before .if2 .left, tested k .loop-test)
 
 loop-again : tie.Need-loop-again Inv-loop μ-loop
-loop-again c = let k = c .before .before .before .before .before .before .before in (room k, as-long k)
+loop-again c = let k = got-some c in (room k, as-long k)
 
 same-length-2 : tie.Need-same-length-2 Inv-loop μ-loop
 same-length-2 c = c .before .loop .inv .1
@@ -62,10 +71,10 @@ returns-2 : tie.Need-returns-2 Inv-loop μ-loop
 returns-2 c = counts _ _ (c .before .loop .inv .0)
 
 same-length-3 : tie.Need-same-length-3 Inv-loop μ-loop
-same-length-3 c = as-long (c .before .before .before .before .before .before)
+same-length-3 c = as-long (got-none c)
 
 returns-3 : tie.Need-returns-3 Inv-loop μ-loop
-returns-3 c = counts _ _ (omega (arith, room (c .before .before .before .before .before .before)))
+returns-3 c = counts _ _ (omega (arith, room (got-none c)))
 
 pub read-all-spec : {M : Type 1} → statement M
 read-all-spec =
