@@ -73,7 +73,7 @@ few-premises T few a γ = go (findRule T a γ) refl
   where
     go : (o : Option FoundRule) → findRule T a γ ≡ o → length (premisesIn o) ≤ 8
     go none e = omega arith
-    go (some r) e = few a γ (r .premises) (found-member T a γ (r .premises) e)
+    go (some r) e = few a γ (r .premises) (found-member T a γ (r .number) (r .premises) e)
 
 pub nodes-count : (T : Table) → FewPremises T → (s : Term) (A : List Cell) (ns : List ℕ) → length (nodeWalk T s A ns .cells) ≤ length A + 8 * atomics s
 unfolding nodeWalk atomics

@@ -48,7 +48,7 @@ module _ (T : Table) (S : System) (agrees : Agrees T S) where
   derives→flatWalk (D-Open {γ = γ} {k = k} d) p fs =
       rw (eq-eqb (γ .0) (γ .0) refl) (derives→flatWalk d (p + 5) fs ∙ ap (λ (q : ℕ). flatWalk T q k fs) (omega arith))
   derives→flatWalk (D-Use {a = a} {γ = γ} {h = h} {k = k} e d) p fs =
-      rw (eq-eqb (γ .0) (γ .0) refl, agrees a γ h .1 e) (derives→flatWalk d (p + 7) fs ∙ ap (λ (q : ℕ). flatWalk T q k fs) (omega arith))
+      rw (eq-eqb (γ .0) (γ .0) refl, agrees a γ h .1 e .1) (derives→flatWalk d (p + 7) fs ∙ ap (λ (q : ℕ). flatWalk T q k fs) (omega arith))
 
   pub derives→gives : {g k : List Goal} {es : List Entry} → Derives S g es k → (p : ℕ) → flatWalk T p g es ≡ gives k
   unfolding flatWalk

@@ -42,8 +42,8 @@ pub forest-of : (T : Table) {s : Term} {g h : List Goal} → Takes T s g h → F
 unfolding forest
 forest-of T (V-Atomic {h = h} e) =
     record {
-      trees = rw e (Trees-More (D-Use e (opens-derive h)) Trees-None);
-      givenLeaves = rw (e, append-nil (map openEntry h), leaves-opens h);
+      trees = rw (e .1) (Trees-More (D-Use e (opens-derive h)) Trees-None);
+      givenLeaves = rw (e .1, append-nil (map openEntry h), leaves-opens h);
     }
 forest-of T V-Identity = record { trees = Trees-More (D-Open D-End) Trees-None; givenLeaves = refl }
 forest-of T (V-Label v) = let w = forest-of T v in record { trees = w .trees; givenLeaves = w .givenLeaves }
@@ -71,7 +71,7 @@ forest-of T V-Empty = record { trees = Trees-None; givenLeaves = refl }
 pub one-for-one : (T : Table) (c : RuleName → Goal → Bool) {s : Term} {g h : List Goal} → Takes T s g h
     → uses c (entries (forest T s g)) ≡ taken c T s g
 unfolding forest taken
-one-for-one T c (V-Atomic {h = h} e) = rw (e, append-nil (map openEntry h), uses-opens c h) (omega arith)
+one-for-one T c (V-Atomic {h = h} e) = rw (e .1, append-nil (map openEntry h), uses-opens c h) (omega arith)
 one-for-one T c V-Identity = refl
 one-for-one T c (V-Label v) = one-for-one T c v
 one-for-one T c (V-Sequence {s = s} {t = t} {g = g} {h = h} v w) =

@@ -86,7 +86,7 @@ flattens-arity F-Empty = refl
 -- the forest computed is allowed
 allowed : (T : Table) {s : Term} {g h : List Goal} → Takes T s g h → Flattens (Finds T) s g (forest T s g) h
 unfolding forest
-allowed T (V-Atomic e) = rw e (F-Atomic e)
+allowed T (V-Atomic e) = rw (e .1) (F-Atomic e)
 allowed T V-Identity = F-Identity
 allowed T (V-Label v) = F-Label (allowed T v)
 allowed T (V-Sequence {s = s} {t = t} {g = g} {h = h} v w) =
@@ -105,7 +105,7 @@ record Computed (T : Table) (s : Term) (g : List Goal) (f : List Tree) (h : List
 computed : (T : Table) {s : Term} {g h : List Goal} {f : List Tree} → Flattens (Finds T) s g f h → Computed T s g f h
 unfolding forest
 computed T F-Identity = record { same = refl; leavesAre = refl }
-computed T (F-Atomic {h = h} e) = record { same = rw e; leavesAre = rw (append-nil (map openEntry h), leaves-opens h) }
+computed T (F-Atomic {h = h} e) = record { same = rw (e .1); leavesAre = rw (append-nil (map openEntry h), leaves-opens h) }
 computed T (F-Label x) = let r = computed T x in record { same = r .same; leavesAre = r .leavesAre }
 computed T (F-Sequence {f = f} {k = k} x y i) =
     let l = computed T x in

@@ -101,7 +101,7 @@ module _ (T : Table) where
     -- a term that ends takes its steps, and the machine goes on with what waits
     pub resumes : {g : List Goal} {t : Term} {n : ℕ} {e : End} → Ends T g t n e → (w : List Frame) → Reaches T (running t g w) n (unwind (endingOf e) w)
     unfolding begin unwind matches
-    resumes (D-Atomic {a = a} {γ = γ} {h = h} m) w = reach-end (rw (found↔rule T a γ rules h .1 m))
+    resumes (D-Atomic {a = a} {γ = γ} {h = h} m) w = reach-end (rw (found↔rule T a γ rules h .1 m .1))
     resumes (D-Atomic-Rule {a = a} {γ = γ} m) w = reach-end (rw (missing↔no-rule T a γ .1 m))
     resumes (D-Atomic-Goals {a = a} {g = g} h) w = reach-end (rw (one-goal-only (λ γ. foundPremises (findRule T a γ)) g h))
     resumes D-Id w = reach-end refl

@@ -61,7 +61,7 @@ module _ {T : Table} where
     where
       go : (γ : Goal) (o : Option FoundRule) → findRule T a γ ≡ o → EndsAs T (γ ∷ []) (atomic a) (finished (atomic a) (foundPremises o))
       go γ none q = (failure, D-Atomic-Rule (missing↔no-rule T a γ .0 q), refl)
-      go γ (some r) q = (proof (atomic a) (r .premises), D-Atomic (found-member T a γ (r .premises) q), refl)
+      go γ (some r) q = (proof (atomic a) (r .premises), D-Atomic (found-member T a γ (r .number) (r .premises) q), refl)
 
   id-ends : (g : List Goal) → EndsAs T g id (finished id (oneGoal g))
   id-ends = one-ends id (λ γ. some (γ ∷ [])) (λ g. D-Id-Goals) (λ γ. (proof id (γ ∷ []), D-Id, refl))

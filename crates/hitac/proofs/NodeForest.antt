@@ -209,7 +209,7 @@ module _ (T : Table) (a : RuleName) (γ : Goal) (h : List Goal) (rl : Finds T a 
         origin = λ m i. inr (in-range (length A) (length h) m i);
         shows =
             λ B x us w. rw
-            (rl, substitute-opens h us (shows-length w ∙ range-length (length A) (length h)))
+            (rl .1, substitute-opens h us (shows-length w ∙ range-length (length A) (length h)))
             (Shows-Use (x n a γ (length A) (length h) marked-here) w Shows-None);
       }
 
@@ -281,7 +281,7 @@ id-shows γ (Shows-Use {us = us} e w Shows-None) = rw (append-nil (entries us)) 
 pub flattened : (T : Table) {s : Term} {g h : List Goal} → Takes T s g h → (A : List Cell) {ns : List ℕ} → Opens A ns g → Distinct ns
     → Flattened T s g h A ns (nodeWalk T s A ns)
 unfolding nodeWalk forest
-flattened T (V-Atomic {a = a} {γ = γ} {h = h} rl) A (Opens-Node {n = n} l e Opens-None) d = rw (e, rl) (marked T a γ h rl A n l e)
+flattened T (V-Atomic {a = a} {γ = γ} {h = h} rl) A (Opens-Node {n = n} l e Opens-None) d = rw (e, rl .1) (marked T a γ h rl A n l e)
 flattened T (V-Identity {γ = γ}) A (Opens-Node {n = n} l e Opens-None) d =
     record {
       extends = λ m b δ f c i. i;

@@ -60,7 +60,7 @@ test-refused true e = inl (refl, refused-cause e, refused-place e)
 test-refused false e = inr (refl, e)
 
 -- the premises found, or the refusal
-pub premises-found : (c : Cause) (p : ℕ) {h : List Goal} {o : Option FoundRule} → o ≡ some (foundRule h) → premisesOr c p o ≡ gives h
+pub premises-found : (c : Cause) (p : ℕ) {n : ℕ} {h : List Goal} {o : Option FoundRule} → o ≡ some (foundRule n h) → premisesOr c p o ≡ gives h
 unfolding premisesOr
 premises-found c p e = rw e
 
@@ -68,10 +68,10 @@ pub premises-missing : (c : Cause) (p : ℕ) {o : Option FoundRule} → o ≡ no
 unfolding premisesOr
 premises-missing c p e = rw e
 
-pub premises-give : (c : Cause) (p : ℕ) {h : List Goal} (o : Option FoundRule) → premisesOr c p o ≡ gives h → o ≡ some (foundRule h)
+pub premises-give : (c : Cause) (p : ℕ) {h : List Goal} (o : Option FoundRule) → premisesOr c p o ≡ gives h → (n : ℕ) × (o ≡ some (foundRule n h))
 unfolding premisesOr
 premises-give c p none e = absurd (refused-gives e)
-premises-give c p (some r) e = ap (λ (l : List Goal). some (foundRule l)) (gives-gives e)
+premises-give c p (some r) e = (r .number, ap (λ (l : List Goal). some (foundRule (r .number) l)) (gives-gives e))
 
 pub premises-refused : {c d : Cause} {p q : ℕ} (o : Option FoundRule) → premisesOr c p o ≡ refused d q → (o ≡ none) × (c ≡ d) × (p ≡ q)
 unfolding premisesOr

@@ -169,7 +169,7 @@ module _ (T : Table) (few : FewPremises T) where
     where
       go : (γ : Goal) (o : Option FoundRule) → findRule T a γ ≡ o → ShortGiven (foundPremises o)
       go γ none q = tt
-      go γ (some r) q = omega (arith, few a γ (r .premises) (found-member T a γ (r .premises) q))
+      go γ (some r) q = omega (arith, few a γ (r .premises) (found-member T a γ (r .number) (r .premises) q))
 
   id-short : (g : List Goal) → ShortGiven (oneGoal g)
   id-short = one-short (λ γ. some (γ ∷ [])) (λ γ. omega arith)

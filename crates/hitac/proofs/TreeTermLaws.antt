@@ -19,7 +19,7 @@ unfolding treeTerms
 treeTerms-length T D-End = refl
 treeTerms-length T (D-Open d) = ap suc (treeTerms-length T d)
 treeTerms-length T (D-Use {g = g} {h = h} {es = es} e d) =
-    rw e (omega (arith, treeTerms-length T d, length-append h g, length-drop (length h) (treeTerms T es)))
+    rw (e .1) (omega (arith, treeTerms-length T d, length-append h g, length-drop (length h) (treeTerms T es)))
 
 pub treeTerms-append : (T : Table) {g : List Goal} {es : List Entry} → Derives (Finds T) g es [] → (fs : List Entry)
     → treeTerms T (es ++ fs) ≡ treeTerms T es ++ treeTerms T fs
@@ -29,7 +29,7 @@ treeTerms-append T (D-Open d) fs = ap {B = List Term} (λ ts. id ∷ ts) (treeTe
 treeTerms-append T (D-Use {g = g} {h = h} {es = es} e d) fs =
     let n : length h ≤ length (treeTerms T es) = omega (arith, treeTerms-length T d, length-append h g) in
     rw (
-      e,
+      e .1,
       treeTerms-append T d fs,
       take-append-le (length h) (treeTerms T es) (treeTerms T fs) n,
       drop-append-le (length h) (treeTerms T es) (treeTerms T fs) n,

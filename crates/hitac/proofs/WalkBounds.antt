@@ -34,7 +34,7 @@ abbrev pub FewPremisesIn : System → Type 0
 FewPremisesIn S = (a : RuleName) (γ : Goal) (h : List Goal) → S a γ h → length h ≤ 8
 
 pub few-found : (T : Table) → FewPremises T → FewPremisesIn (Finds T)
-few-found T few a γ h e = few a γ h (found-member T a γ h e)
+few-found T few a γ h e = few a γ h (found-member T a γ (e .0) h (e .1))
 
 -- GOALS GIVEN: each atomic field adds at most seven goals.
 pub validates-grows : {S : System} {Fits : List Goal → Type 0} → FewPremisesIn S

@@ -27,7 +27,7 @@ use Rattle.hitac.proofs.ValidatesLaws.{arity-of}
 
 -- A system is the table's where it holds exactly of what the look-up finds.
 abbrev pub Agrees : Table → System → Type 0
-Agrees T S = (a : RuleName) (γ : Goal) (h : List Goal) → (findRule T a γ ≡ some (foundRule h)) ↔ S a γ h
+Agrees T S = (a : RuleName) (γ : Goal) (h : List Goal) → Finds T a γ h ↔ S a γ h
 
 -- The look-up itself: for theorems that need no unique rules.
 pub finds-agrees : (T : Table) → Agrees T (Finds T)
@@ -54,15 +54,15 @@ module _ (T : Table) (S : System) (agrees : Agrees T S) where
     where
       go : (o : Option FoundRule) → findRule T a γ ≡ o → o ≡ none
       go none e = refl
-      go (some r) e = absurd (lacks (r .premises) (agrees a γ (r .premises) .0 e))
+      go (some r) e = absurd (lacks (r .premises) (agrees a γ (r .premises) .0 (r .number, e)))
 
   pub missing→no-rule : (a : RuleName) (γ : Goal) → findRule T a γ ≡ none → (h : List Goal) → S a γ h → ⊥
-  missing→no-rule a γ e h m = let f = agrees a γ h .1 m in let z : _≡_ {A = ℕ} 0 1 = cc in omega arith
+  missing→no-rule a γ e h m = let (n, f) = agrees a γ h .1 m in let z : _≡_ {A = ℕ} 0 1 = cc in omega arith
 
   -- What validates, the walk gives, from any place.
   pub validates→walk : {s : Term} {g h : List Goal} → Validates S AtMost256 s g h → (p : ℕ) → walk T s p g ≡ gives h
   unfolding walk onOneGoal onNoGoal
-  validates→walk (V-Atomic {a = a} {γ = γ} {h = h} e) p = premises-found _ _ (agrees a γ h .1 e)
+  validates→walk (V-Atomic {a = a} {γ = γ} {h = h} e) p = premises-found _ _ (agrees a γ h .1 e .1)
   validates→walk V-Identity p = refl
   validates→walk (V-Label v) p = validates→walk v _
   validates→walk (V-Sequence v w) p = andThen-passes _ (validates→walk v _) ∙ validates→walk w _

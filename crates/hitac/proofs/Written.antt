@@ -77,13 +77,13 @@ forest-term T (TT-Tree {e = e} {es = es} x w) b = add-tree T x w (forest-term T 
 use-forest : (T : Table) {a : RuleName} {γ : Goal} {h : List Goal} (f : Term) → Finds T a γ h → length (forest T f h) ≡ length h
     → forest T (sequence (atomic a) f) (γ ∷ []) ≡ (useEntry a γ ∷ entries (forest T f h)) ∷ []
 unfolding forest
-use-forest T {h = h} f e n = rw (e, append-nil (map openEntry h), leaves-opens h, substitute-opens h (forest T f h) n)
+use-forest T {h = h} f e n = rw (e .1, append-nil (map openEntry h), leaves-opens h, substitute-opens h (forest T f h) n)
 
 -- a use, over the terms of its premises' trees
 use-term : (T : Table) {a : RuleName} {γ : Goal} {h : List Goal} {ts : List Term} {es : List Entry}
     → Finds T a γ h → TreeTerms T h ts es → ForestTerm T h (forestTerm ts) es → TreeTerm T γ (useTerm a ts) (useEntry a γ ∷ es)
 unfolding forest fields size
-use-term T e TT-None r = record { valid = V-Atomic e; same = rw e; count = refl; bytes = refl }
+use-term T e TT-None r = record { valid = V-Atomic e; same = rw (e .1); count = refl; bytes = refl }
 use-term T {a = a} {γ = γ} {h = h} e (TT-Tree {t = t} {ts = ts} {e = d} {es = es} x w) r =
     let f = forestTerm (t ∷ ts) in
     record {
@@ -125,7 +125,7 @@ tree-terms T (D-Use {a = a} {γ = γ} {g = g} {h = h} {es = es} e d) b =
     let s = splitTerms T h g (tree-terms T d b) in
     let all : length (leaves (s .front ++ s .back)) ≡ length (leaves es) = ap (λ (l : List Entry). length (leaves l)) (s .whole) in
     let r = forest-term T (s .frontTerms) (omega (arith, leaves-count (s .front) (s .back))) in
-    rw e
+    rw (e .1)
     (subst
     (λ l. TreeTerms T (γ ∷ g) (useAndOthers a (length h) (treeTerms T es)) (useEntry a γ ∷ l))
     (s .whole)

@@ -98,7 +98,7 @@ trees-written T D-End = W-End
 trees-written T (D-Open d) = W-Open (trees-written T d)
 trees-written T (D-Use {a = a} {γ = γ} {g = g} {h = h} {es = es} e d) =
     let r = splitTrees h g (trees-written T d) in
-    rw e
+    rw (e .1)
     (subst
     (λ l. WritesTrees (Finds T) (γ ∷ g) (useEntry a γ ∷ l) (useAndOthers a (length h) (treeTerms T es)))
     (r .whole)
@@ -109,10 +109,10 @@ written-trees : (T : Table) {g : List Goal} {es : List Entry} {ts : List Term} �
 unfolding treeTerms
 written-trees T W-End = refl
 written-trees T (W-Open w) = ap {B = List Term} (λ l. id ∷ l) (written-trees T w)
-written-trees T (W-Atomic {a = a} e w) = rw e (ap {B = List Term} (λ l. atomic a ∷ l) (written-trees T w))
+written-trees T (W-Atomic {a = a} e w) = rw (e .1) (ap {B = List Term} (λ l. atomic a ∷ l) (written-trees T w))
 written-trees T (W-Sequence {a = a} {δ = δ} {h = h} {ds = ds} {es = es} {us = us} {ts = ts} {u = u} e v f w) =
     rw (
-      e,
+      e .1,
       treeTerms-append T (writes-derive v) es,
       written-trees T v,
       written-trees T w,

@@ -11,6 +11,7 @@ pub mod FlatWalk
 pub mod Derives
 pub mod FirstWrong
 pub mod Counts
+pub mod UsedRules
 pub mod Write
 pub mod Writes
 pub mod TacticArity

@@ -5,6 +5,7 @@ use mathlib.Core.Bool.{true}
 use mathlib.Core.List.{List, List·Memᴰ}
 use Prim.Native.Nat.{ℕ, _+_, _<_}
 use native.Mathlib.Omega.{arith}
+use lib.ListN.{length, getD}
 use Rattle.words.specs.Word.{word}
 use Rattle.index.specs.declared.seek.Sought.{Sought}
 use Rattle.index.specs.declared.seek.Sought.the-variants as S
@@ -12,6 +13,7 @@ use Rattle.index.specs.Nodes.{headOf, placeOf, linkOf}
 use Rattle.index.specs.Keys.{isKey, digits}
 use Rattle.index.specs.Index.{hits, FindsKey, MissesKey, Sound, Seeks, Tree}
 use Rattle.index.proofs.SeekLaws.{one-found, not-both}
+use Rattle.index.proofs.TreeLaws.{of-seen}
 use Rattle.index.proofs.KeyLaws.{key-says}
 
 module _ (number : ℕ) (s ps w : List ℕ) (base n : ℕ) (tree : Tree number s ps w base n) (value more : ℕ) where
@@ -19,8 +21,10 @@ module _ (number : ℕ) (s ps w : List ℕ) (base n : ℕ) (tree : Tree number s
   abbrev pub Nowhere : Type 0
   Nowhere = (p : ℕ) → List·Memᴰ p ps → isKey number s value more p ≡ true → ⊥
 
-  -- the field at a place has it, and no other
-  pub record Only (q : ℕ) : Type 0 where
+  -- the field with a number, at a place, has it, and no other
+  pub record Only (i q : ℕ) : Type 0 where
+    pub within : i < length ps
+    pub numbered : getD ps i 0 ≡ q
     pub among : List·Memᴰ q ps
     pub key : isKey number s value more q ≡ true
     pub one : (p : ℕ) → List·Memᴰ p ps → isKey number s value more p ≡ true → p ≡ q
@@ -38,9 +42,11 @@ module _ (number : ℕ) (s ps w : List ℕ) (base n : ℕ) (tree : Tree number s
   pub missed : (k t : ℕ) → MissesKey number s w base value more k t → Nowhere
   missed k t f p m c = not-both (linkOf w base) (hits number s w base value more) (its-way p m c .way) (f .way)
 
-  pub found : (i q : ℕ) → i < n → placeOf w base i ≡ q → isKey number s value more q ≡ true → FindsKey number s w base value more i → Only q
+  pub found : (i q : ℕ) → i < n → placeOf w base i ≡ q → isKey number s value more q ≡ true → FindsKey number s w base value more i → Only i q
   found i q l at-q k f = record {
-    among = subst (λ (x : ℕ). List·Memᴰ x ps) at-q (tree .of-seen i l);
+    within = omega (arith, tree .many);
+    numbered = sym (tree .in-order i l) ∙ at-q;
+    among = subst (λ (x : ℕ). List·Memᴰ x ps) at-q (of-seen number s ps w base n tree i l);
     key = k;
     one = λ p m c.
         let same = one-found (linkOf w base) (hits number s w base value more) (its-way p m c .way) (f .way) in
@@ -60,6 +66,6 @@ module _ (number : ℕ) (s ps w : List ℕ) (base n : ℕ) (tree : Tree number s
     unfolding Seeks
     at-slot k t e = missed k t (own (S.Slot k t) e .2)
 
-    pub at-node : (q : ℕ) → r ≡ S.Node q → Only q
+    pub at-node : (i q : ℕ) → r ≡ S.Node i q → Only i q
     unfolding Seeks
-    at-node q e = let x = own (S.Node q) e in found (x .0) q (x .1) (x .2) (x .3) (x .4)
+    at-node i q e = let x = own (S.Node i q) e in found i q (x .0) (x .1) (x .2) (x .3)

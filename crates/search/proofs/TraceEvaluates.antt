@@ -56,7 +56,7 @@ module _ (T : Table) where
       go none p q = let z : _≡_ {A = ℕ} 0 1 = cc in absurd (omega arith)
       go (some r) p q =
           let e : r .premises ≡ k = cc in
-          subst (λ (x : List Goal). Is (suc i) (γ ∷ []) (atomic a) (atomic a) x) e (B-Atomic (found-member T a γ (r .premises) p))
+          subst (λ (x : List Goal). Is (suc i) (γ ∷ []) (atomic a) (atomic a) x) e (B-Atomic (found-member T a γ (r .number) (r .premises) p))
 
   id-is : {i : ℕ} (γ : Goal) (k : List Goal) → some (γ ∷ []) ≡ some k → Is (suc i) (γ ∷ []) id id k
   id-is {i} γ k q = let e : γ ∷ [] ≡ k = cc in subst (λ (x : List Goal). Is (suc i) (γ ∷ []) id id x) e B-Id
@@ -182,7 +182,7 @@ module _ (T : Table) where
     -- what Fig. 3 derives, the search finds
     pub evaluates-found : {i : ℕ} {g h : List Goal} {t s : Term} → Evaluates T AtMost256 i g t s h → FoundIn (trace T i t g) s h
     unfolding trace following inLabel thenRight besideRight matches
-    evaluates-found (B-Atomic {a = a} {γ = γ} {h = h} m) = later (leaf-found _ (ap foundPremises (found↔rule T a γ rules h .1 m)))
+    evaluates-found (B-Atomic {a = a} {γ = γ} {h = h} m) = later (leaf-found _ (ap foundPremises (found↔rule T a γ rules h .1 m .1)))
     evaluates-found B-Id = later here
     evaluates-found (B-Label e) = later (finds-each _ (evaluates-found e) here)
     evaluates-found (B-Seq e e′) = later (finds-each _ (evaluates-found e) (finds-each _ (evaluates-found e′) here))

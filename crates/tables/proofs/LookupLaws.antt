@@ -28,33 +28,35 @@ module _ (s : List ℕ) (a : RuleName) (γ : Goal) where
   abbrev carried : Rule → Bool
   carried r = sameName a (r .name) && sameGoal γ (r .goal)
 
-  abbrev found : Rule → Option FoundRule
-  found r = some (foundRule (r .premises))
-
-  step : (r : Rule) (rs : List Rule) → findRuleIn a γ (r ∷ rs) ≡ cond (carried r) (found r) (findRuleIn a γ rs)
-  unfolding findRuleIn
-  step r rs = refl
-
-  nil : findRuleIn a γ [] ≡ none
-  unfolding findRuleIn
-  nil = refl
-
   -- the test on bytes is the test on the rule
   carries : (at : ℕ) (b : Bool) → isCarried s at a γ ≡ b → (r : Rule) → RuleStands s at r → carried r ≡ b
   unfolding isCarried
   carries at b e r st = rw (← st .name-is, ← st .goal-is) e
 
-  pub no-rule : (rs : List Rule) (at to : ℕ) → RulesStand s at rs to → to ≤ at → findRuleIn a γ rs ≡ none
-  no-rule rs at to = row.none-left (RuleStands s) ruleSize (findRuleIn a γ) carried found none nil step rs at to rule-positive
+  -- from the rule with a number on
+  module _ (n : ℕ) where
+    abbrev found : Rule → Option FoundRule
+    found r = some (foundRule n (r .premises))
 
-  pub this-rule : (rs : List Rule) (at to : ℕ) → RulesStand s at rs to → at < to → isCarried s at a γ ≡ true → findRuleIn a γ rs ≡ some (foundRule (goalsAt s (at + 7) (word s (at + 1) / 2 - 2)))
-  this-rule rs at to st l e =
-      let x = row.found-here (RuleStands s) ruleSize (findRuleIn a γ) carried found none nil step rs at to st l (carries at true e) in
-      x .2 ∙ ap (λ (g : List Goal). some (foundRule g)) (sym (x .1 .premises-are) ∙ ap (λ (k : ℕ). goalsAt s (at + 7) k) (rule-premises s at (x .0) (x .1)))
+    step : (r : Rule) (rs : List Rule) → findRuleIn n a γ (r ∷ rs) ≡ cond (carried r) (found r) (findRuleIn (n + 1) a γ rs)
+    unfolding findRuleIn
+    step r rs = refl
 
-  pub next-rule : (rs : List Rule) (at to : ℕ) → RulesStand s at rs to → at < to → isCarried s at a γ ≡ false
-      → (left : List Rule) × RulesStand s (at + (3 + word s (at + 1))) left to × (findRuleIn a γ rs ≡ findRuleIn a γ left)
-  next-rule rs at to st l e = row.next-in-row (RuleStands s) ruleSize (findRuleIn a γ) carried found none nil step rs at to _ st l (carries at false e) (rule-size s at)
+    nil : findRuleIn n a γ [] ≡ none
+    unfolding findRuleIn
+    nil = refl
+
+    pub no-rule : (rs : List Rule) (at to : ℕ) → RulesStand s at rs to → to ≤ at → findRuleIn n a γ rs ≡ none
+    no-rule rs at to = row.none-left (RuleStands s) ruleSize (findRuleIn n a γ) (findRuleIn (n + 1) a γ) carried found none nil step rs at to rule-positive
+
+    pub this-rule : (rs : List Rule) (at to : ℕ) → RulesStand s at rs to → at < to → isCarried s at a γ ≡ true → findRuleIn n a γ rs ≡ some (foundRule n (goalsAt s (at + 7) (word s (at + 1) / 2 - 2)))
+    this-rule rs at to st l e =
+        let x = row.found-here (RuleStands s) ruleSize (findRuleIn n a γ) (findRuleIn (n + 1) a γ) carried found none nil step rs at to st l (carries at true e) in
+        x .2 ∙ ap (λ (g : List Goal). some (foundRule n g)) (sym (x .1 .premises-are) ∙ ap (λ (k : ℕ). goalsAt s (at + 7) k) (rule-premises s at (x .0) (x .1)))
+
+    pub next-rule : (rs : List Rule) (at to : ℕ) → RulesStand s at rs to → at < to → isCarried s at a γ ≡ false
+        → (left : List Rule) × RulesStand s (at + (3 + word s (at + 1))) left to × (findRuleIn n a γ rs ≡ findRuleIn (n + 1) a γ left)
+    next-rule rs at to st l e = row.next-in-row (RuleStands s) ruleSize (findRuleIn n a γ) (findRuleIn (n + 1) a γ) carried found none nil step rs at to _ st l (carries at false e) (rule-size s at)
 
 -- the field of a rule lies within the file and before the place where the rules end
 pub record RuleBounds (s : List ℕ) (at to : ℕ) : Type 0 where
@@ -99,16 +101,16 @@ module _ (s : List ℕ) (n : TacticNo) where
   names at b e d st = rw (← st .tactic-is) e
 
   pub no-body : (ds : List Definition) (at to : ℕ) → DefinitionsStand s at ds to → to ≤ at → findBodyIn ds n ≡ none
-  no-body ds at to = row.none-left (DefinitionStands s) definitionSize find named bodyOf none empty define ds at to definition-positive
+  no-body ds at to = row.none-left (DefinitionStands s) definitionSize find find named bodyOf none empty define ds at to definition-positive
 
   pub this-body : (ds : List Definition) (at to : ℕ) → DefinitionsStand s at ds to → at < to → n .0 ≡ word s (at + 3) → (t : Term) × (findBodyIn ds n ≡ some t) × Stands s (at + 5) t
   this-body ds at to st l e =
-      let x = row.found-here (DefinitionStands s) definitionSize find named bodyOf none empty define ds at to st l (names at true (eq-eqb _ _ e)) in
+      let x = row.found-here (DefinitionStands s) definitionSize find find named bodyOf none empty define ds at to st l (names at true (eq-eqb _ _ e)) in
       (x .0 .body, x .2, x .1 .body-stands)
 
   pub next-body : (ds : List Definition) (at to : ℕ) → DefinitionsStand s at ds to → at < to → (n .0 ≡ word s (at + 3) → ⊥)
       → (left : List Definition) × DefinitionsStand s (at + (3 + word s (at + 1))) left to × (findBodyIn ds n ≡ findBodyIn left n)
-  next-body ds at to st l e = row.next-in-row (DefinitionStands s) definitionSize find named bodyOf none empty define ds at to _ st l (names at false (ne-eqb _ _ e)) (definition-size s at)
+  next-body ds at to st l e = row.next-in-row (DefinitionStands s) definitionSize find find named bodyOf none empty define ds at to _ st l (names at false (ne-eqb _ _ e)) (definition-size s at)
 
 -- the field of a definition lies within the file
 pub record DefinitionBounds (s : List ℕ) (at to : ℕ) : Type 0 where

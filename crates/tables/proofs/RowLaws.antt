@@ -28,8 +28,8 @@ module _ {A : Type 0} (stands : ℕ → A → Type 0) (sizeOf : A → ℕ) where
   first-in-row [] from to row l = absurd (omega arith)
   first-in-row (x ∷ xs) from to row l = (x, row .0, row-le xs (from + sizeOf x) to (row .1))
 
-  -- a search that stops at the first value that passes a test
-  module _ {B : Type 0} (find : List A → B) (test : A → Bool) (stop : A → B) (end : B) (nil : find [] ≡ end) (step : (x : A) (xs : List A) → find (x ∷ xs) ≡ cond (test x) (stop x) (find xs)) where
+  -- a search that stops at the first value that passes a test, and how it goes on behind the others
+  module _ {B : Type 0} (find next : List A → B) (test : A → Bool) (stop : A → B) (end : B) (nil : find [] ≡ end) (step : (x : A) (xs : List A) → find (x ∷ xs) ≡ cond (test x) (stop x) (next xs)) where
     pub none-left : (xs : List A) (from to : ℕ) → ((x : A) → 0 < sizeOf x) → InRow stands sizeOf from xs to → to ≤ from → find xs ≡ end
     unfolding InRow
     none-left [] from to size row l = nil
@@ -41,7 +41,7 @@ module _ {A : Type 0} (stands : ℕ → A → Type 0) (sizeOf : A → ℕ) where
     found-here (x ∷ xs) from to row l t = (x, row .0, step x xs ∙ rw (t x (row .0)))
 
     pub next-in-row : (xs : List A) (from to k : ℕ) → InRow stands sizeOf from xs to → from < to → ((x : A) → stands from x → test x ≡ false) → ((x : A) → stands from x → sizeOf x ≡ k)
-        → (ys : List A) × InRow stands sizeOf (from + k) ys to × (find xs ≡ find ys)
+        → (ys : List A) × InRow stands sizeOf (from + k) ys to × (find xs ≡ next ys)
     unfolding InRow
     next-in-row [] from to k row l t z = absurd (omega arith)
     next-in-row (x ∷ xs) from to k row l t z = (xs, subst (λ (j : ℕ). InRow stands sizeOf (from + j) xs to) (z x (row .0)) (row .1), step x xs ∙ rw (t x (row .0)))

@@ -25,15 +25,15 @@ use Rattle.tables.specs.Standing.{TableStands}
 unfoldable pub isCarried : List ℕ → (at : ℕ) → RuleName → Goal → Bool
 isCarried s at a γ = eqb (a .0) (word s (at + 3)) && eqb (γ .0) (word s (at + 5))
 
--- the rule that was found, by the goals at its premises' place
+-- the rule that was found, by its number and the goals at its premises' place
 unfoldable pub ruleFound : List ℕ → RuleFound → Option FoundRule
 ruleFound s R.Missing = none
-ruleFound s (R.Premises place count) = some (foundRule (goalsAt s place count))
+ruleFound s (R.Rule number place count) = some (foundRule number (goalsAt s place count))
 
 -- its premises lie within the file, and there are at most eight
 unfoldable pub FoundInside : List ℕ → RuleFound → Type 0
 FoundInside s R.Missing = Unit {0}
-FoundInside s (R.Premises place count) = (count ≤ 8) × (place + count * 2 ≤ length s)
+FoundInside s (R.Rule number place count) = (count ≤ 8) × (place + count * 2 ≤ length s)
 
 -- the answer of the search for a rule: that of every table that stands in these bytes
 pub record FindsRule (s : List ℕ) (first : ℕ) (a : RuleName) (γ : Goal) (r : RuleFound) : Type 0 where

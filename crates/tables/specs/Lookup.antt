@@ -1,4 +1,5 @@
--- Document 01, "Checking a hiproof" and "Running a tactic": the look-up of a rule and of a definition, and goal matching.
+-- Document 01, "Checking a hiproof" and "Running a tactic": the look-up of a rule and of a definition, and goal matching. Document 02, P6: a rule's number.
+use Prim.Native.Nat.{ℕ, _+_}
 use mathlib.Core.Bool.{Bool, cond, _&&_}
 use mathlib.Core.Option.{Option, none, some}
 use mathlib.Core.List.{List, [], _∷_}
@@ -18,20 +19,22 @@ sameGoal γ δ = eqb (γ .0) (δ .0)
 abbrev pub sameTactic : TacticNo → TacticNo → Bool
 sameTactic n m = eqb (n .0) (m .0)
 
--- what is known of a rule that was found
+-- what is known of a rule that was found: "its number in the table, counting from 0, besides its premises"
 pub record FoundRule : Type 0 where
+  pub number : ℕ
   pub premises : List Goal
 
-abbrev pub foundRule : List Goal → FoundRule
-foundRule g = record { premises = g }
+abbrev pub foundRule : ℕ → List Goal → FoundRule
+foundRule n h = record { number = n; premises = h }
 
--- "a rule of that name for it": the first rule of that name and goal
-unfoldable pub findRuleIn : RuleName → Goal → List Rule → Option FoundRule
-findRuleIn a γ [] = none
-findRuleIn a γ (r ∷ rs) = cond (sameName a (r .name) && sameGoal γ (r .goal)) (some (foundRule (r .premises))) (findRuleIn a γ rs)
+-- "a rule of that name for it": the first rule of that name and goal, in rules of which the first has that number
+unfoldable pub findRuleIn : (number : ℕ) → RuleName → Goal → List Rule → Option FoundRule
+findRuleIn n a γ [] = none
+findRuleIn n a γ (r ∷ rs) = cond (sameName a (r .name) && sameGoal γ (r .goal)) (some (foundRule n (r .premises))) (findRuleIn (n + 1) a γ rs)
 
+-- "counting from 0": rule fields alone are counted
 unfoldable pub findRule : Table → RuleName → Goal → Option FoundRule
-findRule T a γ = findRuleIn a γ (T .rules)
+findRule T a γ = findRuleIn 0 a γ (T .rules)
 
 -- "A defined tactic is replaced by its body": the body of the first definition of that tactic
 unfoldable pub findBodyIn : List Definition → TacticNo → Option Term

@@ -1,6 +1,8 @@
 -- Document 01, "Fields": rules, definitions and tables.
+use Prim.Native.Nat.{ℕ}
 use mathlib.Core.Path.{_≡_}
-use mathlib.Core.List.{List, List·Memᴰ}
+use mathlib.Core.List.{List, _∷_, _++_, List·Memᴰ}
+use lib.ListN.{length}
 use Rattle.format.specs.declared.values.RuleName.{RuleName}
 use Rattle.format.specs.declared.values.Goal.{Goal}
 use Rattle.format.specs.declared.values.TacticNo.{TacticNo}
@@ -25,6 +27,10 @@ pub record Table : Type 0 where
 -- the table has a rule of that name for that goal, with those premises
 abbrev pub HasRule : Table → RuleName → Goal → List Goal → Type 0
 HasRule T a γ h = List·Memᴰ (record { name = a; goal = γ; premises = h }) (T .rules)
+
+-- document 02, P6, "its number in the table, counting from 0": the rule before which so many others stand
+abbrev pub NumberedRule : Table → (number : ℕ) → RuleName → Goal → List Goal → Type 0
+NumberedRule T n a γ h = (before after : List Rule) × (length before ≡ n) × (T .rules ≡ before ++ record { name = a; goal = γ; premises = h } ∷ after)
 
 -- the table defines that tactic by that body
 abbrev pub Defines : Table → TacticNo → Term → Type 0

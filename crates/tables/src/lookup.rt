@@ -13,10 +13,10 @@ use format::values::rule_name_at;
 use format::values::tactic_no_at;
 use words::load16;
 
-// What the search for a rule finds: nothing, or the place of the rule's premises and their number.
+// What the search for a rule finds: nothing, or the rule's number in the table, the place of its premises and their count.
 pub enum RuleFound {
     Missing,
-    Premises(usize, usize),
+    Rule(usize, usize, usize),
 }
 
 // What the search for a definition finds: nothing, or the place of its body.
@@ -46,12 +46,14 @@ pub fn find_rule(table: &[u8], first: usize, name: RuleName, goal: Goal) -> Rule
     ensures { λ r. ⌜ FindsRule (now (table .entry)) first name goal r ⌝ }
 {
     let mut at: usize = 0;
+    let mut number: usize = 0;
     while at < first {
         let len = load16(table, at + 1) as usize;
         if carries(table, at, name, goal) {
-            return RuleFound::Premises(at + 7, len / 2 - 2);
+            return RuleFound::Rule(number, at + 7, len / 2 - 2);
         }
         at += 3 + len;
+        number += 1;
     }
     RuleFound::Missing
 }

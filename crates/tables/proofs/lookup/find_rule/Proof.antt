@@ -1,8 +1,8 @@
--- `lookup::find_rule` meets its contract. The invariant: what the search finds in the rules of a table is what it finds in those from here on.
+-- `lookup::find_rule` meets its contract. The invariant: what the search finds in the rules of a table is what it finds in those from here on, with the rules passed counted.
 -- Assumes nothing.
 use mathlib.Core.Path.{_≡_, refl, sym, _∙_}
 use mathlib.Core.List.{List}
-use Prim.Native.Nat.{_-_}
+use Prim.Native.Nat.{_-_, _≤_}
 use native.Mathlib.Omega.{arith}
 use denote.Ref.{now}
 use borrow.Author.Needs.{needs}
@@ -15,21 +15,21 @@ use Rattle.tables.proofs.lookup.find_rule.Statement.{statement}
 use Rattle.tables.proofs.lookup.find_rule.Tie as tie
 
 abbrev Inv-loop : tie.InvT-loop
-Inv-loop table first name goal at₀ at = (T : Table) → TableStands table first T → (rs : List Rule) × RulesStand table at rs first × (findRule T name goal ≡ findRuleIn name goal rs)
+Inv-loop table first name goal at₀ number₀ at number = ((T : Table) → TableStands table first T → (rs : List Rule) × RulesStand table at rs first × (findRule T name goal ≡ findRuleIn number name goal rs)) × (number ≤ at)
 
 abbrev μ-loop : tie.MeasureT-loop
-μ-loop table first name goal at₀ at = first - at
+μ-loop table first name goal at₀ number₀ at number = first - at
 
 abbrev I : Type 0
 I = tie.In-loop Inv-loop μ-loop
 
 -- the rule's field at this place
 here : (c : I) → RuleBounds (now (c .before .before .before .args .table)) (c .before .loop .at) (c .before .before .before .args .first)
-here c = let i = c .before .loop .inv (c .before .before .before .pre .0) (c .before .before .before .pre .1) in rule-bounds _ (i .0) _ _ (i .1) (c .loop-test .taken)
+here c = let i = c .before .loop .inv .0 (c .before .before .before .pre .0) (c .before .before .before .pre .1) in rule-bounds _ (i .0) _ _ (i .1) (c .loop-test .taken)
 
 loop-holds : tie.Need-loop-holds Inv-loop μ-loop
 unfolding findRule
-loop-holds c = λ T st. (T .rules, st .rules-stand, refl)
+loop-holds c = (λ T st. (T .rules, st .rules-stand, refl), omega arith)
 
 add-load16 : tie.Need-add-load16 Inv-loop μ-loop
 add-load16 c = omega (arith, here c)
@@ -43,11 +43,11 @@ cast-len c = search needs
 carries-requires : tie.Need-carries-requires Inv-loop μ-loop
 carries-requires c κs = here (c .before) .seven
 
-add-t11 : tie.Need-add-t11 Inv-loop μ-loop
-add-t11 c = omega (arith, here (c .before .before .before))
+add-t12 : tie.Need-add-t12 Inv-loop μ-loop
+add-t12 c = omega (arith, here (c .before .before .before))
 
-sub-t13 : tie.Need-sub-t13 Inv-loop μ-loop
-sub-t13 c = omega (arith, here (c .before .before .before), c .before .before .load16 .ensures)
+sub-t14 : tie.Need-sub-t14 Inv-loop μ-loop
+sub-t14 c = omega (arith, here (c .before .before .before), c .before .before .load16 .ensures)
 
 returns : tie.Need-returns Inv-loop μ-loop
 unfolding ruleFound FoundInside
@@ -56,8 +56,8 @@ returns c =
     let len = c .before .before .load16 .ensures in
     record {
       found = λ T st.
-          let i = c .before .before .before .before .loop .inv T st in
-          rw len (i .2 ∙ this-rule _ _ _ (i .0) _ _ (i .1) (c .before .before .before .loop-test .taken) (sym (c .before .carries .ensures) ∙ c .if1 .taken));
+          let i = c .before .before .before .before .loop .inv .0 T st in
+          rw len (i .2 ∙ this-rule _ _ _ _ (i .0) _ _ (i .1) (c .before .before .before .loop-test .taken) (sym (c .before .carries .ensures) ∙ c .if1 .taken));
       inside = (omega (arith, b, len), omega (arith, b, len));
     }
 
@@ -67,21 +67,27 @@ add-at c = omega (arith, here (c .before .before .before), c .before .before .lo
 add-at-2 : tie.Need-add-at-2 Inv-loop μ-loop
 add-at-2 c = omega (arith, here (c .before .before .before), c .before .before .load16 .ensures)
 
+add-number : tie.Need-add-number Inv-loop μ-loop
+add-number c = omega (arith, here (c .before .before .before), c .before .before .before .before .loop .inv .1)
+
 loop-less : tie.Need-loop-less Inv-loop μ-loop
 loop-less c = omega (arith, c .before .before .before .loop-test .taken)
 
 loop-again : tie.Need-loop-again Inv-loop μ-loop
-loop-again c = λ T st.
-    let i = c .before .before .before .before .loop .inv T st in
-    let n = next-rule _ _ _ (i .0) _ _ (i .1) (c .before .before .before .loop-test .taken) (sym (c .before .carries .ensures) ∙ c .if1 .left) in
-    (n .0, rw (c .before .before .load16 .ensures) (n .1), i .2 ∙ n .2)
+loop-again c = (
+  λ T st.
+      let i = c .before .before .before .before .loop .inv .0 T st in
+      let n = next-rule _ _ _ (c .before .before .before .before .loop .number) (i .0) _ _ (i .1) (c .before .before .before .loop-test .taken) (sym (c .before .carries .ensures) ∙ c .if1 .left) in
+      (n .0, rw (c .before .before .load16 .ensures) (n .1), i .2 ∙ n .2),
+  omega (arith, c .before .before .before .before .loop .inv .1),
+)
 
 returns-2 : tie.Need-returns-2 Inv-loop μ-loop
 unfolding ruleFound FoundInside
 returns-2 c = record {
   found = λ T st.
-      let i = c .before .loop .inv T st in
-      i .2 ∙ no-rule _ _ _ (i .0) _ _ (i .1) (c .loop-test .left);
+      let i = c .before .loop .inv .0 T st in
+      i .2 ∙ no-rule _ _ _ _ (i .0) _ _ (i .1) (c .loop-test .left);
   inside = tt;
 }
 
@@ -96,11 +102,12 @@ find-rule-spec =
     load16-requires
     cast-len
     carries-requires
-    add-t11
-    sub-t13
+    add-t12
+    sub-t14
     returns
     add-at
     add-at-2
+    add-number
     loop-less
     loop-again
     returns-2)
