@@ -180,7 +180,7 @@ module _ (w : List ℕ) (s : State) (room : Room w s) where
         fail-grown w s room r q,
       )
 
-      module _ (place n : ℕ) (m : o ≡ R.Premises place n) where
+      module _ (number place n : ℕ) (m : o ≡ R.Rule number place n) where
         pub rule-used : (v : List ℕ) (r : State) → ((a : RuleName) → name .0 ≡ a .0 → Begins w s v r (atomic a) (atomicNext a (some (goalsAt bytes place n)))) → Grown w s v r → UsesRule v r
         unfolding ruleFound
         rule-used v r b gr = (

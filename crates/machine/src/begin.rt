@@ -287,7 +287,7 @@ impl State {
         let found = find_rule(table, first, name, goal);
         match found {
             RuleFound::Missing => self.fail(),
-            RuleFound::Premises(place, count) => self.use_rule(name, place, count, table, work),
+            RuleFound::Rule(_, place, count) => self.use_rule(name, place, count, table, work),
         }
     }
 

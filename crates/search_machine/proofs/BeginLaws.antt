@@ -424,11 +424,11 @@ module _ (w : List ℕ) (s : State) (room : Room w s) (bytes : List ℕ) (first 
         fail-stays w s room r q,
       )
 
-      pub rule-used : (place n : ℕ) → o ≡ R.Premises place n → (v : List ℕ) (r : State)
+      pub rule-used : (number place n : ℕ) → o ≡ R.Rule number place n → (v : List ℕ) (r : State)
           → ((a : RuleName) → name .0 ≡ a .0 → Does w s v r (atomic a) (leafNext (atomic a) (λ g. some (goalsAt bytes place n)))) → Stays w s v r → UsesRule v r
       unfolding ruleFound
-      rule-used place n m v r d st′ = (
-        λ T a st i table job b g k c h. subst (λ (x : Option (List Goal)). Holds table job v r (gaveIf (atomic a) x k c)) (sym (gives-found (R.Premises place n) m T a g st i (h .goals .are))) (d a i table job b g k c h),
+      rule-used number place n m v r d st′ = (
+        λ T a st i table job b g k c h. subst (λ (x : Option (List Goal)). Holds table job v r (gaveIf (atomic a) x k c)) (sym (gives-found (R.Rule number place n) m T a g st i (h .goals .are))) (d a i table job b g k c h),
         st′,
       )
 

@@ -195,7 +195,7 @@ impl State {
         let found = find_rule(table, first, work, RULES_PLACE, name, goal);
         match found {
             RuleFound::Missing => self.fail(),
-            RuleFound::Premises(place, count) => self.use_rule(name, place, count, table, work),
+            RuleFound::Rule(_, place, count) => self.use_rule(name, place, count, table, work),
         }
     }
 

@@ -30,9 +30,9 @@ module _ (bytes : List ℕ) (first : ℕ) (name : RuleName) (goal : Goal) (o : R
       (one-at w at (λ γ. foundPremises (findRule T a γ)) goal n c e
       ∙ subst (λ (x : RuleName). foundPremises (findRule T x goal) ≡ foundPremises (ruleFound bytes o)) same (ap foundPremises (f .found T st)))
 
-  pub rule-inside : (place n : ℕ) → o ≡ R.Premises place n → (n ≤ 8) × (place + n * 2 ≤ length bytes)
+  pub rule-inside : (number place n : ℕ) → o ≡ R.Rule number place n → (n ≤ 8) × (place + n * 2 ≤ length bytes)
   unfolding FoundInside
-  rule-inside place n m = subst (λ (x : RuleFound). FoundInside bytes x) m (f .inside)
+  rule-inside number place n m = subst (λ (x : RuleFound). FoundInside bytes x) m (f .inside)
 
 -- the body of a defined tactic
 pub body-stands : (bytes : List ℕ) (first : ℕ) (number : TacticNo) (o : BodyFound) → FindsBody bytes first number o

@@ -26,11 +26,11 @@ module _ (T : Table) (s : List ℕ) (a b : RuleName) (γ δ : Goal) (x : RuleFou
   unfolding ruleFound
   missing-count e = rw (same-search, e)
 
-  pub rule-count : (place k : ℕ) → x ≡ R.Premises place k → k ≡ length (premisesOf T b δ)
+  pub rule-count : (number place k : ℕ) → x ≡ R.Rule number place k → k ≡ length (premisesOf T b δ)
   unfolding ruleFound
-  rule-count place k e = rw (same-search, e) (sym (length-goalsAt k s place))
+  rule-count number place k e = rw (same-search, e) (sym (length-goalsAt k s place))
 
 -- at most eight
-pub few-count : (s : List ℕ) (x : RuleFound) (place k : ℕ) → FoundInside s x → x ≡ R.Premises place k → k ≤ 8
+pub few-count : (s : List ℕ) (x : RuleFound) (number place k : ℕ) → FoundInside s x → x ≡ R.Rule number place k → k ≤ 8
 unfolding FoundInside
-few-count s x place k i e = subst (FoundInside s) e i .0
+few-count s x number place k i e = subst (FoundInside s) e i .0

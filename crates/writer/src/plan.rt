@@ -59,7 +59,7 @@ fn premises_of(table: &[u8], rules: usize, work: &[u8], flat: &[u8], at: usize) 
     let found = find_rule(table, rules, work, INDEX, name, goal);
     match found {
         RuleFound::Missing => 0,
-        RuleFound::Premises(_, count) => count,
+        RuleFound::Rule(_, _, count) => count,
     }
 }
 

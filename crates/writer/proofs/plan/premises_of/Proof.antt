@@ -36,8 +36,8 @@ returns c = (
 returns-2 : tie.Need-returns-2
 returns-2 c =
     let f = c .before .before .before .find-rule .ensures in (
-      λ T st. rule-count T _ _ _ _ _ _ (f .found T st) (c .before .before .before .before .before .rule-name-at .ensures) (c .before .before .before .before .goal-at .ensures) _ _ (c .before .found .given .1),
-      few-count _ _ _ _ (f .inside) (c .before .found .given .1),
+      λ T st. rule-count T _ _ _ _ _ _ (f .found T st) (c .before .before .before .before .before .rule-name-at .ensures) (c .before .before .before .before .goal-at .ensures) _ _ _ (c .before .found .given .1),
+      few-count _ _ _ _ _ (f .inside) (c .before .found .given .1),
     )
 
 pub premises-of-spec : {M : Type 1} → statement M

@@ -40,7 +40,7 @@ use-rule-requires : tie.Need-use-rule-requires
 use-rule-requires c κs =
     let a = c .before .before .before .before .before .before .before .before .before .before .before .args in
     let p = c .before .before .before .before .before .before .before .before .before .before .before .pre in
-    let i = rule-inside (a .table .now) (a .first) (a .name) (c .before .before .before .before .before .goal-at .result) (c .before .before .before .before .find-rule .result) (c .before .before .before .before .find-rule .ensures) _ _ (c .before .before .found .given .1) in
+    let i = rule-inside (a .table .now) (a .first) (a .name) (c .before .before .before .before .before .goal-at .result) (c .before .before .before .before .find-rule .result) (c .before .before .before .before .find-rule .ensures) _ _ _ (c .before .before .found .given .1) in
     (p .0, i .0, i .1, p .2)
 
 same-length : tie.Need-same-length
@@ -59,7 +59,7 @@ returns-3 : tie.Need-returns-3
 returns-3 c =
     let a = c .before .before .before .before .before .before .before .before .before .before .before .before .before .before .args in
     let p = c .before .before .before .before .before .before .before .before .before .before .before .before .before .before .pre in
-    rule-used (a .work .now) (a .self) (p .0) (a .table .now) (a .first) (a .name) (c .before .before .before .before .before .before .before .before .goal-at .result) (c .before .before .before .before .before .before .before .find-rule .result) (c .before .before .before .before .before .before .before .before .before .before .if1 .left) (c .before .before .before .before .before .before .before .before .goal-at .ensures) (c .before .before .before .before .before .before .before .find-rule .ensures) _ _ (c .before .before .before .before .before .found .given .1) _ _ (c .before .before .use-rule .ensures .0) (c .before .before .use-rule .ensures .1)
+    rule-used (a .work .now) (a .self) (p .0) (a .table .now) (a .first) (a .name) (c .before .before .before .before .before .before .before .before .goal-at .result) (c .before .before .before .before .before .before .before .find-rule .result) (c .before .before .before .before .before .before .before .before .before .before .if1 .left) (c .before .before .before .before .before .before .before .before .goal-at .ensures) (c .before .before .before .before .before .before .before .find-rule .ensures) _ _ _ (c .before .before .before .before .before .found .given .1) _ _ (c .before .before .use-rule .ensures .0) (c .before .before .use-rule .ensures .1)
 
 pub begin-atomic-spec : {M : Type 1} → statement M
 begin-atomic-spec =

@@ -44,7 +44,7 @@ enum-known-found c = search needs
 -- src/begin.rt:198:50
 use-rule-requires : tie.Need-use-rule-requires
 use-rule-requires c κs =
-    let p = c .before .before .before .before .before .before .before .before .before .before .before .before .pre in let i = rule-inside (c .before .before .before .before .before .before .before .before .before .before .before .before .args .table .now) (c .before .before .before .before .before .before .before .before .before .before .before .before .args .first) (c .before .before .before .before .before .before .before .before .before .before .before .before .args .name) (c .before .before .before .before .before .before .goal-at .result) (c .before .before .before .before .find-rule .result) (c .before .before .before .before .find-rule .ensures) _ _ (c .before .before .found .given .1) in (p .0, i .0, i .1)
+    let p = c .before .before .before .before .before .before .before .before .before .before .before .before .pre in let i = rule-inside (c .before .before .before .before .before .before .before .before .before .before .before .before .args .table .now) (c .before .before .before .before .before .before .before .before .before .before .before .before .args .first) (c .before .before .before .before .before .before .before .before .before .before .before .before .args .name) (c .before .before .before .before .before .before .goal-at .result) (c .before .before .before .before .find-rule .result) (c .before .before .before .before .find-rule .ensures) _ _ _ (c .before .before .found .given .1) in (p .0, i .0, i .1)
 
 -- src/begin.rt:185:5
 same-length : tie.Need-same-length
@@ -62,7 +62,7 @@ same-length-2 c = search needs
 -- src/begin.rt:185:5
 returns-3 : tie.Need-returns-3
 returns-3 c =
-    let u = c .before .before .use-rule .ensures in rule-used (c .before .before .before .before .before .before .before .before .before .before .before .before .before .before .before .args .work .now) (c .before .before .before .before .before .before .before .before .before .before .before .before .before .before .before .args .self) (c .before .before .before .before .before .before .before .before .before .before .before .before .before .before .before .pre .0) (c .before .before .before .before .before .before .before .before .before .before .before .before .before .before .before .args .table .now) (c .before .before .before .before .before .before .before .before .before .before .before .before .before .before .before .args .first) (c .before .before .before .before .before .before .before .before .before .before .before .before .before .before .before .args .name) (c .before .before .before .before .before .before .before .before .before .goal-at .result) (c .before .before .before .before .before .before .before .find-rule .result) (c .before .before .before .before .before .before .before .before .before .before .before .if1 .left) (c .before .before .before .before .before .before .before .before .before .goal-at .ensures) (c .before .before .before .before .before .before .before .find-rule .ensures) _ _ (c .before .before .before .before .before .found .given .1) _ _ (u .0) (u .1)
+    let u = c .before .before .use-rule .ensures in rule-used (c .before .before .before .before .before .before .before .before .before .before .before .before .before .before .before .args .work .now) (c .before .before .before .before .before .before .before .before .before .before .before .before .before .before .before .args .self) (c .before .before .before .before .before .before .before .before .before .before .before .before .before .before .before .pre .0) (c .before .before .before .before .before .before .before .before .before .before .before .before .before .before .before .args .table .now) (c .before .before .before .before .before .before .before .before .before .before .before .before .before .before .before .args .first) (c .before .before .before .before .before .before .before .before .before .before .before .before .before .before .before .args .name) (c .before .before .before .before .before .before .before .before .before .goal-at .result) (c .before .before .before .before .before .before .before .find-rule .result) (c .before .before .before .before .before .before .before .before .before .before .before .if1 .left) (c .before .before .before .before .before .before .before .before .before .goal-at .ensures) (c .before .before .before .before .before .before .before .find-rule .ensures) _ _ _ (c .before .before .before .before .before .found .given .1) _ _ (u .0) (u .1)
 
 pub begin-atomic-spec : {M : Type 1} → statement M
 begin-atomic-spec =
