@@ -42,7 +42,7 @@ behind-kept table first w w′ low high size k h b = let x = b .index in record 
 
 -- ---- a term that acts
 
-module _ (T : Table) (x : Aim) (s w : List ℕ) (n : Next) (at : ℕ) (b : Begins (goalAct T) x [] s w (placed n at)) (l : Leaf s at) where
+module _ (T : Table) (x : Aim ℕ) (s w : List ℕ) (n : Next) (at : ℕ) (b : Begins (goalAct T) x [] s w (placed n at)) (l : Leaf s at) where
   pub leaf-ready : aritiesEnd ≤ length w → LeafReady s at (b .0) w n
   leaf-ready h = record { stands = b .2 .stands; apart = omega (arith, b .2 .room); below = b .2 .below; space = h }
 
@@ -81,7 +81,7 @@ module _ (T : Table) (x : Aim) (s w : List ℕ) (n : Next) (at : ℕ) (b : Begin
 -- ---- the loop
 
 -- the walk's aim: hitac's walk on the goals at the end of the stacks
-abbrev pub aimIn : (T : Table) (t : Term) (s : List ℕ) (at : ℕ) (w : List ℕ) (count : ℕ) → Ready s at t w count → Aim
+abbrev pub aimIn : (T : Table) (t : Term) (s : List ℕ) (at : ℕ) (w : List ℕ) (count : ℕ) → Ready s at t w count → Aim ℕ
 aimIn T t s at w count r = aimOf (goalAct T) t at [] (valuesAt w (stackEnd - count * 2) count) (r .fields-few)
 
 pub record Way (table : List ℕ) (first : ℕ) (s : List ℕ) (at count : ℕ) (w₀ w : List ℕ) (n : Next) : Type 0 where
@@ -107,11 +107,11 @@ of-refused (refused d q) c p e = rw (same-cause e, same-place e)
 
 of-gives : (r : Result (List Goal)) (h : List Goal) → ofGoals [] r ≡ gives (out [] (map valueOf h)) → r ≡ gives h
 unfolding ofGoals
-of-gives (gives g) h e = ap gives (sym (same-goals g) ∙ ap (λ (o : Out). map goal (o .values)) (same-value e) ∙ same-goals h)
+of-gives (gives g) h e = ap gives (sym (same-goals g) ∙ ap (λ (o : Out ℕ). map goal (o .values)) (same-value e) ∙ same-goals h)
 of-gives (refused d q) h e = never-gives e
 
 module _ (table : List ℕ) (first : ℕ) (s : List ℕ) (at count : ℕ) (w₀ w : List ℕ) (n : Next) (way : Way table first s at count w₀ w n) (w′ : List ℕ) (q : Turn)
-    (stepped : (T : Table) (x : Aim) → TableStands table first T → Begins (goalAct T) x [] s w n → Steps (goalAct T) x [] s w w′ (n .at + 1) q) where
+    (stepped : (T : Table) (x : Aim ℕ) → TableStands table first T → Begins (goalAct T) x [] s w n → Steps (goalAct T) x [] s w w′ (n .at + 1) q) where
   step-of : (T : Table) (t : Term) → TableStands table first T → (r : Ready s at t w₀ count) → Steps (goalAct T) (aimIn T t s at w₀ count r) [] s w w′ (n .at + 1) q
   step-of T t tst r = stepped T (aimIn T t s at w₀ count r) tst (way .goes T t tst r)
 

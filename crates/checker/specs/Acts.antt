@@ -15,7 +15,6 @@ use Rattle.tables.specs.Tables.{Table}
 use Rattle.index.specs.Build.{RulesIndexed}
 use Rattle.hitac.specs.Hiproofs.{atomics}
 use Rattle.hitac.specs.Walk.{walk}
-use Rattle.hitac.proofs.Nodes.{Cell}
 use Rattle.input_arities.specs.Layout.{stackEnd, aritiesEnd}
 use Rattle.walks.specs.declared.state.Next.{Next}
 use Rattle.walks.specs.Values.{valueOf}
@@ -23,13 +22,13 @@ use Rattle.walks.specs.Walks.{Out, out, Act}
 use Rattle.checker.specs.declared.leaf.Acted.{Acted}
 use Rattle.checker.specs.declared.leaf.Acted.the-variants as A
 
--- a walk over goals, as one over values: no cells are made
-unfoldable pub ofGoals : List Cell → Result (List Goal) → Result Out
+-- a walk over goals, as one over values: of the rule numbers that such a walk may make, none are made
+unfoldable pub ofGoals : List ℕ → Result (List Goal) → Result (Out ℕ)
 ofGoals A (gives h) = gives (out A (map valueOf h))
 ofGoals A (refused c p) = refused c p
 
 -- the checker's terms act as the walk of hitac says
-unfoldable pub goalAct : Table → Act
+unfoldable pub goalAct : Table → Act ℕ
 goalAct T t at A ns = ofGoals A (walk T t at (map goal ns))
 
 -- the walk of a term on the goals that it takes

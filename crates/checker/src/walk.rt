@@ -1,7 +1,7 @@
 // The walk of a hiproof over its goals as one loop, on two stacks of goals and a stack of waiting terms in one work space.
 ghost use mathlib.Core.Path.{_≡_};
 ghost use mathlib.Core.List.{[]};
-ghost use Prim.Native.Nat.{_+_};
+ghost use Prim.Native.Nat.{ℕ, _+_};
 ghost use lib.ListN.{length};
 ghost use Rattle.format.specs.Terms.{Term};
 ghost use Rattle.tables.specs.Tables.{Table};
@@ -29,8 +29,8 @@ pub enum Walked {
 
 // A term without labels that is no sequence and no tensor takes its goals and ends.
 fn begin_leaf(table: &[u8], first: usize, proof: &[u8], at: usize, work: &mut [u8], n: Next) -> Turn
-    requires { ⌜ ((T : Table) × (x : Aim) × TableStands (now table) first T × Begins (goalAct T) x [] (now proof) (now work) (placed n at)) × Roomy (now proof) (now work) × Leaf (now proof) at × Behind (now table) first (now work) ⌝ }
-    ensures { λ r. ⌜ ((T : Table) (x : Aim) → TableStands (now (table .entry)) first T → Begins (goalAct T) x [] (now (proof .entry)) (now (work .entry)) (placed n at) → Steps (goalAct T) x [] (now (proof .entry)) (now (work .entry)) (now (work .exit)) (at + 1) r) ⌝ }
+    requires { ⌜ ((T : Table) × (x : Aim ℕ) × TableStands (now table) first T × Begins (goalAct T) x [] (now proof) (now work) (placed n at)) × Roomy (now proof) (now work) × Leaf (now proof) at × Behind (now table) first (now work) ⌝ }
+    ensures { λ r. ⌜ ((T : Table) (x : Aim ℕ) → TableStands (now (table .entry)) first T → Begins (goalAct T) x [] (now (proof .entry)) (now (work .entry)) (placed n at) → Steps (goalAct T) x [] (now (proof .entry)) (now (work .entry)) (now (work .exit)) (at + 1) r) ⌝ }
 {
     let acted = act(table, first, proof, at, work, n);
     match acted {
@@ -44,8 +44,8 @@ fn begin_leaf(table: &[u8], first: usize, proof: &[u8], at: usize, work: &mut [u
 
 // One step: the term that is next begins. Labels pass their one goal on as it is: only the outermost is tested.
 fn step(table: &[u8], first: usize, proof: &[u8], work: &mut [u8], n: Next) -> Turn
-    requires { ⌜ ((T : Table) × (x : Aim) × TableStands (now table) first T × Begins (goalAct T) x [] (now proof) (now work) n) × Roomy (now proof) (now work) × Behind (now table) first (now work) ⌝ }
-    ensures { λ r. ⌜ ((T : Table) (x : Aim) → TableStands (now (table .entry)) first T → Begins (goalAct T) x [] (now (proof .entry)) (now (work .entry)) n → Steps (goalAct T) x [] (now (proof .entry)) (now (work .entry)) (now (work .exit)) (n .at + 1) r) ⌝ }
+    requires { ⌜ ((T : Table) × (x : Aim ℕ) × TableStands (now table) first T × Begins (goalAct T) x [] (now proof) (now work) n) × Roomy (now proof) (now work) × Behind (now table) first (now work) ⌝ }
+    ensures { λ r. ⌜ ((T : Table) (x : Aim ℕ) → TableStands (now (table .entry)) first T → Begins (goalAct T) x [] (now (proof .entry)) (now (work .entry)) n → Steps (goalAct T) x [] (now (proof .entry)) (now (work .entry)) (now (work .exit)) (n .at + 1) r) ⌝ }
 {
     if label_count_wrong(proof, n.at, n.count) {
         return Turn::Refused(34, n.at);

@@ -30,19 +30,19 @@ use Rattle.nodes.specs.NodeActs.{outOf, useFound, useNode, onNoNode, nodeAct}
 use Rattle.flattener.proofs.GrowthLaws.{Carry, Carry-None, Carry-Node, carry-take, carry-drop, carry-kept, carry-length, Grows, grows}
 
 -- what the two walks come to, where the nodes come to x; no walk is refused with a number below 20
-unfoldable pub Agrees : NodeWalk → Result (List Goal) → Result Out → Type 0
+unfoldable pub Agrees : NodeWalk → Result (List Goal) → Result (Out Cell) → Type 0
 Agrees x (gives h) r = r ≡ gives (outOf x)
 Agrees x (refused c p) r = (r ≡ refused c p) × (20 ≤ number c)
 
 -- one walk after another: a refusal of the first stands, and the second goes on with what the first gives
-then-agrees : (x y : NodeWalk) (a : Result (List Goal)) (r : Result Out) → Agrees x a r
-    → (next : List Goal → Result (List Goal)) (more : Out → Result Out) → ((h : List Goal) → a ≡ gives h → Agrees y (next h) (more (outOf x))) → Agrees y (andThen a next) (andThen r more)
+then-agrees : (x y : NodeWalk) (a : Result (List Goal)) (r : Result (Out Cell)) → Agrees x a r
+    → (next : List Goal → Result (List Goal)) (more : Out Cell → Result (Out Cell)) → ((h : List Goal) → a ≡ gives h → Agrees y (next h) (more (outOf x))) → Agrees y (andThen a next) (andThen r more)
 unfolding Agrees andThen
-then-agrees x y (gives h) r e next more k = subst (λ (z : Result Out). Agrees y (next h) (andThen z more)) (sym e) (k h refl)
-then-agrees x y (refused c p) r e next more k = subst (λ (z : Result Out). (andThen z more ≡ refused c p) × (20 ≤ number c)) (sym (e .0)) (refl, e .1)
+then-agrees x y (gives h) r e next more k = subst (λ (z : Result (Out Cell)). Agrees y (next h) (andThen z more)) (sym e) (k h refl)
+then-agrees x y (refused c p) r e next more k = subst (λ (z : Result (Out Cell)). (andThen z more ≡ refused c p) × (20 ≤ number c)) (sym (e .0)) (refl, e .1)
 
 -- a test that refuses
-test-agrees : (x : NodeWalk) (b : Bool) (c : Cause) (p : ℕ) (a : Result (List Goal)) (r : Result Out) → 20 ≤ number c → (b ≡ false → Agrees x a r) → Agrees x (cond b (refused c p) a) (cond b (refused c p) r)
+test-agrees : (x : NodeWalk) (b : Bool) (c : Cause) (p : ℕ) (a : Result (List Goal)) (r : Result (Out Cell)) → 20 ≤ number c → (b ≡ false → Agrees x a r) → Agrees x (cond b (refused c p) a) (cond b (refused c p) r)
 unfolding Agrees
 test-agrees x true c p a r h k = (refl, h)
 test-agrees x false c p a r h k = k refl
@@ -55,12 +55,12 @@ joined-agrees p h k ns x e f =
     rw l (test-agrees (record { cells = x .cells; nodes = ns ++ x .nodes }) (ltb 256 (length (h ++ k))) joinedTooLong p (gives (h ++ k)) (gives (outOf (record { cells = x .cells; nodes = ns ++ x .nodes }))) (omega arith) (λ b. refl))
 
 -- what follows from how the walk over nodes ended
-pub agreed-refused : (x : NodeWalk) (a : Result (List Goal)) (r : Result Out) (c : Cause) (p : ℕ) → Agrees x a r → r ≡ refused c p → (a ≡ refused c p) × (20 ≤ number c)
+pub agreed-refused : (x : NodeWalk) (a : Result (List Goal)) (r : Result (Out Cell)) (c : Cause) (p : ℕ) → Agrees x a r → r ≡ refused c p → (a ≡ refused c p) × (20 ≤ number c)
 unfolding Agrees
 agreed-refused x (gives h) r c p k e = never-gives (sym e ∙ k)
 agreed-refused x (refused d q) r c p k e = let z = sym (k .0) ∙ e in (rw (same-cause z, same-place z), subst (λ (i : Cause). 20 ≤ number i) (same-cause z) (k .1))
 
-pub agreed-gives : (x : NodeWalk) (a : Result (List Goal)) (r : Result Out) (o : Out) → Agrees x a r → r ≡ gives o → (h : List Goal) × (a ≡ gives h) × (o ≡ outOf x)
+pub agreed-gives : (x : NodeWalk) (a : Result (List Goal)) (r : Result (Out Cell)) (o : Out Cell) → Agrees x a r → r ≡ gives o → (h : List Goal) × (a ≡ gives h) × (o ≡ outOf x)
 unfolding Agrees
 agreed-gives x (gives h) r o k e = (h, refl, same-value (sym e ∙ k))
 agreed-gives x (refused d q) r o k e = never-gives (sym (k .0) ∙ e)

@@ -126,7 +126,7 @@ module _ (T : Table) (p : Proof) (table : List ℕ) (first : ℕ) (s : List ℕ)
 
   -- ---- the walk begins
 
-  abbrev pub aim : Aim
+  abbrev pub aim : Aim Cell
   aim = aimOf (nodeAct T) (p .term) (q .term) (cellsOf w goals) (valuesAt w (top q) goals) (standing s p (x .reads) .few-fields)
 
   abbrev walkedNodes : NodeWalk
@@ -139,7 +139,7 @@ module _ (T : Table) (p : Proof) (table : List ℕ) (first : ℕ) (s : List ℕ)
   agreed =
       let e = agrees T (x .ready .few) (p .term) (termPlace p) (map openCell (p .goals)) (range 0 (length (p .goals))) (p .goals)
       (omega (arith, length-map (p .goals) openCell, goals-are, sizes .goals, atomics-fields (p .term), standing s p (x .reads) .few-fields)) first-carry in
-      subst (λ (y : Result Out). Agrees walkedNodes (walk T (p .term) (termPlace p) (p .goals)) y)
+      subst (λ (y : Result (Out Cell)). Agrees walkedNodes (walk T (p .term) (termPlace p) (p .goals)) y)
       (sym (λ i. walkOf (nodeAct T) (p .term) (term-is i) (cells-first i) (nodes-first i))) e
 
   pub begins : Begins (nodeAct T) aim (cellsOf w goals) s w (startOf (q .term) goals)
@@ -184,8 +184,8 @@ module _ (T : Table) (p : Proof) (table : List ℕ) (first : ℕ) (s : List ℕ)
       gave =
           let z = subst (Ends aim s w₃) t ends in
           let (h, e, o) = agreed-gives walkedNodes (walk T (p .term) (termPlace p) (p .goals)) (aim .result) _ agreed (z .0) in
-          let c : cellsOf w₃ nodes ≡ forestCells T p = ap (λ (y : Out). y .cells) o in
-          let v : valuesAt w₃ 0 given ≡ walkedNodes .nodes = ap (λ (y : Out). y .values) o in
+          let c : cellsOf w₃ nodes ≡ forestCells T p = ap (λ (y : Out Cell). y .made) o in
+          let v : valuesAt w₃ 0 given ≡ walkedNodes .nodes = ap (λ (y : Out Cell). y .values) o in
           let g = grows T (walk→validates T (Finds T) (finds-agrees T) (p .term) (termPlace p) (p .goals) e) (map openCell (p .goals)) first-carry in
           let d = carried w₃ nodes (subst (λ (A : List Cell). Carry A (valuesAt w₃ 0 given) h) (sym c) (subst (λ (ns : List ℕ). Carry (forestCells T p) ns h) (sym v) (g .carry))) in
           let m = walked-cells T (x .ready .few) (p .term) (termPlace p) (map openCell (p .goals)) first-carry e in

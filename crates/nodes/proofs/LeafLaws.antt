@@ -44,7 +44,7 @@ use Rattle.nodes.proofs.CellLaws.{goal-in, length-cells, cell-of, cells
 
 -- ---- another number of nodes
 
-not-one : (p : ℕ) (next : ℕ → Result Out) (ns : List ℕ) → (length ns ≡ 1 → ⊥) → onOneValue p next ns ≡ refused goalCountWrong p
+not-one : (p : ℕ) (next : ℕ → Result (Out Cell)) (ns : List ℕ) → (length ns ≡ 1 → ⊥) → onOneValue p next ns ≡ refused goalCountWrong p
 unfolding onOneValue
 not-one p next [] z = refl
 not-one p next (n ∷ []) z = absurd (z refl)

@@ -46,11 +46,11 @@ indexed-still table first w w′ e k ix = (
 )
 
 -- the next term is behind an earlier place too
-pub goes-later : (T : Table) (x : Aim) (s w w′ : List ℕ) (at at′ : ℕ) (r : Stepped) → at′ ≤ at → Goes T x s w w′ at r → Goes T x s w w′ at′ r
+pub goes-later : (T : Table) (x : Aim Cell) (s w w′ : List ℕ) (at at′ : ℕ) (r : Stepped) → at′ ≤ at → Goes T x s w w′ at r → Goes T x s w w′ at′ r
 goes-later T x s w w′ at at′ r h g = record { turned = turned-later (nodeAct T) x (cellsOf w′ (r .next)) s w′ at at′ (r .turn) h (g .turned); index-kept = g .index-kept }
 
 -- a term that gave: an atomic has two bytes behind its header, id and empty none
-size-of : (T : Table) (t : Term) (at : ℕ) (A : List Cell) (ns : List ℕ) (o : Out) → nodeAct T t at A ns ≡ gives o → size t ≡ 3 + atomics t * 2
+size-of : (T : Table) (t : Term) (at : ℕ) (A : List Cell) (ns : List ℕ) (o : Out Cell) → nodeAct T t at A ns ≡ gives o → size t ≡ 3 + atomics t * 2
 unfolding nodeAct size atomics
 size-of T (atomic a) at A ns o e = refl
 size-of T id at A ns o e = refl
@@ -62,7 +62,7 @@ size-of T (alternation t u) at A ns o e = never-gives e
 size-of T (assert γ) at A ns o e = never-gives e
 size-of T (defined m) at A ns o e = never-gives e
 
-module _ (T : Table) (x : Aim) (table : List ℕ) (first : ℕ) (s w : List ℕ) (k : Walkable T x table first s w) where
+module _ (T : Table) (x : Aim Cell) (table : List ℕ) (first : ℕ) (s w : List ℕ) (k : Walkable T x table first s w) where
   pub roomy : Roomy s w
   roomy = record { file = k .file; space = omega (arith, k .space) }
 

@@ -9,6 +9,7 @@ use Rattle.format.specs.Refusals.{Cause, number, inputTooLong}
 use Rattle.format.specs.Results.{Result, refused}
 use Rattle.format.specs.Terms.{Term}
 use Rattle.tables.specs.Tables.{Table}
+use Rattle.hitac.proofs.Nodes.{Cell}
 use Rattle.input_arities.specs.Layout.{stackEnd}
 use Rattle.walks.specs.declared.state.Next.{Next}
 use Rattle.walks.specs.Layout.{indexEnd}
@@ -31,7 +32,7 @@ abbrev pub NodeRoom : List ℕ → Next → (next : ℕ) → Type 0
 NodeRoom w n next = n .count ≡ 1 → (word w (n .top) < next) × (next + 8 ≤ mostNodes)
 
 -- what the term comes to on its nodes, where so many cells are made
-abbrev pub actIn : Table → Term → (at : ℕ) → List ℕ → Next → (next : ℕ) → Result Out
+abbrev pub actIn : Table → Term → (at : ℕ) → List ℕ → Next → (next : ℕ) → Result (Out Cell)
 actIn T t at w n next = nodeAct T t at (cellsOf w next) (valuesAt w (n .top) (n .count))
 
 -- the walk does not end for want of a node or of room

@@ -9,6 +9,7 @@ use Rattle.format.specs.Results.{gives, refused}
 use Rattle.tables.specs.Tables.{Table}
 use Rattle.tables.specs.Standing.{TableStands}
 use Rattle.index.specs.Build.{RulesIndexed}
+use Rattle.hitac.proofs.Nodes.{Cell}
 use Rattle.input_arities.specs.Layout.{stackEnd, aritiesEnd}
 use Rattle.walks.specs.Layout.{indexEnd}
 use Rattle.walks.specs.Values.{valuesAt}
@@ -21,7 +22,7 @@ use Rattle.nodes.specs.Space.{cellsEnd, cellsOf}
 use Rattle.nodes.specs.NodeActs.{nodeAct}
 
 -- the table stands with its rules indexed, and the whole walk is refused for no cause but those of a walk
-pub record Walkable (T : Table) (x : Aim) (table : List ℕ) (first : ℕ) (s w : List ℕ) : Type 0 where
+pub record Walkable (T : Table) (x : Aim Cell) (table : List ℕ) (first : ℕ) (s w : List ℕ) : Type 0 where
   pub table-stands : TableStands table first T
   pub indexed : RulesIndexed table first w aritiesEnd
   pub sound : (c : Cause) (p : ℕ) → x .result ≡ refused c p → 20 ≤ number c
@@ -29,11 +30,11 @@ pub record Walkable (T : Table) (x : Aim) (table : List ℕ) (first : ℕ) (s w 
   pub space : cellsEnd ≤ length w
 
 -- a step that left the index as it was
-pub record Goes (T : Table) (x : Aim) (s w w′ : List ℕ) (at : ℕ) (r : Stepped) : Type 0 where
+pub record Goes (T : Table) (x : Aim Cell) (s w w′ : List ℕ) (at : ℕ) (r : Stepped) : Type 0 where
   pub turned : Turned (nodeAct T) x (cellsOf w′ (r .next)) s w′ at (r .turn)
   pub index-kept : (i : ℕ) → aritiesEnd ≤ i → i < indexEnd → getD w′ i 0 ≡ getD w i 0
 
 -- how the whole walk ended in the work space w
-unfoldable pub Ends : Aim → List ℕ → List ℕ → Walked → Type 0
+unfoldable pub Ends : Aim Cell → List ℕ → List ℕ → Walked → Type 0
 Ends x s w (W.Refused k p) = (c : Cause) × (number c ≡ k) × (x .result ≡ refused c p) × (p ≤ length s)
 Ends x s w (W.Gives given uses nodes) = (x .result ≡ gives (out (cellsOf w nodes) (valuesAt w 0 given))) × (uses ≡ x .uses) × (given * 2 ≤ stackEnd)

@@ -1,6 +1,7 @@
 // The walk of a hiproof over nodes as one loop, with the checker's refusals: each goal occurrence is a node, and an atomic makes its node a use.
 ghost use Prim.Native.Nat.{_+_, _≤_};
 ghost use Rattle.tables.specs.Tables.{Table};
+ghost use Rattle.hitac.proofs.Nodes.{Cell};
 ghost use Rattle.walks.specs.Loops.{Aim, Begins, placed, startOf, Leaf};
 ghost use Rattle.nodes.specs.Space.{cellsOf};
 ghost use Rattle.nodes.specs.NodeActs.{nodeAct};
@@ -38,8 +39,8 @@ fn begin_leaf(
     n: Next,
     next: usize,
 ) -> Stepped
-    requires { ⌜ ((T : Table) × (x : Aim) × Walkable T x (now table) first (now proof) (now work) × Begins (nodeAct T) x (cellsOf (now work) next) (now proof) (now work) (placed n at)) × Leaf (now proof) at ⌝ }
-    ensures { λ r. ⌜ ((T : Table) (x : Aim) → Walkable T x (now (table .entry)) first (now (proof .entry)) (now (work .entry)) → Begins (nodeAct T) x (cellsOf (now (work .entry)) next) (now (proof .entry)) (now (work .entry)) (placed n at) → Leaf (now (proof .entry)) at → Goes T x (now (proof .entry)) (now (work .entry)) (now (work .exit)) (at + 1) r) ⌝ }
+    requires { ⌜ ((T : Table) × (x : Aim Cell) × Walkable T x (now table) first (now proof) (now work) × Begins (nodeAct T) x (cellsOf (now work) next) (now proof) (now work) (placed n at)) × Leaf (now proof) at ⌝ }
+    ensures { λ r. ⌜ ((T : Table) (x : Aim Cell) → Walkable T x (now (table .entry)) first (now (proof .entry)) (now (work .entry)) → Begins (nodeAct T) x (cellsOf (now (work .entry)) next) (now (proof .entry)) (now (work .entry)) (placed n at) → Leaf (now (proof .entry)) at → Goes T x (now (proof .entry)) (now (work .entry)) (now (work .exit)) (at + 1) r) ⌝ }
 {
     let taken = act(table, first, proof, at, work, n, next);
     match taken {
@@ -58,8 +59,8 @@ fn begin_leaf(
 
 // One step: the term that is next begins. Labels pass their one node on as it is: only the outermost is tested.
 fn step(table: &[u8], first: usize, proof: &[u8], work: &mut [u8], n: Next, next: usize) -> Stepped
-    requires { ⌜ ((T : Table) × (x : Aim) × Walkable T x (now table) first (now proof) (now work) × Begins (nodeAct T) x (cellsOf (now work) next) (now proof) (now work) n) ⌝ }
-    ensures { λ r. ⌜ ((T : Table) (x : Aim) → Walkable T x (now (table .entry)) first (now (proof .entry)) (now (work .entry)) → Begins (nodeAct T) x (cellsOf (now (work .entry)) next) (now (proof .entry)) (now (work .entry)) n → Goes T x (now (proof .entry)) (now (work .entry)) (now (work .exit)) (n .at + 1) r) ⌝ }
+    requires { ⌜ ((T : Table) × (x : Aim Cell) × Walkable T x (now table) first (now proof) (now work) × Begins (nodeAct T) x (cellsOf (now work) next) (now proof) (now work) n) ⌝ }
+    ensures { λ r. ⌜ ((T : Table) (x : Aim Cell) → Walkable T x (now (table .entry)) first (now (proof .entry)) (now (work .entry)) → Begins (nodeAct T) x (cellsOf (now (work .entry)) next) (now (proof .entry)) (now (work .entry)) n → Goes T x (now (proof .entry)) (now (work .entry)) (now (work .exit)) (n .at + 1) r) ⌝ }
 {
     let place = n.at;
     if label_count_wrong(proof, place, n.count) {
@@ -90,8 +91,8 @@ pub fn walk(
     count: usize,
     work: &mut [u8],
 ) -> Walked
-    requires { ⌜ ((T : Table) × (x : Aim) × Walkable T x (now table) first (now proof) (now work) × Begins (nodeAct T) x (cellsOf (now work) count) (now proof) (now work) (startOf at count)) × (count ≤ 256) ⌝ }
-    ensures { λ r. ⌜ ((T : Table) (x : Aim) → Walkable T x (now (table .entry)) first (now (proof .entry)) (now (work .entry)) → Begins (nodeAct T) x (cellsOf (now (work .entry)) count) (now (proof .entry)) (now (work .entry)) (startOf at count) → Ends x (now (proof .entry)) (now (work .exit)) r) ⌝ }
+    requires { ⌜ ((T : Table) × (x : Aim Cell) × Walkable T x (now table) first (now proof) (now work) × Begins (nodeAct T) x (cellsOf (now work) count) (now proof) (now work) (startOf at count)) × (count ≤ 256) ⌝ }
+    ensures { λ r. ⌜ ((T : Table) (x : Aim Cell) → Walkable T x (now (table .entry)) first (now (proof .entry)) (now (work .entry)) → Begins (nodeAct T) x (cellsOf (now (work .entry)) count) (now (proof .entry)) (now (work .entry)) (startOf at count) → Ends x (now (proof .entry)) (now (work .exit)) r) ⌝ }
 {
     let mut n = start(at, count);
     let mut next = count;

@@ -19,7 +19,6 @@ use Rattle.format.specs.Standing.{Stands}
 use Rattle.format.proofs.StandsLaws.{known}
 use Rattle.format.proofs.ByTag.{by-tag}
 use Rattle.hitac.specs.Hiproofs.{inputArity, atomics}
-use Rattle.hitac.proofs.Nodes.{Cell}
 use Rattle.input_arities.specs.Layout.{stackEnd, framesEnd, aritiesEnd}
 use Rattle.input_arities.specs.Arities.{arities, Ahead}
 use Rattle.input_arities.proofs.ArityLaws.{ahead-kept, ahead-first}
@@ -62,7 +61,7 @@ pub record Fits (s w : List ℕ) (n : Next) : Type 0 where
   pub small : length s ≤ mostBytes
   pub space : aritiesEnd ≤ length w
 
-module _ (act : Act) (x : Aim) (A : List Cell) (s w : List ℕ) (n : Next) (z : Roomy s w) where
+module _ {C : Type 0} (act : Act C) (x : Aim C) (A : List C) (s w : List ℕ) (n : Next) (z : Roomy s w) where
   abbrev B : Term → List Waiting → Type 0
   B t f = BeginsWith act x A s w n t f
 
@@ -129,7 +128,7 @@ module _ (act : Act) (x : Aim) (A : List Cell) (s w : List ℕ) (n : Next) (z : 
     -- a tensor whose left term has its share of the values
     module _ (share : ℕ) (covered : share ≤ n .count) where
       split : (a c : Term) (at : ℕ) → share ≡ inputArity a
-          → walkOf act (tensor a c) at A (valuesAt w (n .top) (n .count)) ≡ andThen (walkOf act a (at + 3) A (valuesAt w (n .top) share)) (λ o. andThen (walkOf act c (at + 3 + size a) (o .cells) (valuesAt w (n .top + share * 2) (n .count - share))) (joinedValues at (o .values)))
+          → walkOf act (tensor a c) at A (valuesAt w (n .top) (n .count)) ≡ andThen (walkOf act a (at + 3) A (valuesAt w (n .top) share)) (λ o. andThen (walkOf act c (at + 3 + size a) (o .made) (valuesAt w (n .top + share * 2) (n .count - share))) (joinedValues at (o .values)))
       unfolding walkOf
       split a c at e = rw (length-values w (n .top) (n .count), ← e, le-ltb (n .count) share covered, take-values w (n .top) share (n .count) covered, drop-values w (n .top) share (n .count) covered)
 
@@ -141,7 +140,7 @@ module _ (act : Act) (x : Aim) (A : List Cell) (s w : List ℕ) (n : Next) (z : 
           record {
             same =
                 b .same ∙ ap (resumed act f) (split a c (n .at) (e ∙ y .0))
-                ∙ ap₂ (λ (g h : List ℕ). resumed act f (andThen (walkOf act a (n .at + 3) A g) (λ o. andThen (walkOf act c (n .at + 3 + size a) (o .cells) h) (joinedValues (n .at) (o .values)))))
+                ∙ ap₂ (λ (g h : List ℕ). resumed act f (andThen (walkOf act a (n .at + 3) A g) (λ o. andThen (walkOf act c (n .at + 3 + size a) (o .made) h) (joinedValues (n .at) (o .values)))))
                 (sym (values-kept (n .top) share (omega (arith, fit .ends)))) (sym (values-kept (n .top + share * 2) (n .count - share) (omega (arith, fit .ends))));
             stands = b .stands .1;
             ahead = ahead-still (n .arity + 2) (arities a (arities c (later f))) (y .1);

@@ -16,7 +16,6 @@ use Rattle.format.specs.Standing.{Stands}
 use Rattle.format.proofs.StandsLaws.{tagOf, known}
 use Rattle.format.proofs.ByTag.{by-tag}
 use Rattle.hitac.specs.Hiproofs.{atomics}
-use Rattle.hitac.proofs.Nodes.{Cell}
 use Rattle.input_arities.specs.Arities.{arities}
 use Rattle.walks.specs.Walks.{Act, onOneValue, walkOf}
 use Rattle.walks.specs.Labels.{bare, bareAt, labelCountWrong}
@@ -125,7 +124,7 @@ module _ (s : List ℕ) (at : ℕ) where
   count-of-other n count (defined n₁) st = refl
 
 -- the walk, with the number of values by which the code tests it
-module _ (act : Act) (A : List Cell) where
+module _ {C : Type 0} (act : Act C) (A : List C) where
   on-one : (n : ℕ) (t : Term) (at : ℕ) → walkOf act t at A (n ∷ []) ≡ walkOf act (bare t) (bareAt at t) A (n ∷ [])
   unfolding walkOf onOneValue
   on-one n t at = sym (inside-labels (λ i u. walkOf act u i A (n ∷ []) ≡ walkOf act t at A (n ∷ [])) (λ i l u e. by-label i l u e) t at refl)

@@ -16,7 +16,6 @@ use Rattle.format.specs.Terms.{Term, atomic, id, label, sequence, tensor, empty
 use Rattle.format.specs.Standing.{Stands}
 use Rattle.format.proofs.StandsLaws.{tagOf, known}
 use Rattle.hitac.specs.Hiproofs.{atomics}
-use Rattle.hitac.proofs.Nodes.{Cell}
 use Rattle.hitac.proofs.TermBounds.{atomics-fields}
 use Rattle.input_arities.specs.Layout.{stackEnd, framesEnd, aritiesEnd}
 use Rattle.input_arities.specs.Arities.{arities, Ahead}
@@ -48,7 +47,7 @@ no-arities (alternation t u) xs p q r = refl
 no-arities (assert γ) xs p q r = refl
 no-arities (defined n) xs p q r = refl
 
-module _ (act : Act) (x : Aim) (A : List Cell) (s w : List ℕ) (n : Next) where
+module _ {C : Type 0} (act : Act C) (x : Aim C) (A : List C) (s w : List ℕ) (n : Next) where
   -- ---- the term inside the labels begins in its place
 
   bare-with : (t : Term) (f : List Waiting) → labelCountWrong t (n .count) ≡ false → BeginsWith act x A s w n t f → BeginsWith act x A s w (placed n (bareAt (n .at) t)) (bare t) f
@@ -106,7 +105,7 @@ module _ (act : Act) (x : Aim) (A : List Cell) (s w : List ℕ) (n : Next) where
   pub leaf-refused : (b : Begins act x A s w n) → Leaf s (n .at) → (c : Cause) (k p : ℕ) → number c ≡ k → p ≤ length s → act (b .0) (n .at) A (valuesAt w (n .top) (n .count)) ≡ refused c p → (w′ : List ℕ) (at : ℕ) → Turned act x A s w′ at (U.Refused k p)
   leaf-refused b l c k p m h e w′ at = refused-with (b .0) (b .1) c k p m h (b .2) (leaf-acts (b .0) _ (b .2 .stands) l ∙ e) w′ at
 
-  gave-with : (t : Term) (f : List Waiting) → BeginsWith act x A s w n t f → Leaf s (n .at) → (A′ : List Cell) (w′ : List ℕ) (k u : ℕ) → Acted act A A′ w w′ n t k u → (at : ℕ) → n .at + size t ≡ at
+  gave-with : (t : Term) (f : List Waiting) → BeginsWith act x A s w n t f → Leaf s (n .at) → (A′ : List C) (w′ : List ℕ) (k u : ℕ) → Acted act A A′ w w′ n t k u → (at : ℕ) → n .at + size t ≡ at
       → GaveWith act x A′ s w′ at (n .low) k (n .top + n .count * 2) (n .frames) (n .arity) (n .uses + u) f
   gave-with t f b l A′ w′ k u a at e = record {
     same = b .same ∙ ap (resumed act f) (leaf-acts t _ (b .stands) l ∙ a .comes);
@@ -120,7 +119,7 @@ module _ (act : Act) (x : Aim) (A : List Cell) (s w : List ℕ) (n : Next) where
   }
 
   -- the term gave, and its uses are few
-  pub leaf-gave : (b : Begins act x A s w n) → Leaf s (n .at) → (A′ : List Cell) (w′ : List ℕ) (k u : ℕ) → Acted act A A′ w w′ n (b .0) k u → (at : ℕ) → n .at + size (b .0) ≡ at
+  pub leaf-gave : (b : Begins act x A s w n) → Leaf s (n .at) → (A′ : List C) (w′ : List ℕ) (k u : ℕ) → Acted act A A′ w w′ n (b .0) k u → (at : ℕ) → n .at + size (b .0) ≡ at
       → Gave act x A′ s w′ at (n .low) k (n .top + n .count * 2) (n .frames) (n .arity) (n .uses + u) × (n .uses + u ≤ mostBytes)
   leaf-gave b l A′ w′ k u a at e = ((b .1, gave-with (b .0) (b .1) (b .2) l A′ w′ k u a at e), omega (arith, b .2 .counted, x .few, a .used-is))
 
@@ -146,7 +145,7 @@ module _ (act : Act) (x : Aim) (A : List Cell) (s w : List ℕ) (n : Next) where
 
 -- ---- a step of several parts
 
-module _ (act : Act) (x : Aim) (A : List Cell) (s : List ℕ) where
+module _ {C : Type 0} (act : Act C) (x : Aim C) (A : List C) (s : List ℕ) where
   -- the next term is behind an earlier place too
   pub turned-later : (w : List ℕ) (at at′ : ℕ) (r : Turn) → at′ ≤ at → Turned act x A s w at r → Turned act x A s w at′ r
   unfolding Turned
@@ -163,10 +162,10 @@ module _ (act : Act) (x : Aim) (A : List Cell) (s : List ℕ) where
 
 -- ---- the walk's start
 
-abbrev pub aimOf : Act → (t : Term) → (at : ℕ) → List Cell → List ℕ → fields t ≤ mostTermFields → Aim
+abbrev pub aimOf : {C : Type 0} → Act C → (t : Term) → (at : ℕ) → List C → List ℕ → fields t ≤ mostTermFields → Aim C
 aimOf act t at A ns h = record { result = walkOf act t at A ns; uses = atomics t; few = omega (arith, h, atomics-fields t) }
 
-pub begun : (act : Act) (A : List Cell) (s w : List ℕ) (t : Term) (at count : ℕ) (h : fields t ≤ mostTermFields) → Stands s at t → Ahead w framesEnd (arities t []) → count ≤ mostGoals
+pub begun : {C : Type 0} (act : Act C) (A : List C) (s w : List ℕ) (t : Term) (at count : ℕ) (h : fields t ≤ mostTermFields) → Stands s at t → Ahead w framesEnd (arities t []) → count ≤ mostGoals
     → Begins act (aimOf act t at A (valuesAt w (stackEnd - count * 2) count) h) A s w (startOf at count)
 unfolding resumed pending later weight Shown
 begun act A s w t at count h st y c =

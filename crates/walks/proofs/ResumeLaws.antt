@@ -16,7 +16,6 @@ use Rattle.format.specs.Limits.{mostJoined}
 use Rattle.format.specs.Refusals.{number, joinedTooLong}
 use Rattle.format.specs.Results.{gives, refused, andThen}
 use Rattle.format.specs.Terms.{Term, size}
-use Rattle.hitac.proofs.Nodes.{Cell}
 use Rattle.input_arities.specs.Layout.{stackEnd, framesEnd}
 use Rattle.input_arities.proofs.ArityLaws.{ahead-kept}
 use Rattle.walks.specs.declared.state.Next.{Next}
@@ -42,7 +41,7 @@ pub record Bounds (w : List ℕ) (frames low end : ℕ) : Type 0 where
   pub rest : word w (frames - 4 + 2) < began → (end ≤ word w (frames - 4 + 2)) × (word w (frames - 4 + 2) ≤ stackEnd)
   pub first : began ≤ word w (frames - 4 + 2) → word w (frames - 4 + 2) ≤ began + low
 
-module _ (act : Act) (x : Aim) (A : List Cell) (s w : List ℕ) (at low given end frames arity uses : ℕ) where
+module _ {C : Type 0} (act : Act C) (x : Aim C) (A : List C) (s w : List ℕ) (at low given end frames arity uses : ℕ) where
   abbrev G : List Waiting → Type 0
   G f = GaveWith act x A s w at low given end frames arity uses f
 

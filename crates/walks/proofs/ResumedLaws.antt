@@ -11,7 +11,7 @@ use Rattle.format.specs.Terms.{Term, atomic, id, label, sequence, tensor, empty
 use Rattle.walks.specs.Walks.{Act}
 use Rattle.walks.specs.Waiting.{Waiting, sequenceLeft, tensorLeft, tensorRight, resumed, weight}
 
-pub resumed-refused : (act : Act) (f : List Waiting) (c : Cause) (p : ℕ) → resumed act f (refused c p) ≡ refused c p
+pub resumed-refused : {C : Type 0} (act : Act C) (f : List Waiting) (c : Cause) (p : ℕ) → resumed act f (refused c p) ≡ refused c p
 unfolding resumed andThen
 resumed-refused act [] c p = refl
 resumed-refused act (sequenceLeft u r ∷ f) c p = resumed-refused act f c p

@@ -1,4 +1,4 @@
--- Where a walk stands: the whole walk comes to what the terms that wait make of the current term's walk. The cells made so far are passed on as they are; where they lie is the flattener's own.
+-- Where a walk stands: the whole walk comes to what the terms that wait make of the current term's walk. What was made so far is passed on as it is; where it lies is for each user of the walk to say.
 use Prim.Native.Nat.{ℕ, _+_, _*_, _-_, _≤_}
 use mathlib.Core.Path.{_≡_}
 use mathlib.Core.List.{List}
@@ -10,7 +10,6 @@ use Rattle.format.specs.Results.{Result, gives, refused}
 use Rattle.format.specs.Terms.{Term, size, fields}
 use Rattle.format.specs.Standing.{Stands}
 use Rattle.hitac.specs.Hiproofs.{atomics}
-use Rattle.hitac.proofs.Nodes.{Cell}
 use Rattle.input_arities.specs.Layout.{stackEnd, framesEnd, aritiesEnd}
 use Rattle.input_arities.specs.Arities.{arities, Ahead}
 use Rattle.walks.specs.declared.state.Next.{Next}
@@ -22,8 +21,8 @@ use Rattle.walks.specs.Waiting.{Waiting, resumed, pending, later, weight
 use Rattle.walks.specs.Shows.{Shown}
 
 -- what the whole walk is to come to, and its atomic fields
-pub record Aim : Type 0 where
-  pub result : Result Out
+pub record Aim (C : Type 0) : Type 0 where
+  pub result : Result (Out C)
   pub uses : ℕ
   pub few : uses ≤ mostBytes
 
@@ -33,7 +32,7 @@ pub record Roomy (s w : List ℕ) : Type 0 where
   pub space : aritiesEnd ≤ length w
 
 -- a term is to begin, and those terms wait
-pub record BeginsWith (act : Act) (x : Aim) (A : List Cell) (s w : List ℕ) (n : Next) (t : Term) (f : List Waiting) : Type 0 where
+pub record BeginsWith {C : Type 0} (act : Act C) (x : Aim C) (A : List C) (s w : List ℕ) (n : Next) (t : Term) (f : List Waiting) : Type 0 where
   pub same : x .result ≡ resumed act f (walkOf act t (n .at) A (valuesAt w (n .top) (n .count)))
   pub stands : Stands s (n .at) t
   pub ahead : Ahead w (n .arity) (arities t (later f))
@@ -43,11 +42,11 @@ pub record BeginsWith (act : Act) (x : Aim) (A : List Cell) (s w : List ℕ) (n 
   pub counted : n .uses + (atomics t + pending f) ≡ x .uses
   pub depth : weight f + fields t ≤ mostTermFields
 
-abbrev pub Begins : Act → Aim → List Cell → List ℕ → List ℕ → Next → Type 0
+abbrev pub Begins : {C : Type 0} → Act C → Aim C → List C → List ℕ → List ℕ → Next → Type 0
 Begins act x A s w n = (t : Term) × (f : List Waiting) × BeginsWith act x A s w n t f
 
 -- a term that ends at the place `at` took the values before `end` and gave so many from `low` on, and those terms wait
-pub record GaveWith (act : Act) (x : Aim) (A : List Cell) (s w : List ℕ) (at low given end frames arity uses : ℕ) (f : List Waiting) : Type 0 where
+pub record GaveWith {C : Type 0} (act : Act C) (x : Aim C) (A : List C) (s w : List ℕ) (at low given end frames arity uses : ℕ) (f : List Waiting) : Type 0 where
   pub same : x .result ≡ resumed act f (gives (out A (valuesAt w low given)))
   pub ahead : Ahead w arity (later f)
   pub room : low + given * 2 + 14 * pending f ≤ end
@@ -56,7 +55,7 @@ pub record GaveWith (act : Act) (x : Aim) (A : List Cell) (s w : List ℕ) (at l
   pub counted : uses + pending f ≡ x .uses
   pub depth : weight f + 1 ≤ mostTermFields
 
-abbrev pub Gave : Act → Aim → List Cell → List ℕ → List ℕ → (at low given end frames arity uses : ℕ) → Type 0
+abbrev pub Gave : {C : Type 0} → Act C → Aim C → List C → List ℕ → List ℕ → (at low given end frames arity uses : ℕ) → Type 0
 Gave act x A s w at low given end frames arity uses = (f : List Waiting) × GaveWith act x A s w at low given end frames arity uses f
 
 -- the term at another place is to begin, with all else the same: how a term is named without the labels around it
@@ -75,20 +74,20 @@ startOf at count = record { at = at; count = count; low = 0; top = stackEnd - co
 abbrev pub Leaf : List ℕ → (at : ℕ) → Type 0
 Leaf s at = (getD s at 0 ≡ 18 → ⊥) × (getD s at 0 ≡ 19 → ⊥) × (getD s at 0 ≡ 20 → ⊥)
 
--- A term acted in a work space w, with the cells A, and left w′ and A′: so many values given, at most seven more than taken for an atomic, and so many uses.
-pub record Acted (act : Act) (A A′ : List Cell) (w w′ : List ℕ) (n : Next) (t : Term) (given used : ℕ) : Type 0 where
+-- A term acted in a work space w, with A made so far, and left w′ and A′: so many values given, at most seven more than taken for an atomic, and so many uses.
+pub record Acted {C : Type 0} (act : Act C) (A A′ : List C) (w w′ : List ℕ) (n : Next) (t : Term) (given used : ℕ) : Type 0 where
   pub comes : act t (n .at) A (valuesAt w (n .top) (n .count)) ≡ gives (out A′ (valuesAt w′ (n .low) given))
   pub used-is : used ≡ atomics t
   pub few : given ≤ n .count + 7 * used
   pub kept : Kept w w′ (n .low) (n .top + n .count * 2)
 
 -- how a step ended that left the work space w: at the walk's end, or at the next term, which is not before the place `at`
-unfoldable pub Turned : Act → Aim → List Cell → List ℕ → List ℕ → (at : ℕ) → Turn → Type 0
+unfoldable pub Turned : {C : Type 0} → Act C → Aim C → List C → List ℕ → List ℕ → (at : ℕ) → Turn → Type 0
 Turned act x A s w at (U.Refused k p) = (c : Cause) × (number c ≡ k) × (x .result ≡ refused c p) × (p ≤ length s)
 Turned act x A s w at (U.Ended n uses) = (x .result ≡ gives (out A (valuesAt w 0 n))) × (uses ≡ x .uses) × (n * 2 ≤ stackEnd)
 Turned act x A s w at (U.Begin n) = Begins act x A s w n × (at ≤ n .at)
 
 -- a step that wrote on the stacks and the frames alone
-pub record Steps (act : Act) (x : Aim) (A : List Cell) (s w w′ : List ℕ) (at : ℕ) (r : Turn) : Type 0 where
+pub record Steps {C : Type 0} (act : Act C) (x : Aim C) (A : List C) (s w w′ : List ℕ) (at : ℕ) (r : Turn) : Type 0 where
   pub turned : Turned act x A s w′ at r
   pub kept : Kept w w′ 0 framesEnd

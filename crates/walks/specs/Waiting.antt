@@ -14,10 +14,10 @@ pub data Waiting : Type 0 where
   tensorRight : (place : ℕ) (gave : List ℕ) → Waiting
 
 -- what the whole walk comes to, from what the current term comes to
-unfoldable pub resumed : Act → List Waiting → Result Out → Result Out
+unfoldable pub resumed : {C : Type 0} → Act C → List Waiting → Result (Out C) → Result (Out C)
 resumed act [] r = r
-resumed act (sequenceLeft u p ∷ f) r = resumed act f (andThen r (λ o. walkOf act u p (o .cells) (o .values)))
-resumed act (tensorLeft q u p g ∷ f) r = resumed act f (andThen r (λ o. andThen (walkOf act u p (o .cells) g) (joinedValues q (o .values))))
+resumed act (sequenceLeft u p ∷ f) r = resumed act f (andThen r (λ o. walkOf act u p (o .made) (o .values)))
+resumed act (tensorLeft q u p g ∷ f) r = resumed act f (andThen r (λ o. andThen (walkOf act u p (o .made) g) (joinedValues q (o .values))))
 resumed act (tensorRight q h ∷ f) r = resumed act f (andThen r (joinedValues q h))
 
 -- the atomic fields that are still to begin in the terms that wait

@@ -8,6 +8,7 @@ use denote.Ref.{now}
 use Rattle.format.proofs.StandsLaws.{Known, known}
 use Rattle.tables.specs.Tables.{Table}
 use Rattle.tables.specs.Standing.{TableStands}
+use Rattle.walks.specs.Made.{overGoals}
 use Rattle.walks.specs.Loops.{Aim, Roomy, Begins, placed}
 use Rattle.checker.specs.Acts.{goalAct, Acts}
 use Rattle.checker.proofs.StepLaws.{leaf-ready, leaf-stops, leaf-gave, leaf-resumed}
@@ -20,7 +21,7 @@ use Rattle.walks.proofs.waiting.resume.Reads as resume-reads
 use Rattle.words.proofs.load16.Reads as load16-reads
 
 -- a term that begins here
-abbrev BeginsAt : tie.Start → Table → Aim → Type 0
+abbrev BeginsAt : tie.Start → Table → Aim ℕ → Type 0
 BeginsAt i T x = Begins (goalAct T) x [] (now (i .args .proof)) (now (i .args .work)) (placed (i .args .n) (i .args .at))
 
 whole : (i : tie.Start) → BeginsAt i (i .pre .0 .0) (i .pre .0 .1)
@@ -39,7 +40,7 @@ entry a = a .before .before .before .before .before
 abbrev left : Acted → List ℕ
 left a = a .act .last .1 .1 .1 .1 .0
 
-acts : (a : Acted) (T : Table) (x : Aim) → TableStands (now (entry a .args .table)) (entry a .args .first) T → (b : BeginsAt (entry a) T x)
+acts : (a : Acted) (T : Table) (x : Aim ℕ) → TableStands (now (entry a .args .table)) (entry a .args .first) T → (b : BeginsAt (entry a) T x)
     → Acts T (b .0) (entry a .args .at) (now (entry a .args .work)) (left a) (entry a .args .n) (a .act .result)
 acts a T x tst b = let i = entry a in a .act .ensures T (b .0) tst (leaf-ready T x _ _ (i .args .n) _ b (i .pre .2) (i .pre .1 .space))
 
@@ -85,7 +86,7 @@ resume-requires c κs =
     let i = entry a in
     let T = i .pre .0 .0 in
     let x = i .pre .0 .1 in
-    ((goalAct T, x, [], leaf-gave T x _ _ (i .args .n) _ (whole i) (i .pre .2) _ _ _ _ (c .before .before .before .before .acted2 .given .1) (acts a T x (i .pre .0 .2) (whole i)) (i .args .at + 3 + c .before .before .load16 .result) (omega (arith, head i .length-is, c .before .before .load16 .ensures)) .0), roomy a)
+    ((overGoals, goalAct T, x, [], leaf-gave T x _ _ (i .args .n) _ (whole i) (i .pre .2) _ _ _ _ (c .before .before .before .before .acted2 .given .1) (acts a T x (i .pre .0 .2) (whole i)) (i .args .at + 3 + c .before .before .load16 .result) (omega (arith, head i .length-is, c .before .before .load16 .ensures)) .0), roomy a)
 
 same-length : tie.Need-same-length
 same-length c = search needs
@@ -103,7 +104,7 @@ returns-2 : tie.Need-returns-2
 returns-2 c =
     let a = c .before .before .before .before .before .before .before .before .before .before .before in
     let i = entry a in
-    λ T x tst b. leaf-resumed T x _ _ (i .args .n) _ b (i .pre .2) _ _ _ _ (c .before .before .before .before .before .before .before .acted2 .given .1) (acts a T x tst b) _ (omega (arith, known _ _ _ (b .2 .stands) .length-is, c .before .before .before .before .before .load16 .ensures)) _ _ (λ g. c .before .before .resume .ensures (goalAct T) x [] g)
+    λ T x tst b. leaf-resumed T x _ _ (i .args .n) _ b (i .pre .2) _ _ _ _ (c .before .before .before .before .before .before .before .acted2 .given .1) (acts a T x tst b) _ (omega (arith, known _ _ _ (b .2 .stands) .length-is, c .before .before .before .before .before .load16 .ensures)) _ _ (λ g. c .before .before .resume .ensures overGoals (goalAct T) x [] g)
 
 pub begin-leaf-spec : {M : Type 1} → statement M
 begin-leaf-spec =

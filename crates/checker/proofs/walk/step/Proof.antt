@@ -3,13 +3,14 @@
 use borrow.Author.Needs.{needs}
 use mathlib.Core.Path.{_≡_, sym, _∙_}
 use mathlib.Core.List.{[]}
-use Prim.Native.Nat.{_≤_}
+use Prim.Native.Nat.{ℕ, _≤_}
 use native.Mathlib.Omega.{arith}
 use lib.ListN.{getD}
 use denote.Ref.{now}
 use Rattle.words.proofs.KeptLaws.{kept-same}
 use Rattle.format.proofs.StandsLaws.{known}
 use Rattle.tables.specs.Tables.{Table}
+use Rattle.walks.specs.Made.{overGoals}
 use Rattle.walks.specs.Loops.{Aim, Begins, placed}
 use Rattle.walks.proofs.LabelLaws.{bare-behind}
 use Rattle.walks.proofs.LeafLaws.{bare-begins, bare-no-label, label-stops, steps-after}
@@ -31,10 +32,10 @@ Bare = tie.After-unlabelled
 abbrev entry : Bare → tie.Start
 entry u = u .before .before .before .before .before .before
 
-abbrev BeginsAt : tie.Start → Table → Aim → Type 0
+abbrev BeginsAt : tie.Start → Table → Aim ℕ → Type 0
 BeginsAt i T x = Begins (goalAct T) x [] (now (i .args .proof)) (now (i .args .work)) (i .args .n)
 
-bared : (u : Bare) (T : Table) (x : Aim) → BeginsAt (entry u) T x → Begins (goalAct T) x [] (now (entry u .args .proof)) (now (entry u .args .work)) (placed (entry u .args .n) (u .unlabelled .result))
+bared : (u : Bare) (T : Table) (x : Aim ℕ) → BeginsAt (entry u) T x → Begins (goalAct T) x [] (now (entry u .args .proof)) (now (entry u .args .work)) (placed (entry u .args .n) (u .unlabelled .result))
 bared u T x b =
     bare-begins (goalAct T) x [] _ _ (entry u .args .n) b _ (u .unlabelled .ensures (b .0) (b .2 .stands))
     (sym (u .before .before .label-count-wrong .ensures (b .0) (b .2 .stands)) ∙ u .before .if1 .left)
@@ -67,7 +68,7 @@ begin-sequence-requires : tie.Need-begin-sequence-requires
 begin-sequence-requires c κs =
     let u = c .before .before .before in
     let i = entry u in
-    (goalAct (i .pre .0 .0), i .pre .0 .1, [], _, whole u, i .pre .1, c .before .if2 .taken)
+    (overGoals, goalAct (i .pre .0 .0), i .pre .0 .1, [], _, whole u, i .pre .1, c .before .if2 .taken)
 
 same-length : tie.Need-same-length
 same-length c = search needs
@@ -76,13 +77,13 @@ returns-2 : tie.Need-returns-2
 returns-2 c =
     let u = c .before .before .before .before .before .before in
     let i = entry u in
-    λ T x tst b. steps-after (goalAct T) x [] _ _ _ _ _ _ _ (omega (arith, behind u)) (kept-same _ _ _) (c .before .before .begin-sequence .ensures (goalAct T) x [] _ (bared u T x b) (i .pre .1) (c .before .before .before .before .if2 .taken))
+    λ T x tst b. steps-after (goalAct T) x [] _ _ _ _ _ _ _ (omega (arith, behind u)) (kept-same _ _ _) (c .before .before .begin-sequence .ensures overGoals (goalAct T) x [] _ (bared u T x b) (i .pre .1) (c .before .before .before .before .if2 .taken))
 
 begin-tensor-requires : tie.Need-begin-tensor-requires
 begin-tensor-requires c κs =
     let u = c .before .before .before .before in
     let i = entry u in
-    (goalAct (i .pre .0 .0), i .pre .0 .1, [], _, whole u, i .pre .1, c .before .if3 .taken)
+    (overGoals, goalAct (i .pre .0 .0), i .pre .0 .1, [], _, whole u, i .pre .1, c .before .if3 .taken)
 
 same-length-2 : tie.Need-same-length-2
 same-length-2 c = search needs
@@ -91,7 +92,7 @@ returns-3 : tie.Need-returns-3
 returns-3 c =
     let u = c .before .before .before .before .before .before .before in
     let i = entry u in
-    λ T x tst b. steps-after (goalAct T) x [] _ _ _ _ _ _ _ (omega (arith, behind u)) (kept-same _ _ _) (c .before .before .begin-tensor .ensures (goalAct T) x [] _ (bared u T x b) (i .pre .1) (c .before .before .before .before .if3 .taken))
+    λ T x tst b. steps-after (goalAct T) x [] _ _ _ _ _ _ _ (omega (arith, behind u)) (kept-same _ _ _) (c .before .before .begin-tensor .ensures overGoals (goalAct T) x [] _ (bared u T x b) (i .pre .1) (c .before .before .before .before .if3 .taken))
 
 begin-leaf-requires : tie.Need-begin-leaf-requires
 begin-leaf-requires c κs =

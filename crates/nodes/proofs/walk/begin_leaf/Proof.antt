@@ -9,6 +9,8 @@ use Rattle.format.specs.Terms.{Term}
 use Rattle.format.specs.Standing.{Stands}
 use Rattle.tables.specs.Tables.{Table}
 use Rattle.tables.specs.Standing.{TableStands}
+use Rattle.hitac.proofs.Nodes.{Cell}
+use Rattle.walks.specs.Made.{overNodes}
 use Rattle.walks.specs.Loops.{Aim, Begins, Gave, placed, Leaf}
 use Rattle.nodes.specs.declared.leaf.Taken.the-variants as A
 use Rattle.nodes.specs.Space.{cellsOf}
@@ -45,7 +47,7 @@ gives c T ts t st =
     subst (Takes T t (i .args .at) (now (i .args .work)) (a .ensures .0) (a .last .1 .1 .1 .1 .0) (i .args .n) (i .args .next)) (c .before .taken2 .given .1) (a .ensures .2 T t ts st)
 
 -- where the walk stands behind it
-module _ (c : tie.After-known-told2) (T : Table) (x : Aim) (k : let i = c .before .before .before .before .before .before .before .before .before .before in Walkable T x (now (i .args .table)) (i .args .first) (now (i .args .proof)) (now (i .args .work)))
+module _ (c : tie.After-known-told2) (T : Table) (x : Aim Cell) (k : let i = c .before .before .before .before .before .before .before .before .before .before in Walkable T x (now (i .args .table)) (i .args .first) (now (i .args .proof)) (now (i .args .work)))
     (b : let i = c .before .before .before .before .before .before .before .before .before .before in Begins (nodeAct T) x (cellsOf (now (i .args .work)) (i .args .next)) (now (i .args .proof)) (now (i .args .work)) (placed (i .args .n) (i .args .at)))
     (l : let i = c .before .before .before .before .before .before .before .before .before .before in Leaf (now (i .args .proof)) (i .args .at)) where
   abbrev place : ℕ
@@ -74,7 +76,7 @@ resume-requires : tie.Need-resume-requires
 resume-requires c κs =
     let (T, x, k, b) = (c .before .before .before .before .before .before .before .before .before .before .before .before) .pre .0 in
     let a = c .before .before .before .before .before .before .before .act in (
-      (nodeAct T, x, _, stands (c .before .before) T x k b ((c .before .before .before .before .before .before .before .before .before .before .before .before) .pre .1) .0),
+      (overNodes, nodeAct T, x, _, stands (c .before .before) T x k b ((c .before .before .before .before .before .before .before .before .before .before .before .before) .pre .1) .0),
       record { file = k .file; space = omega (arith, k .space, a .kept .1 .1 .1 .1 .0) },
     )
 
@@ -96,7 +98,7 @@ returns-2 c =
     let i = c .before .before .before .before .before .before .before .before .before .before .before .before .before .before .before in
     let d = c .before .before .before .before .before in
     λ T x k b l. gave-goes T x _ _ _ _ k _ (i .args .n) _ b l _ _ (c .before .before .before .before .before .before .before .before .before .before .act .ensures .1) _ _ _ (gives d T (k .table-stands)) _ _
-    (c .before .before .resume .ensures (nodeAct T) x _ (stands d T x k b l .0))
+    (c .before .before .resume .ensures overNodes (nodeAct T) x _ (stands d T x k b l .0))
 
 pub begin-leaf-spec : {M : Type 1} → statement M
 begin-leaf-spec =

@@ -7,6 +7,8 @@ use denote.Ref.{now}
 use borrow.Author.Needs.{needs}
 use Rattle.format.proofs.StandsLaws.{known}
 use Rattle.tables.specs.Tables.{Table}
+use Rattle.hitac.proofs.Nodes.{Cell}
+use Rattle.walks.specs.Made.{overNodes}
 use Rattle.walks.specs.Loops.{Aim, Begins, placed, Leaf}
 use Rattle.walks.proofs.LabelLaws.{bare-behind}
 use Rattle.walks.proofs.LeafLaws.{label-stops, bare-begins, bare-no-label}
@@ -17,7 +19,7 @@ use Rattle.nodes.proofs.walk.step.Statement.{statement}
 use Rattle.nodes.proofs.walk.step.Tie as tie
 
 -- where the walk stands
-abbrev Standing : tie.Start → Table → Aim → Type 0
+abbrev Standing : tie.Start → Table → Aim Cell → Type 0
 Standing i T x = Begins (nodeAct T) x (cellsOf (now (i .args .work)) (i .args .next)) (now (i .args .proof)) (now (i .args .work)) (i .args .n)
 
 label-count-wrong-requires : tie.Need-label-count-wrong-requires
@@ -31,7 +33,7 @@ unlabelled-requires : tie.Need-unlabelled-requires
 unlabelled-requires c κs = let b = (c .before .before .before .before .before) .pre .3 in (b .0, b .2 .stands)
 
 -- the term inside the labels is to begin in their place
-module _ (c : tie.After-unlabelled) (T : Table) (x : Aim) (b : Standing (c .before .before .before .before .before .before) T x) where
+module _ (c : tie.After-unlabelled) (T : Table) (x : Aim Cell) (b : Standing (c .before .before .before .before .before .before) T x) where
   bare : let i = c .before .before .before .before .before .before in Begins (nodeAct T) x (cellsOf (now (i .args .work)) (i .args .next)) (now (i .args .proof)) (now (i .args .work)) (placed (i .args .n) (c .unlabelled .result))
   bare = bare-begins (nodeAct T) x _ _ _ _ b _ (c .unlabelled .ensures (b .0) (b .2 .stands)) (sym (c .before .before .label-count-wrong .ensures (b .0) (b .2 .stands)) ∙ c .before .if1 .left)
 
@@ -47,7 +49,7 @@ shared-slice-read-tag c =
 begin-sequence-requires : tie.Need-begin-sequence-requires
 begin-sequence-requires c κs =
     let (T, x, k, b) = (c .before .before .before .before .before .before .before .before .before) .pre in
-    (nodeAct T, x, _, _, bare (c .before .before .before) T x b, roomy T x _ _ _ _ k, c .before .if2 .taken)
+    (overNodes, nodeAct T, x, _, _, bare (c .before .before .before) T x b, roomy T x _ _ _ _ k, c .before .if2 .taken)
 
 same-length : tie.Need-same-length
 same-length c = search needs
@@ -56,12 +58,12 @@ returns-2 : tie.Need-returns-2
 returns-2 c =
     let u = c .before .before .before .before .before .before in
     λ T x k b. steps-go T x _ _ _ _ k _ _ _ _ _ (omega (arith, later u T x b))
-    (c .before .before .begin-sequence .ensures (nodeAct T) x _ _ (bare u T x b) (roomy T x _ _ _ _ k) (c .before .before .before .before .if2 .taken))
+    (c .before .before .begin-sequence .ensures overNodes (nodeAct T) x _ _ (bare u T x b) (roomy T x _ _ _ _ k) (c .before .before .before .before .if2 .taken))
 
 begin-tensor-requires : tie.Need-begin-tensor-requires
 begin-tensor-requires c κs =
     let (T, x, k, b) = (c .before .before .before .before .before .before .before .before .before .before) .pre in
-    (nodeAct T, x, _, _, bare (c .before .before .before .before) T x b, roomy T x _ _ _ _ k, c .before .if3 .taken)
+    (overNodes, nodeAct T, x, _, _, bare (c .before .before .before .before) T x b, roomy T x _ _ _ _ k, c .before .if3 .taken)
 
 same-length-2 : tie.Need-same-length-2
 same-length-2 c = search needs
@@ -70,10 +72,10 @@ returns-3 : tie.Need-returns-3
 returns-3 c =
     let u = c .before .before .before .before .before .before .before in
     λ T x k b. steps-go T x _ _ _ _ k _ _ _ _ _ (omega (arith, later u T x b))
-    (c .before .before .begin-tensor .ensures (nodeAct T) x _ _ (bare u T x b) (roomy T x _ _ _ _ k) (c .before .before .before .before .if3 .taken))
+    (c .before .before .begin-tensor .ensures overNodes (nodeAct T) x _ _ (bare u T x b) (roomy T x _ _ _ _ k) (c .before .before .before .before .if3 .taken))
 
 -- it is none of the three
-leaf : (c : tie.Else3) (T : Table) (x : Aim) → Standing (c .before .before .before .before .before .before .before .before .before) T x → Leaf (now ((c .before .before .before .before .before .before .before .before .before) .args .proof)) (c .before .before .before .unlabelled .result)
+leaf : (c : tie.Else3) (T : Table) (x : Aim Cell) → Standing (c .before .before .before .before .before .before .before .before .before) T x → Leaf (now ((c .before .before .before .before .before .before .before .before .before) .args .proof)) (c .before .before .before .unlabelled .result)
 leaf c T x b = (bare-no-label (nodeAct T) x _ _ _ _ b _ (c .before .before .before .unlabelled .ensures (b .0) (b .2 .stands)), c .before .if2 .left, c .if3 .left)
 
 begin-leaf-requires : tie.Need-begin-leaf-requires

@@ -8,6 +8,7 @@ use denote.Ref.{now}
 use borrow.Author.Needs.{needs}
 use Rattle.format.proofs.StandsLaws.{known}
 use Rattle.tables.specs.Tables.{Table}
+use Rattle.hitac.proofs.Nodes.{Cell}
 use Rattle.walks.specs.declared.state.Turn.{Turn}
 use Rattle.walks.specs.declared.state.Turn.the-variants as U
 use Rattle.walks.specs.Loops.{Aim, Begins, startOf, Turned}
@@ -21,7 +22,7 @@ use Rattle.nodes.proofs.walk.walk.Tie as tie
 abbrev Inv-loop : tie.InvT-loop
 Inv-loop table first proof at count work₀ n₀ next₀ work n next =
     (length work ≡ length work₀)
-    × ((T : Table) (x : Aim) → Walkable T x table first proof work₀ → Begins (nodeAct T) x (cellsOf work₀ count) proof work₀ (startOf at count)
+    × ((T : Table) (x : Aim Cell) → Walkable T x table first proof work₀ → Begins (nodeAct T) x (cellsOf work₀ count) proof work₀ (startOf at count)
     → Walkable T x table first proof work × Begins (nodeAct T) x (cellsOf work next) proof work n)
 
 abbrev μ-loop : tie.MeasureT-loop
@@ -45,7 +46,7 @@ enum-known-turn : tie.Need-enum-known-turn Inv-loop μ-loop
 enum-known-turn c = search needs
 
 -- the step that was made
-module _ (c : tie.After-step Inv-loop μ-loop) (T : Table) (x : Aim) (k : let i = c .before .before .before .before .before .before .before in Walkable T x (now (i .args .table)) (i .args .first) (now (i .args .proof)) (now (i .args .work)))
+module _ (c : tie.After-step Inv-loop μ-loop) (T : Table) (x : Aim Cell) (k : let i = c .before .before .before .before .before .before .before in Walkable T x (now (i .args .table)) (i .args .first) (now (i .args .proof)) (now (i .args .work)))
     (b : let i = c .before .before .before .before .before .before .before in Begins (nodeAct T) x (cellsOf (now (i .args .work)) (i .args .count)) (now (i .args .proof)) (now (i .args .work)) (startOf (i .args .at) (i .args .count))) where
   abbrev loop : tie.At-loop Inv-loop μ-loop
   loop = c .before .before

@@ -14,8 +14,8 @@ use Rattle.walks.proofs.begin.begin_tensor.Lts as lts
 use Rattle.walks.proofs.waiting.push.Reads as push-reads
 use Rattle.words.proofs.load16.Reads as load16-reads
 
-fit : (i : tie.Start) → Fits (i .pre .3) (now (i .args .work)) (placed (i .args .n) (i .args .at)) × (i .args .n .arity + 2 ≤ aritiesEnd)
-fit i = tensor-fits _ _ _ _ _ _ (i .pre .5) (i .pre .4) (i .pre .6)
+fit : (i : tie.Start) → Fits (i .pre .4) (now (i .args .work)) (placed (i .args .n) (i .args .at)) × (i .args .n .arity + 2 ≤ aritiesEnd)
+fit i = tensor-fits _ _ _ _ _ _ (i .pre .6) (i .pre .5) (i .pre .7)
 
 load16-requires : tie.Need-load16-requires
 load16-requires c κs = let f = fit (c .before .before) in omega (arith, f .1, f .0 .space)
@@ -27,7 +27,7 @@ same-length : tie.Need-same-length
 same-length c = search needs
 
 returns : tie.Need-returns
-returns c = let i = c .before .before .before .before .before in λ act x A s b z e. tensor-few act x A s _ (placed (i .args .n) (i .args .at)) z b e _ (c .before .before .load16 .ensures) (omega (arith, c .if1 .taken))
+returns c = let i = c .before .before .before .before .before in λ k act x A s b z e. tensor-few act x A s _ (placed (i .args .n) (i .args .at)) z b e _ (c .before .before .load16 .ensures) (omega (arith, c .if1 .taken))
 
 mul-push : tie.Need-mul-push
 mul-push c = let f = fit (c .before .before .before .before .before .before .before) in omega (arith, f .0 .ends)
@@ -53,7 +53,7 @@ same-length-2 c = search needs
 returns-2 : tie.Need-returns-2
 returns-2 c =
     let i = c .before .before .before .before .before .before .before .before .before .before .before .before .before in
-    λ act x A s b z e. tensor-pushed act x A s _ (placed (i .args .n) (i .args .at)) z b e _ (c .before .before .before .before .before .before .before .before .before .before .load16 .ensures) (omega (arith, c .before .before .before .before .before .before .before .before .if1 .left)) _ (c .before .before .before .before .push .ensures)
+    λ k act x A s b z e. tensor-pushed act x A s _ (placed (i .args .n) (i .args .at)) z b e _ (c .before .before .before .before .before .before .before .before .before .before .load16 .ensures) (omega (arith, c .before .before .before .before .before .before .before .before .if1 .left)) _ (c .before .before .before .before .push .ensures)
 
 pub begin-tensor-spec : {M : Type 1} → statement M
 begin-tensor-spec =

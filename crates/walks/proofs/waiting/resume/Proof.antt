@@ -8,12 +8,12 @@ use lib.ListN.{length, getD}
 use denote.Ref.{now}
 use borrow.Author.Needs.{needs}
 use Rattle.words.specs.Word.{word}
-use Rattle.hitac.proofs.Nodes.{Cell}
 use Rattle.input_arities.specs.Layout.{stackEnd}
 use Rattle.walks.specs.declared.state.Turn.{Turn}
 use Rattle.walks.specs.declared.state.Turn.the-variants as U
 use Rattle.walks.specs.Layout.{began}
 use Rattle.walks.specs.Walks.{Act}
+use Rattle.walks.specs.Made.{Kind, Made}
 use Rattle.walks.specs.Loops.{Aim, Roomy, Gave, Steps}
 use Rattle.walks.proofs.ResumeLaws.{TopFrame, Bounds, top-of, bounds-of, ended, sequence-next, tensor-next, joined-over, joined-within}
 use Rattle.walks.proofs.waiting.resume.Statement.{statement}
@@ -29,7 +29,7 @@ use Rattle.words.proofs.store16.Reads as store16-reads
 abbrev Inv-loop : tie.InvT-loop
 Inv-loop proof work₀ n at given uses end start₀ count₀ last₀ work start count last =
     (work ≡ work₀)
-    × ((act : Act) (x : Aim) (A : List Cell) → Gave act x A proof work₀ at (n .low) given (n .top + n .count * 2) (n .frames) (n .arity) uses → Gave act x A proof work at start count (n .top + n .count * 2) last (n .arity) uses)
+    × ((k : Kind) (act : Act (Made k)) (x : Aim (Made k)) (A : List (Made k)) → Gave act x A proof work₀ at (n .low) given (n .top + n .count * 2) (n .frames) (n .arity) uses → Gave act x A proof work at start count (n .top + n .count * 2) last (n .arity) uses)
 
 abbrev μ-loop : tie.MeasureT-loop
 μ-loop proof work₀ n at given uses end start₀ count₀ last₀ work start count last = last
@@ -52,11 +52,11 @@ abbrev space : In → List ℕ
 space c = c .before .loop .work
 
 -- what is given now, of whatever was given at the start
-abbrev GivenAt : (c : In) → Act → Aim → List Cell → Type 0
-GivenAt c act x A = Gave act x A (file c) (space c) (start c .args .at) (c .before .loop .start) (c .before .loop .count) (ends (start c)) (c .before .loop .last) (start c .args .n .arity) (start c .args .uses)
+abbrev GivenAt : (c : In) (k : Kind) → Act (Made k) → Aim (Made k) → List (Made k) → Type 0
+GivenAt c k act x A = Gave act x A (file c) (space c) (start c .args .at) (c .before .loop .start) (c .before .loop .count) (ends (start c)) (c .before .loop .last) (start c .args .n .arity) (start c .args .uses)
 
-gave : (c : In) → GivenAt c (start c .pre .0 .0) (start c .pre .0 .1) (start c .pre .0 .2)
-gave c = c .before .loop .inv .1 (start c .pre .0 .0) (start c .pre .0 .1) (start c .pre .0 .2) (start c .pre .0 .3)
+gave : (c : In) → GivenAt c (start c .pre .0 .0) (start c .pre .0 .1) (start c .pre .0 .2) (start c .pre .0 .3)
+gave c = c .before .loop .inv .1 (start c .pre .0 .0) (start c .pre .0 .1) (start c .pre .0 .2) (start c .pre .0 .3) (start c .pre .0 .4)
 
 roomy : (c : In) → Roomy (file c) (space c)
 roomy c = subst (Roomy (file c)) (sym (c .before .loop .inv .0)) (start c .pre .1)
@@ -65,14 +65,14 @@ left : (c : In) → stackEnd < c .before .loop .last
 left c = omega (arith, c .loop-test .taken)
 
 top : (c : In) → TopFrame (file c) (space c) (c .before .loop .last)
-top c = top-of (start c .pre .0 .0) (start c .pre .0 .1) (start c .pre .0 .2) _ _ _ _ _ _ _ _ _ (gave c) (left c)
+top c = top-of (start c .pre .0 .1) (start c .pre .0 .2) (start c .pre .0 .3) _ _ _ _ _ _ _ _ _ (gave c) (left c)
 
 -- a step from the work space of the loop is one from that of the start
-from-start : (c : In) (act : Act) (x : Aim) (A : List Cell) (w′ : List ℕ) (r : Turn) → Steps act x A (file c) (space c) w′ (start c .args .at) r → Steps act x A (file c) (now (start c .args .work)) w′ (start c .args .at) r
+from-start : (c : In) {C : Type 0} (act : Act C) (x : Aim C) (A : List C) (w′ : List ℕ) (r : Turn) → Steps act x A (file c) (space c) w′ (start c .args .at) r → Steps act x A (file c) (now (start c .args .work)) w′ (start c .args .at) r
 from-start c act x A w′ r z = subst (λ (v : List ℕ). Steps act x A (file c) v w′ (start c .args .at) r) (c .before .loop .inv .0) z
 
 -- the same of a next term, as it was told
-told-next : (c : In) (act : Act) (x : Aim) (A : List Cell) (w′ : List ℕ) (r q : Turn) → r ≡ q → Steps act x A (file c) (space c) w′ (start c .args .at) q → Steps act x A (file c) (now (start c .args .work)) w′ (start c .args .at) r
+told-next : (c : In) {C : Type 0} (act : Act C) (x : Aim C) (A : List C) (w′ : List ℕ) (r q : Turn) → r ≡ q → Steps act x A (file c) (space c) w′ (start c .args .at) q → Steps act x A (file c) (now (start c .args .work)) w′ (start c .args .at) r
 told-next c act x A w′ r q e z = from-start c act x A w′ r (subst (Steps act x A (file c) (space c) w′ (start c .args .at)) (sym e) z)
 
 -- its place is read
@@ -96,16 +96,16 @@ abbrev read : Valued → Read
 read c = c .before .before .before .before
 
 bounds : (c : Valued) → Bounds (space (c .before .before .before .before .before .before)) (c .before .before .before .before .before .before .before .loop .last) (c .before .before .before .before .before .before .before .loop .start) (ends (start (c .before .before .before .before .before .before)))
-bounds c = let i = c .before .before .before .before .before .before in bounds-of (start i .pre .0 .0) (start i .pre .0 .1) (start i .pre .0 .2) _ _ _ _ _ _ _ _ _ (gave i) (left i) (other-tag (read c) (c .before .before .if1 .left))
+bounds c = let i = c .before .before .before .before .before .before in bounds-of (start i .pre .0 .1) (start i .pre .0 .2) (start i .pre .0 .3) _ _ _ _ _ _ _ _ _ (gave i) (left i) (other-tag (read c) (c .before .before .if1 .left))
 
 mul-end : tie.Need-mul-end Inv-loop μ-loop
-mul-end c = let i = c .before .before .before in omega (arith, i .pre .0 .3 .1 .below)
+mul-end c = let i = c .before .before .before in omega (arith, i .pre .0 .4 .1 .below)
 
 add-end : tie.Need-add-end Inv-loop μ-loop
-add-end c = let i = c .before .before .before .before in omega (arith, i .pre .0 .3 .1 .below)
+add-end c = let i = c .before .before .before .before in omega (arith, i .pre .0 .4 .1 .below)
 
 loop-holds : tie.Need-loop-holds Inv-loop μ-loop
-loop-holds c = (refl, λ act x A g. g)
+loop-holds c = (refl, λ k act x A g. g)
 
 sub-frame : tie.Need-sub-frame Inv-loop μ-loop
 sub-frame c = omega (arith, top c .four)
@@ -141,8 +141,8 @@ returns : tie.Need-returns Inv-loop μ-loop
 returns c =
     let r = c .before .before .before .before .before .before .before in
     let i = c .before .before .before .before .before .before .before .before .before in
-    λ act x A g.
-    let h = i .before .loop .inv .1 act x A g in
+    λ k act x A g.
+    let h = i .before .loop .inv .1 k act x A g in
     told-next i act x A _ _ _ (c .next-term .ensures)
     (sequence-next act x A _ _ _ _ _ _ _ _ _ _ _ (omega (arith, h .1 .room)) (c .before .before .before .raise .ensures) (omega (arith, roomy i .space)) h (left i) (frame-tag r 19 (c .before .before .before .before .before .if1 .taken)))
 
@@ -193,8 +193,8 @@ returns-2 : tie.Need-returns-2 Inv-loop μ-loop
 returns-2 c =
     let r = c .before .before .before .before .before .before .before .before .before .before in
     let i = c .before .before .before .before .before .before .before .before .before .before .before .before in
-    λ act x A g.
-    let h = i .before .loop .inv .1 act x A g in
+    λ k act x A g.
+    let h = i .before .loop .inv .1 k act x A g in
     told-next i act x A _ _ _ (c .next-term2 .ensures)
     (tensor-next act x A _ _ _ _ _ _ _ _ _ _ _ (c .before .before .before .before .before .before .load162 .ensures) (c .before .before .before .store16 .ensures) (omega (arith, roomy i .space)) h (left i) (other-tag r (c .before .before .before .before .before .before .before .before .if1 .left)) (omega (arith, c .before .before .before .before .before .if2 .taken)))
 
@@ -221,8 +221,8 @@ returns-3 : tie.Need-returns-3 Inv-loop μ-loop
 returns-3 c =
     let r = c .before .before .before .before .before .before in
     let i = c .before .before .before .before .before .before .before .before in
-    λ act x A g.
-    let h = i .before .loop .inv .1 act x A g in
+    λ k act x A g.
+    let h = i .before .loop .inv .1 k act x A g in
     from-start i act x A _ _
     (subst (λ (p : ℕ). Steps act x A (file i) (space i) (space i) (start i .args .at) (U.Refused 22 p)) (sym (r .load16 .ensures))
     (joined-over act x A _ _ _ _ _ _ _ _ _ (c .before .before .load162 .result - began) _ (omega (arith, c .before .before .load162 .ensures, first-bound (c .before) .0)) refl (left i) (other-tag r (c .before .before .before .before .if1 .left)) h (omega (arith, c .if3 .taken))))
@@ -234,7 +234,7 @@ loop-again : tie.Need-loop-again Inv-loop μ-loop
 loop-again c =
     let r = c .before .before .before .before .before .before in
     let i = c .before .before .before .before .before .before .before .before in
-    (i .before .loop .inv .0, λ act x A g. joined-within act x A _ _ _ _ _ _ _ _ _ _ _ (omega (arith, c .before .before .load162 .ensures, first-bound (c .before) .0)) refl (left i) (other-tag r (c .before .before .before .before .if1 .left)) (i .before .loop .inv .1 act x A g) (omega (arith, c .if3 .left)))
+    (i .before .loop .inv .0, λ k act x A g. joined-within act x A _ _ _ _ _ _ _ _ _ _ _ (omega (arith, c .before .before .load162 .ensures, first-bound (c .before) .0)) refl (left i) (other-tag r (c .before .before .before .before .if1 .left)) (i .before .loop .inv .1 k act x A g) (omega (arith, c .if3 .left)))
 
 same-length-4 : tie.Need-same-length-4 Inv-loop μ-loop
 same-length-4 c = ap length (c .before .loop .inv .0)
@@ -242,9 +242,9 @@ same-length-4 c = ap length (c .before .loop .inv .0)
 returns-4 : tie.Need-returns-4 Inv-loop μ-loop
 returns-4 c =
     let i = c .before .before .before .before .before .before in
-    λ act x A g.
+    λ k act x A g.
     subst (λ (v : List ℕ). Steps act x A (now (i .args .proof)) v (c .before .loop .work) (i .args .at) (U.Ended (c .before .loop .count) (i .args .uses))) (c .before .loop .inv .0)
-    (ended act x A _ _ _ _ _ _ _ _ _ (c .before .loop .inv .1 act x A g) (omega (arith, c .loop-test .left)))
+    (ended act x A _ _ _ _ _ _ _ _ _ (c .before .loop .inv .1 k act x A g) (omega (arith, c .loop-test .left)))
 
 pub resume-spec : {M : Type 1} → statement M
 resume-spec =
