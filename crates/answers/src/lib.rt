@@ -1,11 +1,13 @@
 // The one answer of every entry.
-// Document 01, "What the bytes bring about" and "What the state brings about": number, file, place and steps.
+// Document 01, "What the bytes bring about" and "What the state brings about": number, file, place and steps. Document 02, P6: the different rules used.
 ghost use mathlib.Core.Path.{_≡_};
 ghost use mathlib.Core.Bool.{true};
 ghost use Prim.Native.Nat.{_≤_};
 ghost use Rattle.answers.specs.Answers as said;
+ghost use Rattle.answers.specs.Answers.{SameCounts};
 
-// Number (0 for success), file (1 table, 2 the other, 0 neither), place (a byte offset in that file) and steps (terms begun); then, of a success, the bytes written, the term fields, the uses and the remaining goals. What does not apply is 0.
+// Number (0 for success), file (1 table, 2 the other, 0 neither), place (a byte offset in that file) and steps (terms begun); then, of a success, the bytes written, the term fields, the uses, the remaining goals and the different rules used.
+// The last three are for calls to come (goals taken, the longest list, a tactic's number). They stand here already, so that the struct keeps its form. What does not apply is 0.
 #[repr(C)]
 pub struct Answer {
     pub number: u32,
@@ -16,6 +18,10 @@ pub struct Answer {
     pub fields: u32,
     pub uses: u32,
     pub remaining: u32,
+    pub rules: u32,
+    pub goals: u32,
+    pub longest: u32,
+    pub tactic: u32,
 }
 
 // A refusal, after so many steps.
@@ -32,13 +38,17 @@ pub fn refusal(number: u8, file: u8, place: usize, steps: usize) -> Answer
         fields: 0,
         uses: 0,
         remaining: 0,
+        rules: 0,
+        goals: 0,
+        longest: 0,
+        tactic: 0,
     }
 }
 
 // The success of a checker.
-pub fn counted(fields: usize, uses: usize, remaining: usize) -> Answer
-    requires { ⌜ (fields ≤ 65535) × (uses ≤ 65535) × (remaining ≤ 65535) ⌝ }
-    ensures { λ r. ⌜ r ≡ said.counted fields uses remaining ⌝ }
+pub fn counted(fields: usize, uses: usize, remaining: usize, rules: usize) -> Answer
+    requires { ⌜ (fields ≤ 65535) × (uses ≤ 65535) × (remaining ≤ 65535) × (rules ≤ 65535) ⌝ }
+    ensures { λ r. ⌜ r ≡ said.counted fields uses remaining rules ⌝ }
 {
     Answer {
         number: 0,
@@ -49,6 +59,10 @@ pub fn counted(fields: usize, uses: usize, remaining: usize) -> Answer
         fields: fields as u32,
         uses: uses as u32,
         remaining: remaining as u32,
+        rules: rules as u32,
+        goals: 0,
+        longest: 0,
+        tactic: 0,
     }
 }
 
@@ -66,10 +80,39 @@ pub fn wrote(length: usize, steps: usize) -> Answer
         fields: 0,
         uses: 0,
         remaining: 0,
+        rules: 0,
+        goals: 0,
+        longest: 0,
+        tactic: 0,
     }
 }
 
-// Whether all eight numbers are the same.
+// Whether the counts of two answers are the same, those from the term fields on.
+fn same_counts(a: Answer, b: Answer) -> bool
+    ensures { λ r. ⌜ (r ≡ true → SameCounts a b) × (SameCounts a b → r ≡ true) ⌝ }
+{
+    if a.fields != b.fields {
+        return false;
+    }
+    if a.uses != b.uses {
+        return false;
+    }
+    if a.remaining != b.remaining {
+        return false;
+    }
+    if a.rules != b.rules {
+        return false;
+    }
+    if a.goals != b.goals {
+        return false;
+    }
+    if a.longest != b.longest {
+        return false;
+    }
+    a.tactic == b.tactic
+}
+
+// Whether all twelve numbers are the same.
 pub fn same_answer(a: Answer, b: Answer) -> bool
     ensures { λ r. ⌜ (r ≡ true → a ≡ b) × (a ≡ b → r ≡ true) ⌝ }
 {
@@ -88,14 +131,5 @@ pub fn same_answer(a: Answer, b: Answer) -> bool
     if a.length != b.length {
         return false;
     }
-    if a.fields != b.fields {
-        return false;
-    }
-    if a.uses != b.uses {
-        return false;
-    }
-    if a.remaining != b.remaining {
-        return false;
-    }
-    true
+    same_counts(a, b)
 }

@@ -7,6 +7,7 @@ use Rattle.format.specs.declared.values.Goal.{Goal}
 use Rattle.format.specs.Refusals.{remainingDiffer}
 use Rattle.format.specs.Results.{Result, gives, refused, andThen}
 use Rattle.format.specs.Terms.{fields}
+use Rattle.rule_set.specs.Different.{different}
 use Rattle.tables.specs.Tables.{Table}
 use Rattle.tables.specs.Lookup.{sameGoal}
 use Rattle.tables.specs.ReadTables.{readTable}
@@ -15,6 +16,7 @@ use Rattle.files.specs.Derivations.{Derivation, flatBytes}
 use Rattle.hitac.specs.Hiproofs.{atomics}
 use Rattle.hitac.specs.Walk.{walk}
 use Rattle.hitac.specs.Forest.{entries, forest}
+use Rattle.hitac.specs.UsedRules.{walkedRules}
 use Rattle.entries.specs.Outcomes.{Outcome, inFile, done, tableFile, otherFile}
 use Rattle.entries.specs.LentSpace.{Counts, Checked, checkIn, Written, writeIn}
 
@@ -40,9 +42,9 @@ onProof value table proof =
     inFile otherFile (readProof proof) (λ p.
     inFile otherFile (checked T p (value T p)) done))
 
--- "(term fields, uses, remaining goals)"
+-- "(term fields, uses, remaining goals)"; document 02, P6: "a proof's acceptance gives the count of different rules used", those that the walk on the stated goals looks up
 unfoldable pub proofCounts : Table → Proof → Counts
-proofCounts T p = record { fields = fields (p .term); uses = atomics (p .term); remaining = length (p .remaining) }
+proofCounts T p = record { fields = fields (p .term); uses = atomics (p .term); remaining = length (p .remaining); rules = different (walkedRules T (p .term) (p .goals)) }
 
 -- the flat file of a proof's forest: "Written with the stated goals as roots, then depth first, left first."
 unfoldable pub forestFile : Table → Proof → List ℕ

@@ -8,6 +8,7 @@ use Rattle.format.specs.declared.values.Goal.{Goal}
 use Rattle.format.specs.Limits.{mostEntries}
 use Rattle.format.specs.Refusals.{goalsPending, entriesTooMany}
 use Rattle.format.specs.Results.{Result, gives, refused, andThen}
+use Rattle.rule_set.specs.Different.{different}
 use Rattle.tables.specs.Tables.{Table}
 use Rattle.tables.specs.ReadTables.{readTable}
 use Rattle.files.specs.Proofs.{Proof, proofBytes}
@@ -15,6 +16,7 @@ use Rattle.files.specs.Derivations.{Derivation, readFlat, entriesPlace}
 use Rattle.hitac.specs.Forest.{leaves}
 use Rattle.hitac.specs.FlatWalk.{flatWalk}
 use Rattle.hitac.specs.Counts.{uses, everyUse}
+use Rattle.hitac.specs.UsedRules.{flatRules}
 use Rattle.hitac.specs.Write.{written}
 use Rattle.entries.specs.Outcomes.{Outcome, inFile, done, tableFile, otherFile}
 use Rattle.entries.specs.LentSpace.{Counts, Checked, checkIn, Written, writeIn}
@@ -28,15 +30,15 @@ nonePending end a (γ ∷ g) = refused goalsPending end
 unfoldable pub right : {A : Type 0} → Table → Derivation → (end : ℕ) → A → Result A
 right T d end a = andThen (flatWalk T (entriesPlace d) (d .roots) (d .entries)) (nonePending end a)
 
--- uses and open leaves
-unfoldable pub flatCounts : Derivation → Counts
-flatCounts d = record { fields = 0; uses = uses everyUse (d .entries); remaining = length (leaves (d .entries)) }
+-- uses and open leaves; document 02, P6: "the flat check gives the same count", of the rules of the uses
+unfoldable pub flatCounts : Table → Derivation → Counts
+flatCounts T d = record { fields = 0; uses = uses everyUse (d .entries); remaining = length (leaves (d .entries)); rules = different (flatRules T (d .entries)) }
 
 unfoldable pub checkFlatOutcome : (table flat : List ℕ) → Outcome Counts
 checkFlatOutcome table flat =
     inFile tableFile (readTable table) (λ T.
     inFile otherFile (readFlat flat) (λ d.
-    inFile otherFile (right T d (length flat) (flatCounts d)) done))
+    inFile otherFile (right T d (length flat) (flatCounts T d)) done))
 
 -- "Writing a proof: the stated goals are the roots, the remaining ones those of the open leaves in order, and the term is the whole forest"
 unfoldable pub writtenProof : Table → Derivation → Proof

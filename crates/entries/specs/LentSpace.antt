@@ -13,11 +13,12 @@ use Rattle.entries.specs.Outcomes.{Outcome, success, refusal, noFile}
 abbrev pub cleared : List ℕ → List ℕ
 cleared work = replicate (length work) 0
 
--- term fields, uses and remaining goals
+-- term fields, uses, remaining goals and different rules used
 pub record Counts : Type 0 where
   pub fields : ℕ
   pub uses : ℕ
   pub remaining : ℕ
+  pub rules : ℕ
 
 -- A call of an entry that writes nothing: its answer, and the work space afterwards.
 pub record Checked : Type 0 where
@@ -25,7 +26,7 @@ pub record Checked : Type 0 where
   pub work : List ℕ
 
 abbrev pub countedAnswer : Outcome Counts → Answer
-countedAnswer (success c k) = answer.counted (c .fields) (c .uses) (c .remaining)
+countedAnswer (success c k) = answer.counted (c .fields) (c .uses) (c .remaining) (c .rules)
 countedAnswer (refusal c f p k) = answer.refusal (number c) f p k
 
 -- "29: work space shorter than the size docs/ names for that entry", before anything else; then the work space is untouched

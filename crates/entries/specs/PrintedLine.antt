@@ -1,4 +1,4 @@
--- Document 01, "A table and its edges": the line that the check program prints, as bytes.
+-- Document 01, "A table and its edges": the line that the check program prints, as bytes. Document 02, P6, adds the rules used.
 use Prim.Native.Nat.{ℕ}
 use mathlib.Core.Bool.{cond}
 use mathlib.Core.List.{List, [], _∷_, _++_}
@@ -10,7 +10,7 @@ use Rattle.answers.specs.declared.Answer.{Answer}
 abbrev pub decimal : ℕ → List ℕ
 decimal n = digits 10 n
 
--- "accepted fields ", " uses ", " open "
+-- "accepted fields ", " uses ", " open ", " rules "
 abbrev pub acceptedText : List ℕ
 acceptedText = 97 ∷ 99 ∷ 99 ∷ 101 ∷ 112 ∷ 116 ∷ 101 ∷ 100 ∷ 32 ∷ 102 ∷ 105 ∷ 101 ∷ 108 ∷ 100 ∷ 115 ∷ 32 ∷ []
 
@@ -19,6 +19,9 @@ usesText = 32 ∷ 117 ∷ 115 ∷ 101 ∷ 115 ∷ 32 ∷ []
 
 abbrev pub openText : List ℕ
 openText = 32 ∷ 111 ∷ 112 ∷ 101 ∷ 110 ∷ 32 ∷ []
+
+abbrev pub rulesText : List ℕ
+rulesText = 32 ∷ 114 ∷ 117 ∷ 108 ∷ 101 ∷ 115 ∷ 32 ∷ []
 
 -- "refused ", " file ", " place "
 abbrev pub refusedText : List ℕ
@@ -33,9 +36,9 @@ placeText = 32 ∷ 112 ∷ 108 ∷ 97 ∷ 99 ∷ 101 ∷ 32 ∷ []
 abbrev pub lineEnd : List ℕ
 lineEnd = 10 ∷ []
 
--- "`accepted fields 11 uses 3 open 0` (term fields, uses, remaining goals) and a line end"
+-- "`accepted fields 11 uses 3 open 0` (term fields, uses, remaining goals) and a line end"; document 02, P6: "The printed accepted line gains `rules 3` at its end in the example."
 unfoldable pub acceptedLine : Answer → List ℕ
-acceptedLine a = acceptedText ++ decimal (a .fields) ++ usesText ++ decimal (a .uses) ++ openText ++ decimal (a .remaining) ++ lineEnd
+acceptedLine a = acceptedText ++ decimal (a .fields) ++ usesText ++ decimal (a .uses) ++ openText ++ decimal (a .remaining) ++ rulesText ++ decimal (a .rules) ++ lineEnd
 
 -- "`refused 20 file 2 place 5` (number, file, place), and a line end"
 unfoldable pub refusedLine : Answer → List ℕ

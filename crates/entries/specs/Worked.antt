@@ -16,8 +16,8 @@ use Rattle.entries.specs.Outcomes.{success, refusal, done, tableFile, ot
 use Rattle.entries.specs.LentSpace.{Counts}
 use Rattle.entries.specs.Lines.{Line, ofBytes, checks, checksAs, flattens, checksFlat, writes, writesOf, runs, runsInto, runsWith, searches, searchesInto, searchesWith, checksWith, prints, readsText, writesText}
 
-abbrev pub counts : (fields uses remaining : ℕ) → Counts
-counts t u o = record { fields = t; uses = u; remaining = o }
+abbrev pub counts : (fields uses remaining rules : ℕ) → Counts
+counts t u o d = record { fields = t; uses = u; remaining = o; rules = d }
 
 -- "Table A: rule 1 on 10 gives 20, 30; rule 2 on 20 and rule 3 on 30 give none", and its four tactics
 abbrev pub tableA : List ℕ
@@ -73,8 +73,8 @@ starredLines =
     ∷ flattens tableA proofT3 (done flatT3)
     -- "Written back: 1 ; (2 ⊗ 3), 5 term fields."
     ∷ writes tableA flatT3 (done proofBack)
-    -- its term fields, uses and remaining goals
-    ∷ checks tableA proofBack (done (counts 5 3 0))
+    -- its term fields, uses, remaining goals and rules
+    ∷ checks tableA proofBack (done (counts 5 3 0 3))
     -- "T4 on no goals: empty, 4 steps."
     ∷ runs tableA (3 ∷ 0 ∷ 0 ∷ 24 ∷ 0 ∷ 2 ∷ 0 ∷ 4 ∷ []) 4 (success (3 ∷ 0 ∷ 0 ∷ 21 ∷ 0 ∷ 0 ∷ 3 ∷ 0 ∷ 0 ∷ []) 4)
     -- "On two: id ⊗ (id ⊗ empty), 12 steps."
@@ -95,13 +95,13 @@ starredLines =
 unfoldable pub edgeLines : List Line
 edgeLines =
     -- the first proof above
-    checks tableA proofT3 (done (counts 11 3 0))
-    -- "For the first proof above it prints `accepted fields 11 uses 3 open 0`"
-    ∷ prints tableA proofT3 true (97 ∷ 99 ∷ 99 ∷ 101 ∷ 112 ∷ 116 ∷ 101 ∷ 100 ∷ 32 ∷ 102 ∷ 105 ∷ 101 ∷ 108 ∷ 100 ∷ 115 ∷ 32 ∷ 49 ∷ 49 ∷ 32 ∷ 117 ∷ 115 ∷ 101 ∷ 115 ∷ 32 ∷ 51 ∷ 32 ∷ 111 ∷ 112 ∷ 101 ∷ 110 ∷ 32 ∷ 48 ∷ 10 ∷ [])
+    checks tableA proofT3 (done (counts 11 3 0 3))
+    -- "For the first proof above it prints `accepted fields 11 uses 3 open 0`"; document 02, P6: "gains `rules 3` at its end"
+    ∷ prints tableA proofT3 true (97 ∷ 99 ∷ 99 ∷ 101 ∷ 112 ∷ 116 ∷ 101 ∷ 100 ∷ 32 ∷ 102 ∷ 105 ∷ 101 ∷ 108 ∷ 100 ∷ 115 ∷ 32 ∷ 49 ∷ 49 ∷ 32 ∷ 117 ∷ 115 ∷ 101 ∷ 115 ∷ 32 ∷ 51 ∷ 32 ∷ 111 ∷ 112 ∷ 101 ∷ 110 ∷ 32 ∷ 48 ∷ 32 ∷ 114 ∷ 117 ∷ 108 ∷ 101 ∷ 115 ∷ 32 ∷ 51 ∷ 10 ∷ [])
     -- "every refusal is printed like that of goal 10 with term 2, `refused 20 file 2 place 5`"
     ∷ prints tableA (3 ∷ 0 ∷ 2 ∷ 0 ∷ 10 ∷ 16 ∷ 0 ∷ 2 ∷ 0 ∷ 2 ∷ 3 ∷ 0 ∷ 0 ∷ []) true (114 ∷ 101 ∷ 102 ∷ 117 ∷ 115 ∷ 101 ∷ 100 ∷ 32 ∷ 50 ∷ 48 ∷ 32 ∷ 102 ∷ 105 ∷ 108 ∷ 101 ∷ 32 ∷ 50 ∷ 32 ∷ 112 ∷ 108 ∷ 97 ∷ 99 ∷ 101 ∷ 32 ∷ 53 ∷ 10 ∷ [])
     -- the right derivation that the flattener wrote
-    ∷ checksFlat tableA flatT3 (done (counts 0 3 0))
+    ∷ checksFlat tableA flatT3 (done (counts 0 3 0 3))
     -- 1: 65,536 bytes, before anything is read
     ∷ checks (replicate 65536 0) [] (refusal inputTooLong tableFile 0 0)
     -- the table's 1 to 9 come before the other file's length is looked at
@@ -163,11 +163,11 @@ edgeLines =
     -- the flattener refuses for the same cause
     ∷ flattens [] (3 ∷ 0 ∷ 0 ∷ 17 ∷ 0 ∷ 0 ∷ 3 ∷ 0 ∷ 0 ∷ []) (refusal goalCountWrong otherFile 3 0)
     -- a label inside a tensor takes one goal
-    ∷ checks tableA (3 ∷ 0 ∷ 4 ∷ 0 ∷ 20 ∷ 0 ∷ 30 ∷ 20 ∷ 0 ∷ 15 ∷ 18 ∷ 0 ∷ 7 ∷ 0 ∷ 7 ∷ 16 ∷ 0 ∷ 2 ∷ 0 ∷ 2 ∷ 16 ∷ 0 ∷ 2 ∷ 0 ∷ 3 ∷ 3 ∷ 0 ∷ 0 ∷ []) (done (counts 4 2 0))
+    ∷ checks tableA (3 ∷ 0 ∷ 4 ∷ 0 ∷ 20 ∷ 0 ∷ 30 ∷ 20 ∷ 0 ∷ 15 ∷ 18 ∷ 0 ∷ 7 ∷ 0 ∷ 7 ∷ 16 ∷ 0 ∷ 2 ∷ 0 ∷ 2 ∷ 16 ∷ 0 ∷ 2 ∷ 0 ∷ 3 ∷ 3 ∷ 0 ∷ 0 ∷ []) (done (counts 4 2 0 2))
     -- 21: the remaining goals in another order
     ∷ checks [] (3 ∷ 0 ∷ 4 ∷ 0 ∷ 10 ∷ 0 ∷ 20 ∷ 20 ∷ 0 ∷ 6 ∷ 17 ∷ 0 ∷ 0 ∷ 17 ∷ 0 ∷ 0 ∷ 3 ∷ 0 ∷ 4 ∷ 0 ∷ 20 ∷ 0 ∷ 10 ∷ []) (refusal remainingDiffer otherFile 16 0)
     -- 22: "Rule 4 on 40 giving eight times 40: 32 side by side pass, 33 get 22", at the outermost tensor
-    ∷ checks tableB (sideBySide 32) (done (counts 63 32 256))
+    ∷ checks tableB (sideBySide 32) (done (counts 63 32 256 1))
     ∷ checks tableB (sideBySide 33) (refusal joinedTooLong otherFile 69 0)
     -- 22 in a run: file and place 0; it does not move on to an alternative
     ∷ runs tableB (sideBySideOr 33) 4096 (refusal joinedTooLong noFile 0 66)
@@ -201,9 +201,9 @@ edgeLines =
 abbrev pub noGoalsProof : List ℕ
 noGoalsProof = 3 ∷ 0 ∷ 0 ∷ 21 ∷ 0 ∷ 0 ∷ 3 ∷ 0 ∷ 0 ∷ []
 
--- `accepted fields 1 uses 0 open 0`
+-- `accepted fields 1 uses 0 open 0 rules 0`
 abbrev pub noBytesLine : List ℕ
-noBytesLine = 97 ∷ 99 ∷ 99 ∷ 101 ∷ 112 ∷ 116 ∷ 101 ∷ 100 ∷ 32 ∷ 102 ∷ 105 ∷ 101 ∷ 108 ∷ 100 ∷ 115 ∷ 32 ∷ 49 ∷ 32 ∷ 117 ∷ 115 ∷ 101 ∷ 115 ∷ 32 ∷ 48 ∷ 32 ∷ 111 ∷ 112 ∷ 101 ∷ 110 ∷ 32 ∷ 48 ∷ 10 ∷ []
+noBytesLine = 97 ∷ 99 ∷ 99 ∷ 101 ∷ 112 ∷ 116 ∷ 101 ∷ 100 ∷ 32 ∷ 102 ∷ 105 ∷ 101 ∷ 108 ∷ 100 ∷ 115 ∷ 32 ∷ 49 ∷ 32 ∷ 117 ∷ 115 ∷ 101 ∷ 115 ∷ 32 ∷ 48 ∷ 32 ∷ 111 ∷ 112 ∷ 101 ∷ 110 ∷ 32 ∷ 48 ∷ 32 ∷ 114 ∷ 117 ∷ 108 ∷ 101 ∷ 115 ∷ 32 ∷ 48 ∷ 10 ∷ []
 
 -- `refused 2 file 2 place 0`
 abbrev pub unopenedLine : List ℕ
@@ -212,8 +212,8 @@ unopenedLine = 114 ∷ 101 ∷ 102 ∷ 117 ∷ 115 ∷ 101 ∷ 100 ∷ 32 ∷ 50
 unfoldable pub noByteLines : List Line
 noByteLines =
     -- "accepted, with one term field and no use"
-    checks tableA [] (done (counts 1 0 0))
-    ∷ checks tableA noGoalsProof (done (counts 1 0 0))
+    checks tableA [] (done (counts 1 0 0 0))
+    ∷ checks tableA noGoalsProof (done (counts 1 0 0 0))
     -- "One or two bytes are still 2."
     ∷ checks tableA (3 ∷ []) (refusal fieldTorn otherFile 0 0)
     ∷ checks tableA (3 ∷ 0 ∷ []) (refusal fieldTorn otherFile 0 0)
@@ -229,6 +229,26 @@ noByteLines =
     -- and with one that cannot be opened, whatever stands in its buffer, "the table's refusals coming first": `refused 2 file 1 place 0`
     ∷ prints tableA proofT3 false unopenedLine
     ∷ prints (1 ∷ []) proofT3 false (114 ∷ 101 ∷ 102 ∷ 117 ∷ 115 ∷ 101 ∷ 100 ∷ 32 ∷ 50 ∷ 32 ∷ 102 ∷ 105 ∷ 108 ∷ 101 ∷ 32 ∷ 49 ∷ 32 ∷ 112 ∷ 108 ∷ 97 ∷ 99 ∷ 101 ∷ 32 ∷ 48 ∷ 10 ∷ [])
+    ∷ []
+
+-- document 02, P6: rule 1 on 10, rule 1 on 20 and rule 2 on 20, which give none
+abbrev pub tableR : List ℕ
+tableR = 1 ∷ 0 ∷ 4 ∷ 0 ∷ 1 ∷ 0 ∷ 10 ∷ 1 ∷ 0 ∷ 4 ∷ 0 ∷ 1 ∷ 0 ∷ 20 ∷ 1 ∷ 0 ∷ 4 ∷ 0 ∷ 2 ∷ 0 ∷ 20 ∷ []
+
+unfoldable pub ruleLines : List Line
+ruleLines =
+    -- "different rules" are different rule fields: one name on two goals is two rules
+    checks tableR (3 ∷ 0 ∷ 4 ∷ 0 ∷ 10 ∷ 0 ∷ 20 ∷ 20 ∷ 0 ∷ 10 ∷ 16 ∷ 0 ∷ 2 ∷ 0 ∷ 1 ∷ 16 ∷ 0 ∷ 2 ∷ 0 ∷ 1 ∷ 3 ∷ 0 ∷ 0 ∷ []) (done (counts 3 2 0 2))
+    ∷ checksFlat tableR (3 ∷ 0 ∷ 4 ∷ 0 ∷ 10 ∷ 0 ∷ 20 ∷ 32 ∷ 0 ∷ 4 ∷ 0 ∷ 1 ∷ 0 ∷ 10 ∷ 32 ∷ 0 ∷ 4 ∷ 0 ∷ 1 ∷ 0 ∷ 20 ∷ []) (done (counts 0 2 0 2))
+    -- the same rule twice is one
+    ∷ checks tableR (3 ∷ 0 ∷ 4 ∷ 0 ∷ 10 ∷ 0 ∷ 10 ∷ 20 ∷ 0 ∷ 10 ∷ 16 ∷ 0 ∷ 2 ∷ 0 ∷ 1 ∷ 16 ∷ 0 ∷ 2 ∷ 0 ∷ 1 ∷ 3 ∷ 0 ∷ 0 ∷ []) (done (counts 3 2 0 1))
+    -- two rules in turn are two: 1 ⊗ (2 ⊗ (1 ⊗ 2)) on 10, 20, 10, 20
+    ∷ checks tableR (3 ∷ 0 ∷ 8 ∷ 0 ∷ 10 ∷ 0 ∷ 20 ∷ 0 ∷ 10 ∷ 0 ∷ 20 ∷ 20 ∷ 0 ∷ 26 ∷ 16 ∷ 0 ∷ 2 ∷ 0 ∷ 1 ∷ 20 ∷ 0 ∷ 18 ∷ 16 ∷ 0 ∷ 2 ∷ 0 ∷ 2 ∷ 20 ∷ 0 ∷ 10 ∷ 16 ∷ 0 ∷ 2 ∷ 0 ∷ 1 ∷ 16 ∷ 0 ∷ 2 ∷ 0 ∷ 2 ∷ 3 ∷ 0 ∷ 0 ∷ []) (done (counts 7 4 0 2))
+    ∷ checksFlat tableR (3 ∷ 0 ∷ 8 ∷ 0 ∷ 10 ∷ 0 ∷ 20 ∷ 0 ∷ 10 ∷ 0 ∷ 20 ∷ 32 ∷ 0 ∷ 4 ∷ 0 ∷ 1 ∷ 0 ∷ 10 ∷ 32 ∷ 0 ∷ 4 ∷ 0 ∷ 2 ∷ 0 ∷ 20 ∷ 32 ∷ 0 ∷ 4 ∷ 0 ∷ 1 ∷ 0 ∷ 10 ∷ 32 ∷ 0 ∷ 4 ∷ 0 ∷ 2 ∷ 0 ∷ 20 ∷ []) (done (counts 0 4 0 2))
+    -- an open leaf has no rule
+    ∷ checksFlat tableR (3 ∷ 0 ∷ 4 ∷ 0 ∷ 10 ∷ 0 ∷ 30 ∷ 32 ∷ 0 ∷ 4 ∷ 0 ∷ 1 ∷ 0 ∷ 10 ∷ 33 ∷ 0 ∷ 2 ∷ 0 ∷ 30 ∷ []) (done (counts 0 1 1 1))
+    -- a walk that is refused has no count, though it looked up a rule: 1 ⊗ 2 on 10, 10
+    ∷ checksAs tableR (3 ∷ 0 ∷ 4 ∷ 0 ∷ 10 ∷ 0 ∷ 10 ∷ 20 ∷ 0 ∷ 10 ∷ 16 ∷ 0 ∷ 2 ∷ 0 ∷ 1 ∷ 16 ∷ 0 ∷ 2 ∷ 0 ∷ 2 ∷ 3 ∷ 0 ∷ 0 ∷ []) (answer.refusal 20 2 15 0)
     ∷ []
 
 -- document 02, P8: the body of tactic 3 of table A as text and as a term file, and what is refused
@@ -258,7 +278,7 @@ searchLines =
     -- "At height 10 it finds T5 ⊗ T6 on 20, 20, 30 where the machine fails"
     searches tableT5 jobT5T6 10 4096 (success proofT5T6 56)
     -- "A found proof .. validates and flattens like any other": 2 on 20, 2 on 20, 3 on 30
-    ∷ checks tableT5 proofT5T6 (done (counts 9 3 0))
+    ∷ checks tableT5 proofT5T6 (done (counts 9 3 0 2))
     ∷ flattens tableT5 proofT5T6 (done (3 ∷ 0 ∷ 6 ∷ 0 ∷ 20 ∷ 0 ∷ 20 ∷ 0 ∷ 30 ∷ 32 ∷ 0 ∷ 4 ∷ 0 ∷ 2 ∷ 0 ∷ 20 ∷ 32 ∷ 0 ∷ 4 ∷ 0 ∷ 2 ∷ 0 ∷ 20 ∷ 32 ∷ 0 ∷ 4 ∷ 0 ∷ 3 ∷ 0 ∷ 30 ∷ []))
     ∷ searches tableT5 jobT5T6 10 55 (refusal budgetSpent noFile 0 55)
     ∷ searches tableT5 jobT5T6 9 64 (refusal noEvaluation noFile 0 64)

@@ -1,0 +1,3 @@
+pub mod Different
+pub mod Layout
+pub mod Sets
