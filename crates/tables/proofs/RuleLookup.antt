@@ -5,9 +5,9 @@ use mathlib.Core.Bool.{Bool, true, false, cond, _&&_, false≢true}
 use mathlib.Core.Logic.{_⊎_, inl, inr, _↔_}
 use mathlib.Core.Option.{Option, none, some, Option·none-ne-some}
 use mathlib.Core.List.{List, [], _∷_, _++_, List·Memᴰ, List·Memᴰ·head, List·Memᴰ·not-nil, List·Memᴰ·cases-cons, Memᴰ·append-right}
-use Prim.Native.Nat.{ℕ, suc, _+_}
+use Prim.Native.Nat.{ℕ, suc, _+_, _<_}
 use native.Mathlib.Omega.{arith}
-use lib.ListN.{length}
+use lib.ListN.{length, length-append}
 use borrow.Author.Tests.{eqb-true, eq-eqb}
 use Rattle.format.specs.declared.values.RuleName.{RuleName}
 use Rattle.format.specs.declared.values.Goal.{Goal}
@@ -94,6 +94,10 @@ module _ (T : Table) (a : RuleName) (γ : Goal) where
   pub found-numbered : (n : ℕ) (h : List Goal) → findRule T a γ ≡ some (foundRule n h) → NumberedRule T n a γ h
   unfolding findRule
   found-numbered n h e = let (before, after, k, q) = found-in 0 a γ (T .rules) n h e in (before, after, omega (arith, k), q)
+
+  -- The number is less than the count of the rules.
+  pub found-few : (n : ℕ) (h : List Goal) → findRule T a γ ≡ some (foundRule n h) → n < length (T .rules)
+  found-few n h e = let (before, after, k, q) = found-numbered n h e in omega (arith, k, length-append before (rule a γ h ∷ after), ap length q)
 
   -- It is a rule of the table.
   pub found-member : (n : ℕ) (h : List Goal) → findRule T a γ ≡ some (foundRule n h) → HasRule T a γ h
