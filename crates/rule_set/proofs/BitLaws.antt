@@ -24,11 +24,6 @@ pub bit-none : (k : ℕ) → bitOf 0 k ≡ 0
 bit-none zero = bit-zero 0
 bit-none (suc k) = bit-suc 0 k ∙ bit-none k
 
--- a bit that is not 1
-pub bit-else : (b k : ℕ) → (bitOf b k ≡ 1 → ⊥) → bitOf b k ≡ 0
-unfolding bitOf
-bit-else b k h = omega (arith, h)
-
 pub bit-set : (b k : ℕ) → bitOf b k ≡ 0 → bitOf (b + 2 ^ k) k ≡ 1
 bit-set b zero h = bit-zero (b + 1) ∙ omega (arith, bit-zero b)
 bit-set b (suc k) h = bit-suc (b + 2 ^ suc k) k ∙ ap (λ (x : ℕ). bitOf x k) (half-sum b k) ∙ bit-set (b / 2) k (sym (bit-suc b k) ∙ h)

@@ -11,6 +11,11 @@ use borrow.Author.Tests.{eqb-true, eqb-false, eq-eqb, ne-eqb}
 use Rattle.rule_set.specs.Different.{among, different}
 use Rattle.rule_set.proofs.AmongLaws.{both, among-none, among-head, among-past, among-again}
 
+-- 5, 7 and again 5 are two
+example : different (5 ∷ (7 ∷ (5 ∷ []))) ≡ 2
+unfolding among different
+example = refl
+
 -- a number in front of the others, which have it already or have it not
 module _ (n : ℕ) (ns : List ℕ) where
   pub different-old : among n ns ≡ true → different (n ∷ ns) ≡ different ns

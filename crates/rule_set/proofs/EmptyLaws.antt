@@ -8,17 +8,18 @@ use native.Mathlib.Omega.{arith}
 use lib.Dec.{eqb}
 use lib.ListN.{length, getD, set}
 use lib.Seq.{getD-set-same, getD-set-other}
-use borrow.Author.Tests.{eqb-true, eqb-false, ne-eqb}
+use borrow.Author.Tests.{eqb-true, eqb-false}
 use Rattle.words.specs.Word.{word, putWord}
 use Rattle.words.specs.Kept.{Kept}
 use Rattle.words.proofs.WordLaws.{word-same}
 use Rattle.words.proofs.KeptLaws.{kept-put, kept-same, kept-both, word-above}
 use Rattle.rule_set.specs.Different.{among}
 use Rattle.rule_set.specs.Layout.{bitsRoom, setRoom}
-use Rattle.rule_set.specs.Sets.{bitOf, holds, RuleSet}
+use Rattle.rule_set.specs.Sets.{bitOf, RuleSet}
 use Rattle.rule_set.proofs.AmongLaws.{both, among-none}
 use Rattle.rule_set.proofs.DifferentLaws.{different-none}
 use Rattle.rule_set.proofs.BitLaws.{bit-none}
+use Rattle.rule_set.proofs.SetLaws.{not-held}
 
 -- so many bytes of the bits are 0, and none outside of the bits changed
 pub record Cleared (w₀ w : List ℕ) (base i : ℕ) : Type 0 where
@@ -41,17 +42,12 @@ cleared-next w₀ w base i room l c = record {
     go k h true e = ap (λ (j : ℕ). getD (set w (base + i) 0) (base + j) 0) (eqb-true k i e) ∙ getD-set-same w (base + i) 0 0 (omega arith)
     go k h false e = let a = eqb-false k i e in getD-set-other w (base + i) (base + k) 0 0 (λ q. a (omega arith)) ∙ c .zeros k (omega arith)
 
--- a byte of 0 has no bit
-not-held : (w : List ℕ) (base n : ℕ) → getD w (base + n / 8) 0 ≡ 0 → holds w base n ≡ false
-unfolding holds
-not-held w base n e = ap (λ (b : ℕ). eqb (bitOf b (n % 8)) 1) e ∙ ne-eqb (bitOf 0 (n % 8)) 1 (omega (arith, bit-none (n % 8)))
-
 -- the count stored, then all bits cleared
 module _ (w w₀ w′ : List ℕ) (base i : ℕ) (is : w₀ ≡ putWord w (base + bitsRoom) 0) (room : base + setRoom ≤ length w) (size : length w′ ≡ length w) (c : Cleared w₀ w′ base i) (all : bitsRoom ≤ i) where
   pub empty-set : RuleSet w′ base []
   empty-set = record {
     room = omega arith;
-    bits = λ n l. not-held w′ base n (c .zeros (n / 8) (omega arith)) ∙ sym (among-none n);
+    bits = λ n l. not-held w′ base n (ap (λ (b : ℕ). bitOf b (n % 8)) (c .zeros (n / 8) (omega arith)) ∙ bit-none (n % 8)) ∙ sym (among-none n);
     counted =
         word-above w₀ w′ base (base + bitsRoom) (c .kept) (base + bitsRoom) (omega arith)
         ∙ ap (λ (x : List ℕ). word x (base + bitsRoom)) is

@@ -1,4 +1,4 @@
--- A number is put into a set: its bit is set, no other bit is, and the count is one more. Where its bit is set already, the set is that of one number more as it stands.
+-- A number is put into a set: its bit is set, no other bit is, and the count is one more. Where its bit is set already, the bytes as they stand are those of the set with it.
 -- Assumes nothing.
 use mathlib.Core.Path.{_≡_, refl, sym, ap, _∙_}
 use mathlib.Core.Bool.{Bool, true, false}
@@ -9,7 +9,7 @@ use native.Mathlib.Omega.{arith}
 use lib.Dec.{eqb}
 use lib.ListN.{length, getD, set, length-set}
 use lib.Seq.{getD-set-same, getD-set-other}
-use borrow.Author.Tests.{eqb-true, eqb-false, eq-eqb, ne-eqb}
+use borrow.Author.Tests.{eqb-true, eqb-false}
 use Rattle.words.specs.Word.{word, putWord}
 use Rattle.words.specs.Kept.{Kept}
 use Rattle.words.proofs.WordLaws.{word-same, length-putWord}
@@ -20,20 +20,7 @@ use Rattle.rule_set.specs.Sets.{bitOf, holds, RuleSet}
 use Rattle.rule_set.proofs.AmongLaws.{among-head, among-past, among-again, among-cases}
 use Rattle.rule_set.proofs.DifferentLaws.{different-new}
 use Rattle.rule_set.proofs.BitLaws.{bit-set, bit-other}
-use Rattle.rule_set.proofs.SetLaws.{set-same}
-
--- the byte of a number
-abbrev byteOf : List ℕ → (base n : ℕ) → ℕ
-byteOf w base n = getD w (base + n / 8) 0
-
-module _ (w : List ℕ) (base n : ℕ) where
-  held : bitOf (byteOf w base n) (n % 8) ≡ 1 → holds w base n ≡ true
-  unfolding holds
-  held e = eq-eqb (bitOf (byteOf w base n) (n % 8)) 1 e
-
-  not-held : bitOf (byteOf w base n) (n % 8) ≡ 0 → holds w base n ≡ false
-  unfolding holds
-  not-held e = ne-eqb (bitOf (byteOf w base n) (n % 8)) 1 (omega arith)
+use Rattle.rule_set.proofs.SetLaws.{byteOf, held, not-held, set-same}
 
 -- its bit is set already
 pub put-old : (w : List ℕ) (base m : ℕ) → m < setBits → bitOf (byteOf w base m) (m % 8) ≡ 1 → (ns : List ℕ) → RuleSet w base ns → RuleSet w base (m ∷ ns)

@@ -1,15 +1,31 @@
--- A set of rule numbers in bytes: it is the set of any list of the same numbers, and its count is at most that of the rules.
+-- A set of rule numbers in bytes: whether it holds a number is said by one bit, it is the set of any list of the same numbers, and its count is at most that of the rules.
 -- Assumes nothing.
 use mathlib.Core.Path.{_≡_, _∙_}
+use mathlib.Core.Bool.{true, false}
 use mathlib.Core.List.{List, [], _∷_, _++_}
-use Prim.Native.Nat.{ℕ, _+_, _≤_}
+use Prim.Native.Nat.{ℕ, _+_, _/_, _%_, _≤_}
 use native.Mathlib.Omega.{arith}
+use lib.ListN.{getD}
+use borrow.Author.Tests.{eq-eqb, ne-eqb}
 use Rattle.words.specs.Word.{word}
 use Rattle.rule_set.specs.Different.{among}
 use Rattle.rule_set.specs.Layout.{setBits, bitsRoom}
-use Rattle.rule_set.specs.Sets.{RuleSet}
+use Rattle.rule_set.specs.Sets.{bitOf, holds, RuleSet}
 use Rattle.rule_set.proofs.AmongLaws.{among-turned}
 use Rattle.rule_set.proofs.DifferentLaws.{different-same, different-below}
+
+-- the byte of a number
+abbrev pub byteOf : List ℕ → (base n : ℕ) → ℕ
+byteOf w base n = getD w (base + n / 8) 0
+
+module _ (w : List ℕ) (base n : ℕ) where
+  pub held : bitOf (byteOf w base n) (n % 8) ≡ 1 → holds w base n ≡ true
+  unfolding holds
+  held e = eq-eqb (bitOf (byteOf w base n) (n % 8)) 1 e
+
+  pub not-held : bitOf (byteOf w base n) (n % 8) ≡ 0 → holds w base n ≡ false
+  unfolding holds
+  not-held e = ne-eqb (bitOf (byteOf w base n) (n % 8)) 1 (omega arith)
 
 module _ (w : List ℕ) (base : ℕ) where
   pub set-same : (ms ns : List ℕ) → ((n : ℕ) → among n ms ≡ among n ns) → RuleSet w base ms → RuleSet w base ns
