@@ -3,7 +3,7 @@
 use mathlib.Core.Path.{_≡_, sym, subst, ap, _∙_}
 use mathlib.Core.Bool.{Bool, true, false}
 use mathlib.Core.Logic.{inl}
-use mathlib.Core.List.{List}
+use mathlib.Core.List.{List, []}
 use Prim.Native.Nat.{ℕ, _+_, _*_, _-_, _≤_}
 use native.Mathlib.Omega.{arith}
 use lib.ListN.{length, drop}
@@ -17,12 +17,16 @@ use Rattle.format.specs.Results.{gives, refused, andThen}
 use Rattle.format.specs.Terms.{fields}
 use Rattle.format.specs.Goals.{goalsAt}
 use Rattle.format.proofs.GoalsAt.{goals-paste}
+use Rattle.rule_set.specs.Different.{different}
+use Rattle.rule_set.specs.Sets.{RuleSet}
+use Rattle.rule_set.proofs.SetKept.{set-before}
 use Rattle.tables.specs.Tables.{Table}
 use Rattle.files.specs.declared.proofs.ProofParts.{ProofParts}
 use Rattle.files.specs.Proofs.{Proof, readProofFields, termPlace, remainingPlace}
 use Rattle.files.specs.Shapes.{partsOf}
 use Rattle.hitac.specs.Hiproofs.{atomics}
 use Rattle.hitac.specs.Walk.{walk}
+use Rattle.hitac.specs.UsedRules.{walkedRules}
 use Rattle.hitac.proofs.TermBounds.{atomics-fields}
 use Rattle.answers.specs.Answers as answer
 use Rattle.entries.specs.Check.{sameGoals, remainingAre, checked, proofCounts}
@@ -32,6 +36,7 @@ use Rattle.input_arities.proofs.ArityLaws.{ahead-kept}
 use Rattle.input_arities.proofs.ProofLaws.{Small, standing, small, term-room}
 use Rattle.checker.specs.declared.walk.Walked.{Walked}
 use Rattle.checker.specs.declared.walk.Walked.the-variants as W
+use Rattle.checker.specs.Layout.{usedPlace}
 use Rattle.checker.specs.Acts.{Behind}
 use Rattle.checker.specs.Walks.{Ready, Walks}
 use Rattle.checker.specs.Checks.{checkedAnswer}
@@ -48,7 +53,7 @@ module _ (T : Table) (p : Proof) where
   unfolding checkedAnswer checked andThen remainingAre number
   ends-other h e f = rw (e, f)
 
-  ends-accepted : (h : List Goal) (u : ℕ) → walk T (p .term) (termPlace p) (p .goals) ≡ gives h → sameGoals h (p .remaining) ≡ true → u ≡ atomics (p .term) → checkedAnswer T p ≡ answer.counted (fields (p .term)) u (length (p .remaining))
+  ends-accepted : (h : List Goal) (u : ℕ) → walk T (p .term) (termPlace p) (p .goals) ≡ gives h → sameGoals h (p .remaining) ≡ true → u ≡ atomics (p .term) → checkedAnswer T p ≡ answer.counted (fields (p .term)) u (length (p .remaining)) (different (walkedRules T (p .term) (p .goals)))
   unfolding checkedAnswer checked andThen remainingAre proofCounts
   ends-accepted h u e f n = rw (e, f, n)
 
@@ -72,6 +77,10 @@ module _ (s : List ℕ) (p : Proof) (e : readProofFields s ≡ gives p) (q : Pro
   -- the index stays behind the arities
   pub behind-still : (table : List ℕ) (first : ℕ) (w₀ : List ℕ) → Noted w₀ w₁ (p .term) → length w₁ ≡ length w₀ → length w₂ ≡ length w₁ → Behind table first w₀ → Behind table first w₂
   behind-still table first w₀ n l l₂ b = behind-kept table first w₁ w₂ 0 stackEnd l₂ copy-kept (omega arith) (behind-kept table first w₀ w₁ 0 aritiesEnd l (n .kept) (omega arith) b)
+
+  -- and the set behind the index
+  pub set-still : (w₀ : List ℕ) → Noted w₀ w₁ (p .term) → length w₁ ≡ length w₀ → length w₂ ≡ length w₁ → RuleSet w₀ usedPlace [] → RuleSet w₂ usedPlace []
+  set-still w₀ n l l₂ set = set-before w₁ w₂ usedPlace [] 0 stackEnd l₂ copy-kept (omega arith) (set-before w₀ w₁ usedPlace [] 0 aritiesEnd l (n .kept) (omega arith) set)
 
   pub goals-there : goalsAt w₂ (top q) (q .goals) ≡ p .goals
   unfolding partsOf
@@ -106,12 +115,16 @@ module _ (T : Table) (s : List ℕ) (p : Proof) (q : ProofParts) (w₂ w₃ : Li
         (ends-refused T p (z .0) k at (z .1) (sym same-walk ∙ z .2), omega (arith, z .3, sizes .file))
 
   module _ (n u : ℕ) (t : r ≡ W.Gives n u) where
-    gave : (walk T (p .term) (termPlace p) (p .goals) ≡ gives (goalsAt w₃ 0 n)) × (u ≡ atomics (p .term)) × (n * 2 ≤ stackEnd)
+    gave : (walk T (p .term) (termPlace p) (p .goals) ≡ gives (goalsAt w₃ 0 n)) × (u ≡ atomics (p .term)) × (n * 2 ≤ stackEnd) × RuleSet w₃ usedPlace (walkedRules T (p .term) (p .goals))
     unfolding Walks
-    gave = let z = subst (Walks T (p .term) (q .term) (length s) w₂ w₃ (q .goals)) t (x .walked) in (sym same-walk ∙ z .0, z .1, z .2)
+    gave = let z = subst (Walks T (p .term) (q .term) (length s) w₂ w₃ (q .goals)) t (x .walked) in (sym same-walk ∙ z .0, z .1, z .2, subst (λ (g : List Goal). RuleSet w₃ usedPlace (walkedRules T (p .term) g)) (x .goals-are) (z .3))
 
     pub decides-bound : n * 2 ≤ stackEnd
     decides-bound = gave .2
+
+    -- the set is that of the rules that the definition counts
+    pub decides-rules : RuleSet w₃ usedPlace (walkedRules T (p .term) (p .goals))
+    decides-rules = gave .3
 
     abbrev Compared : Bool → Type 0
     Compared b = sameGoals (goalsAt w₃ 0 n) (goalsAt s (q .rest + 3) (q .remaining)) ≡ b
@@ -121,12 +134,13 @@ module _ (T : Table) (s : List ℕ) (p : Proof) (q : ProofParts) (w₂ w₃ : Li
     compared b f =
         ap (sameGoals (goalsAt w₃ 0 n)) (standing s p (x .reads) .remaining-stand .goals-are ∙ ap (λ (y : ProofParts). goalsAt s (y .rest + 3) (y .remaining)) (x .parts-are)) ∙ f
 
-    -- m term fields were counted
-    pub decides-accepted : Compared true → (m : ℕ) → m ≡ fields (p .term) → (checkedAnswer T p ≡ answer.counted m u (q .remaining)) × ((m ≤ mostBytes) × (u ≤ mostBytes) × (q .remaining ≤ mostBytes))
+    -- m term fields were counted, and d different rules
+    pub decides-accepted : Compared true → (m d : ℕ) → m ≡ fields (p .term) → d ≡ different (walkedRules T (p .term) (p .goals))
+        → (checkedAnswer T p ≡ answer.counted m u (q .remaining) d) × ((m ≤ mostBytes) × (u ≤ mostBytes) × (q .remaining ≤ mostBytes))
     unfolding partsOf
-    decides-accepted f m e =
+    decides-accepted f m d e k =
         let few = standing s p (x .reads) .few-fields in (
-          rw e (subst (λ (y : ProofParts). checkedAnswer T p ≡ answer.counted (fields (p .term)) u (y .remaining)) (x .parts-are) (ends-accepted T p (goalsAt w₃ 0 n) u (gave .0) (compared true f) (gave .1))),
+          rw (e, k) (subst (λ (y : ProofParts). checkedAnswer T p ≡ answer.counted (fields (p .term)) u (y .remaining) (different (walkedRules T (p .term) (p .goals)))) (x .parts-are) (ends-accepted T p (goalsAt w₃ 0 n) u (gave .0) (compared true f) (gave .1))),
           (omega (arith, e, few), omega (arith, gave .1, atomics-fields (p .term), few), omega (arith, sizes .remaining)),
         )
 

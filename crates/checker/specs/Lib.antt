@@ -1,3 +1,4 @@
+pub mod Layout
 pub mod Acts
 pub mod Walks
 pub mod Checks

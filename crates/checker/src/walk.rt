@@ -1,14 +1,16 @@
 // The walk of a hiproof over its goals as one loop, on two stacks of goals and a stack of waiting terms in one work space.
 ghost use mathlib.Core.Path.{_≡_};
-ghost use mathlib.Core.List.{[]};
+ghost use mathlib.Core.List.{List, []};
 ghost use Prim.Native.Nat.{ℕ, _+_};
 ghost use lib.ListN.{length};
 ghost use Rattle.format.specs.Terms.{Term};
+ghost use Rattle.rule_set.specs.Sets.{RuleSet};
 ghost use Rattle.tables.specs.Tables.{Table};
 ghost use Rattle.tables.specs.Standing.{TableStands};
-ghost use Rattle.walks.specs.Loops.{Aim, Roomy, Begins, placed, Leaf, Steps};
+ghost use Rattle.walks.specs.Loops.{Aim, Roomy, Begins, placed, Leaf};
+ghost use Rattle.checker.specs.Layout.{usedPlace};
 ghost use Rattle.checker.specs.Acts.{goalAct, Behind};
-ghost use Rattle.checker.specs.Walks.{Ready, Walks};
+ghost use Rattle.checker.specs.Walks.{Ready, Goes, Walks};
 use crate::leaf::Acted;
 use crate::leaf::act;
 use walks::begin::begin_sequence;
@@ -29,8 +31,8 @@ pub enum Walked {
 
 // A term without labels that is no sequence and no tensor takes its goals and ends.
 fn begin_leaf(table: &[u8], first: usize, proof: &[u8], at: usize, work: &mut [u8], n: Next) -> Turn
-    requires { ⌜ ((T : Table) × (x : Aim ℕ) × TableStands (now table) first T × Begins (goalAct T) x [] (now proof) (now work) (placed n at)) × Roomy (now proof) (now work) × Leaf (now proof) at × Behind (now table) first (now work) ⌝ }
-    ensures { λ r. ⌜ ((T : Table) (x : Aim ℕ) → TableStands (now (table .entry)) first T → Begins (goalAct T) x [] (now (proof .entry)) (now (work .entry)) (placed n at) → Steps (goalAct T) x [] (now (proof .entry)) (now (work .entry)) (now (work .exit)) (at + 1) r) ⌝ }
+    requires { ⌜ ((T : Table) × (x : Aim ℕ) × (A : List ℕ) × TableStands (now table) first T × Begins (goalAct T) x A (now proof) (now work) (placed n at) × RuleSet (now work) usedPlace A) × Roomy (now proof) (now work) × Leaf (now proof) at × Behind (now table) first (now work) ⌝ }
+    ensures { λ r. ⌜ ((T : Table) (x : Aim ℕ) (A : List ℕ) → TableStands (now (table .entry)) first T → Begins (goalAct T) x A (now (proof .entry)) (now (work .entry)) (placed n at) → RuleSet (now (work .entry)) usedPlace A → Goes T x (now (proof .entry)) (now (work .entry)) (now (work .exit)) (at + 1) r) ⌝ }
 {
     let acted = act(table, first, proof, at, work, n);
     match acted {
@@ -44,8 +46,8 @@ fn begin_leaf(table: &[u8], first: usize, proof: &[u8], at: usize, work: &mut [u
 
 // One step: the term that is next begins. Labels pass their one goal on as it is: only the outermost is tested.
 fn step(table: &[u8], first: usize, proof: &[u8], work: &mut [u8], n: Next) -> Turn
-    requires { ⌜ ((T : Table) × (x : Aim ℕ) × TableStands (now table) first T × Begins (goalAct T) x [] (now proof) (now work) n) × Roomy (now proof) (now work) × Behind (now table) first (now work) ⌝ }
-    ensures { λ r. ⌜ ((T : Table) (x : Aim ℕ) → TableStands (now (table .entry)) first T → Begins (goalAct T) x [] (now (proof .entry)) (now (work .entry)) n → Steps (goalAct T) x [] (now (proof .entry)) (now (work .entry)) (now (work .exit)) (n .at + 1) r) ⌝ }
+    requires { ⌜ ((T : Table) × (x : Aim ℕ) × (A : List ℕ) × TableStands (now table) first T × Begins (goalAct T) x A (now proof) (now work) n × RuleSet (now work) usedPlace A) × Roomy (now proof) (now work) × Behind (now table) first (now work) ⌝ }
+    ensures { λ r. ⌜ ((T : Table) (x : Aim ℕ) (A : List ℕ) → TableStands (now (table .entry)) first T → Begins (goalAct T) x A (now (proof .entry)) (now (work .entry)) n → RuleSet (now (work .entry)) usedPlace A → Goes T x (now (proof .entry)) (now (work .entry)) (now (work .exit)) (n .at + 1) r) ⌝ }
 {
     if label_count_wrong(proof, n.at, n.count) {
         return Turn::Refused(34, n.at);
@@ -61,7 +63,7 @@ fn step(table: &[u8], first: usize, proof: &[u8], work: &mut [u8], n: Next) -> T
     begin_leaf(table, first, proof, at, work, n)
 }
 
-// The term at a place takes the goals at the end of the stacks, as many as count says, and puts those that it gives from 0 on.
+// The term at a place takes the goals at the end of the stacks, as many as count says, and puts those that it gives from 0 on. The rules that it uses are put into the set, which is empty.
 pub fn walk(
     table: &[u8],
     first: usize,
@@ -70,7 +72,7 @@ pub fn walk(
     work: &mut [u8],
     count: usize,
 ) -> Walked
-    requires { ⌜ ((T : Table) × TableStands (now table) first T) × ((t : Term) × Ready (now proof) at t (now work) count) × Roomy (now proof) (now work) × Behind (now table) first (now work) ⌝ }
+    requires { ⌜ ((T : Table) × TableStands (now table) first T) × ((t : Term) × Ready (now proof) at t (now work) count) × Roomy (now proof) (now work) × Behind (now table) first (now work) × RuleSet (now work) usedPlace [] ⌝ }
     ensures { λ r. ⌜ ((T : Table) (t : Term) → TableStands (now (table .entry)) first T → Ready (now (proof .entry)) at t (now (work .entry)) count → Walks T t at (length (now (proof .entry))) (now (work .entry)) (now (work .exit)) count r) ⌝ }
 {
     let mut n = start(at, count);

@@ -45,7 +45,8 @@ use Rattle.nodes.specs.NodeActs.{nodeAct}
 use Rattle.nodes.specs.Walks.{Walkable, Ends}
 use Rattle.nodes.proofs.RowLaws.{length-range, kept-range, nodes-range}
 use Rattle.nodes.proofs.CellLaws.{length-cells, cells-above, length-opens, kept-opens, cells-opens}
-use Rattle.nodes.proofs.WalkLaws.{SameIndex, indexed-still}
+use Rattle.walks.specs.SameIndex.{SameIndex}
+use Rattle.walks.proofs.IndexLaws.{indexed-still}
 use Rattle.flattener.specs.Forests.{TableReady, forestCells, Accepted, written, flattened}
 use Rattle.flattener.proofs.GrowthLaws.{Carry, carry-new, grows}
 use Rattle.flattener.proofs.AgreeLaws.{Agrees, agrees, agreed-refused, agreed-gives, walked-cells}

@@ -14,8 +14,6 @@ use Rattle.format.specs.Standing.{Stands}
 use Rattle.format.proofs.ResultLaws.{never-gives}
 use Rattle.format.proofs.StandsLaws.{known}
 use Rattle.tables.specs.Tables.{Table}
-use Rattle.index.specs.Build.{RulesIndexed}
-use Rattle.index.proofs.IndexKept.{tree-kept}
 use Rattle.hitac.specs.Hiproofs.{atomics}
 use Rattle.hitac.proofs.Nodes.{Cell}
 use Rattle.input_arities.specs.Layout.{framesEnd, aritiesEnd}
@@ -25,6 +23,7 @@ use Rattle.walks.specs.declared.state.Turn.the-variants as U
 use Rattle.walks.specs.Layout.{indexEnd}
 use Rattle.walks.specs.Walks.{Out}
 use Rattle.walks.specs.Loops.{Aim, Roomy, Begins, Gave, placed, Leaf, Acted, Turned, Steps}
+use Rattle.walks.proofs.IndexLaws.{indexed-still}
 use Rattle.walks.proofs.LeafLaws.{leaf-refused, leaf-gave, begins-behind, turned-later}
 use Rattle.nodes.specs.declared.walk.Stepped.{Stepped}
 use Rattle.nodes.specs.declared.leaf.Taken.the-variants as A
@@ -33,17 +32,6 @@ use Rattle.nodes.specs.NodeActs.{nodeAct}
 use Rattle.nodes.specs.Leaves.{LeafRoom, Fitting, Takes}
 use Rattle.nodes.specs.Walks.{Walkable, Goes}
 use Rattle.nodes.proofs.CellLaws.{cells-above}
-
-abbrev pub SameIndex : (w w′ : List ℕ) → Type 0
-SameIndex w w′ = (i : ℕ) → aritiesEnd ≤ i → i < indexEnd → getD w′ i 0 ≡ getD w i 0
-
--- the rules stay indexed
-pub indexed-still : (table : List ℕ) (first : ℕ) (w w′ : List ℕ) → length w′ ≡ length w → SameIndex w w′ → RulesIndexed table first w aritiesEnd → RulesIndexed table first w′ aritiesEnd
-indexed-still table first w w′ e k ix = (
-  ix .0,
-  ix .1,
-  (ix .2 .0, tree-kept 6 table (ix .0) w w′ aritiesEnd (ix .2 .0) (omega arith) (λ i a b. k i a (omega (arith, ix .2 .1 .sound .few))) (ix .2 .1)),
-)
 
 -- the next term is behind an earlier place too
 pub goes-later : (T : Table) (x : Aim Cell) (s w w′ : List ℕ) (at at′ : ℕ) (r : Stepped) → at′ ≤ at → Goes T x s w w′ at r → Goes T x s w w′ at′ r

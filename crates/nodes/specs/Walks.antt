@@ -1,8 +1,8 @@
 -- Where the walk over nodes stands, by what is shared with the checker's walk: the cells made so far are the first ones behind the index.
-use Prim.Native.Nat.{ℕ, _*_, _≤_, _<_}
+use Prim.Native.Nat.{ℕ, _*_, _≤_}
 use mathlib.Core.Path.{_≡_}
 use mathlib.Core.List.{List}
-use lib.ListN.{length, getD}
+use lib.ListN.{length}
 use Rattle.format.specs.Limits.{mostBytes}
 use Rattle.format.specs.Refusals.{Cause, number}
 use Rattle.format.specs.Results.{gives, refused}
@@ -11,7 +11,7 @@ use Rattle.tables.specs.Standing.{TableStands}
 use Rattle.index.specs.Build.{RulesIndexed}
 use Rattle.hitac.proofs.Nodes.{Cell}
 use Rattle.input_arities.specs.Layout.{stackEnd, aritiesEnd}
-use Rattle.walks.specs.Layout.{indexEnd}
+use Rattle.walks.specs.SameIndex.{SameIndex}
 use Rattle.walks.specs.Values.{valuesAt}
 use Rattle.walks.specs.Walks.{out}
 use Rattle.walks.specs.Loops.{Aim, Turned}
@@ -32,7 +32,7 @@ pub record Walkable (T : Table) (x : Aim Cell) (table : List ℕ) (first : ℕ) 
 -- a step that left the index as it was
 pub record Goes (T : Table) (x : Aim Cell) (s w w′ : List ℕ) (at : ℕ) (r : Stepped) : Type 0 where
   pub turned : Turned (nodeAct T) x (cellsOf w′ (r .next)) s w′ at (r .turn)
-  pub index-kept : (i : ℕ) → aritiesEnd ≤ i → i < indexEnd → getD w′ i 0 ≡ getD w i 0
+  pub index-kept : SameIndex w w′
 
 -- how the whole walk ended in the work space w
 unfoldable pub Ends : Aim Cell → List ℕ → List ℕ → Walked → Type 0

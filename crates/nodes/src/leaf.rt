@@ -77,7 +77,7 @@ fn use_rule(
     let found = find_rule(table, first, work, ARITIES_END, name, goal);
     match found {
         RuleFound::Missing => Taken::Refused(20),
-        RuleFound::Premises(place, count) => {
+        RuleFound::Rule(_, place, count) => {
             let made = next + count;
             grow(work, node, name, next, table, place, count, n.low);
             Taken::Gives(count, 1, made)

@@ -125,23 +125,22 @@ module _ {C : Type 0} (act : Act C) (x : Aim C) (A : List C) (s w : List ℕ) (n
 
   -- ---- a write behind the arities leaves where the walk stands
 
+  pub with-behind : (t : Term) (f : List Waiting) → BeginsWith act x A s w n t f → (w′ : List ℕ) (a c : ℕ) → Kept w w′ a c → aritiesEnd ≤ a → BeginsWith act x A s w′ n t f
+  with-behind t f q w′ a c k h =
+      let d = shown-depth s w f _ _ _ _ (q .shown) in
+      record {
+        same = q .same ∙ ap (λ (g : List ℕ). resumed act f (walkOf act t (n .at) A g)) (sym (values-below w w′ a c (n .top) (n .count) k (omega (arith, q .below))));
+        stands = q .stands;
+        ahead = ahead-kept w w′ a c (n .arity) _ k (inr h) (q .ahead);
+        room = q .room;
+        below = q .below;
+        shown = shown-kept s w w′ a c k f (n .frames) _ _ _ (inr (omega (arith, d, weight-length f, q .depth, one-field t))) (q .shown);
+        counted = q .counted;
+        depth = q .depth;
+      }
+
   pub begins-behind : Begins act x A s w n → (w′ : List ℕ) (a c : ℕ) → Kept w w′ a c → aritiesEnd ≤ a → Begins act x A s w′ n
-  begins-behind b w′ a c k h =
-      let q = b .2 in
-      let d = shown-depth s w (b .1) _ _ _ _ (q .shown) in (
-        b .0,
-        b .1,
-        record {
-          same = q .same ∙ ap (λ (g : List ℕ). resumed act (b .1) (walkOf act (b .0) (n .at) A g)) (sym (values-below w w′ a c (n .top) (n .count) k (omega (arith, q .below))));
-          stands = q .stands;
-          ahead = ahead-kept w w′ a c (n .arity) _ k (inr h) (q .ahead);
-          room = q .room;
-          below = q .below;
-          shown = shown-kept s w w′ a c k (b .1) (n .frames) _ _ _ (inr (omega (arith, d, weight-length (b .1), q .depth, one-field (b .0)))) (q .shown);
-          counted = q .counted;
-          depth = q .depth;
-        },
-      )
+  begins-behind b w′ a c k h = (b .0, b .1, with-behind (b .0) (b .1) (b .2) w′ a c k h)
 
 -- ---- a step of several parts
 

@@ -1,3 +1,4 @@
+pub mod IndexLaws
 pub mod ValueLaws
 pub mod MoveLaws
 pub mod LabelLaws

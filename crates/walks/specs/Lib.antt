@@ -1,4 +1,5 @@
 pub mod Layout
+pub mod SameIndex
 pub mod Values
 pub mod Walks
 pub mod Made

@@ -1,26 +1,33 @@
 -- `decide::decide` meets its contract: the walk's answer, and whether its goals are those stated, say which answer it is.
 -- Assumes nothing.
 use mathlib.Core.Path.{_≡_, sym, subst, _∙_}
-use mathlib.Core.List.{List}
+use mathlib.Core.List.{List, []}
 use Prim.Native.Nat.{ℕ, _+_, _≤_}
 use native.Mathlib.Omega.{arith}
 use lib.ListN.{length}
 use denote.Ref.{now}
 use borrow.Author.Needs.{needs}
+use Rattle.format.specs.Limits.{mostBytes}
 use Rattle.format.specs.Results.{gives}
 use Rattle.format.specs.Terms.{size, fields}
 use Rattle.format.specs.Standing.{Stands}
 use Rattle.format.proofs.ResultLaws.{same-value}
+use Rattle.rule_set.specs.Sets.{RuleSet}
 use Rattle.tables.specs.Tables.{Table}
 use Rattle.tables.specs.Standing.{TableStands}
 use Rattle.files.specs.Proofs.{Proof, readProofFields}
+use Rattle.hitac.specs.UsedRules.{walkedRules}
 use Rattle.answers.specs.declared.Answer.{Answer}
+use Rattle.answers.specs.Answers as answer
 use Rattle.input_arities.specs.Layout.{aritiesEnd}
 use Rattle.input_arities.specs.Arities.{Noted}
 use Rattle.input_arities.proofs.ProofLaws.{Small, small, term-there, term-room}
+use Rattle.checker.specs.Layout.{usedPlace}
+use Rattle.checker.specs.Acts.{Behind}
 use Rattle.checker.specs.Walks.{Ready}
 use Rattle.checker.specs.Checks.{checkedAnswer}
-use Rattle.checker.proofs.DecideLaws.{Walking, walk-ready, behind-still, goals-there, decides-refused, decides-bound, decides-accepted, decides-other}
+use Rattle.checker.proofs.StepLaws.{behind-set}
+use Rattle.checker.proofs.DecideLaws.{Walking, walk-ready, behind-still, set-still, goals-there, decides-refused, decides-bound, decides-rules, decides-accepted, decides-other}
 use Rattle.checker.proofs.decide.decide.Statement.{statement}
 use Rattle.checker.proofs.decide.decide.Tie as tie
 
@@ -37,10 +44,13 @@ term-stands i = term-there _ _ (i .pre .1 .1) _ (i .pre .1 .2)
 same-proof : (s : List ℕ) (p p′ : Proof) (T : Table) (r : Answer) → readProofFields s ≡ gives p → readProofFields s ≡ gives p′ → r ≡ checkedAnswer T p → r ≡ checkedAnswer T p′
 same-proof s p p′ T r e e′ h = subst (λ (x : Proof). r ≡ checkedAnswer T x) (same-value (sym e ∙ e′)) h
 
--- ---- the places: the arities are noted, the goals copied; the walk is to begin, and has ended, refused or with goals; these are compared
+-- ---- the places: the set of the rules used is empty, the arities are noted, the goals copied; the walk is to begin, and has ended, refused or with goals; these are compared
+
+abbrev emptied : tie.After-note-arities → tie.After-make-empty
+emptied c = c .before .before .before .before
 
 abbrev begun : tie.After-note-arities → tie.Start
-begun c = c .before .before .before .before .before
+begun c = emptied c .before .before .before .before .before
 
 abbrev noting : tie.After-copy-in → tie.After-note-arities
 noting c = c .before .before .before .before
@@ -63,9 +73,9 @@ compared-at c = c .before .before .before
 abbrev origin : tie.After-same-goals → tie.Start
 origin c = start (gave-at (compared-at c) .before)
 
--- the work space as it was given, with the arities, with the goals, and after the walk
+-- the work space with the empty set, with the arities, with the goals, and after the walk
 abbrev work₀ : tie.After-walk-arg → List ℕ
-work₀ c = now (start c .args .work)
+work₀ c = emptied (noting (copying c)) .make-empty .last .0
 
 abbrev work₁ : tie.After-walk-arg → List ℕ
 work₁ c = noting (copying c) .note-arities .last .1 .1 .0
@@ -76,13 +86,20 @@ work₂ c = copying c .copy-in .last .0
 abbrev work₃ : tie.After-walk → List ℕ
 work₃ c = c .walk .last .1 .1 .1 .1 .0
 
-as-long : (c : tie.After-walk) → length (work₃ c) ≡ length (work₀ (c .before))
-as-long c = let k = copying (c .before) in c .walk .kept .1 .1 .1 .1 .0 ∙ k .copy-in .kept .0 ∙ noting k .note-arities .kept .1 .1 .0
+as-long : (c : tie.After-walk) → length (work₃ c) ≡ length (now (start (c .before) .args .work))
+as-long c = let k = copying (c .before) in c .walk .kept .1 .1 .1 .1 .0 ∙ k .copy-in .kept .0 ∙ noting k .note-arities .kept .1 .1 .0 ∙ emptied (noting k) .make-empty .kept .0
 
--- ---- the arities and the goals
+-- ---- the set, the arities and the goals
+
+make-empty-requires : tie.Need-make-empty-requires
+make-empty-requires c κs = c .before .before .before .before .pre .2
+
+-- there is room for the arities once the set is empty
+roomy : (e : tie.After-make-empty) → aritiesEnd ≤ length (e .make-empty .last .0)
+roomy e = omega (arith, e .before .before .before .before .before .pre .2, e .make-empty .kept .0)
 
 note-arities-requires : tie.Need-note-arities-requires
-note-arities-requires c κs = let i = c .before .before .before .before in (proof i .term, term-room _ _ (i .pre .1 .1) _ (i .pre .1 .2) _ (i .pre .2))
+note-arities-requires c κs = let e = c .before .before .before in let i = e .before .before .before .before .before in (proof i .term, term-room _ _ (i .pre .1 .1) _ (i .pre .1 .2) _ (roomy e))
 
 mul-copy-in : tie.Need-mul-copy-in
 mul-copy-in c = omega (arith, sizes (begun (c .before .before .before)) .goals)
@@ -97,18 +114,33 @@ copy-in-requires : tie.Need-copy-in-requires
 copy-in-requires c κs =
     let n = c .before .before .before in
     let i = begun n in
-    (sizes i .goals-inside, omega (arith, sizes i .goals, i .pre .2, n .note-arities .kept .1 .1 .0))
+    (sizes i .goals-inside, omega (arith, sizes i .goals, roomy (emptied n), n .note-arities .kept .1 .1 .0))
 
 -- ---- the walk
 
 enough : (c : tie.After-walk-arg) → aritiesEnd ≤ length (work₁ c)
-enough c = omega (arith, start c .pre .2, noting (copying c) .note-arities .kept .1 .1 .0)
+enough c = omega (arith, roomy (emptied (noting (copying c))), noting (copying c) .note-arities .kept .1 .1 .0)
 
 noted : (c : tie.After-walk-arg) → Noted (work₀ c) (work₁ c) (proof (start c) .term)
-noted c = let i = start c in noting (copying c) .note-arities .ensures (proof i .term) (term-room _ _ (i .pre .1 .1) _ (i .pre .1 .2) _ (i .pre .2))
+noted c = let i = start c in noting (copying c) .note-arities .ensures (proof i .term) (term-room _ _ (i .pre .1 .1) _ (i .pre .1 .2) _ (roomy (emptied (noting (copying c)))))
 
 ready : (c : tie.After-walk-arg) → Ready (now (start c .args .proof)) (start c .args .parts .term) (proof (start c) .term) (work₂ c) (start c .args .parts .goals)
 ready c = let i = start c in walk-ready _ _ (i .pre .1 .1) _ (i .pre .1 .2) _ _ (copying c .copy-in .ensures) (enough c) _ (noted c)
+
+-- the index stands behind the arities, and the set behind the index
+behind : (c : tie.After-walk-arg) → Behind (now (start c .args .table)) (start c .args .first) (work₂ c)
+behind c =
+    let i = start c in
+    let k = copying c in
+    let e = emptied (noting k) in
+    behind-still _ _ (i .pre .1 .1) _ (i .pre .1 .2) _ _ (k .copy-in .ensures) (enough c) _ _ _ (noted c) (noting k .note-arities .kept .1 .1 .0) (k .copy-in .kept .0)
+    (behind-set _ _ _ _ (e .make-empty .kept .0) (e .make-empty .ensures .1) (i .pre .3))
+
+set-there : (c : tie.After-walk-arg) → RuleSet (work₂ c) usedPlace []
+set-there c =
+    let i = start c in
+    let k = copying c in
+    set-still _ _ (i .pre .1 .1) _ (i .pre .1 .2) _ _ (k .copy-in .ensures) (enough c) _ (noted c) (noting k .note-arities .kept .1 .1 .0) (k .copy-in .kept .0) (emptied (noting k) .make-empty .ensures .0)
 
 walk-requires : tie.Need-walk-requires
 walk-requires c κs =
@@ -117,7 +149,8 @@ walk-requires c κs =
       i .pre .0,
       (proof i .term, ready c),
       record { file = sizes i .file; space = omega (arith, enough c, k .copy-in .kept .0) },
-      behind-still _ _ (i .pre .1 .1) _ (i .pre .1 .2) _ _ (k .copy-in .ensures) (enough c) _ _ _ (noted c) (noting k .note-arities .kept .1 .1 .0) (k .copy-in .kept .0) (i .pre .3),
+      behind c,
+      set-there c,
     )
 
 -- the table stands
@@ -185,23 +218,38 @@ count-fields-requires c κs = let i = origin (c .before) in (proof i .term, term
 counted-is : (c : tie.After-count-fields) → c .count-fields .result ≡ fields (proof (origin (c .before .before)) .term)
 counted-is c = let i = origin (c .before .before) in c .count-fields .ensures (proof i .term) (term-stands i .0) (term-stands i .1)
 
-counted-requires : tie.Need-counted-requires
-counted-requires c κs =
-    let s = c .before .before in
-    let g = compared-at s in
-    let w = gave-at g in
-    decides-accepted (table w) _ _ _ _ _ _ (walking w (table w) (in-table w)) _ _ (g .walked2 .given .1) (sym (s .same-goals .ensures) ∙ c .before .if1 .taken) _ (counted-is c) .1
+-- the set after the walk is that of the rules used
+abbrev sized-at : tie.After-size-of → tie.After-count-fields
+sized-at c = c .before .before
 
-same-length : tie.Need-same-length
-same-length c = as-long (gave-at (compared-at (c .before .before .before)))
+rules-there : (c : tie.After-same-goals) (T : Table) → InTable (gave-at (compared-at c)) T → RuleSet (work₃ (gave-at (compared-at c))) usedPlace (walkedRules T (proof (origin c) .term) (proof (origin c) .goals))
+rules-there c T st = let g = compared-at c in let w = gave-at g in decides-rules T _ _ _ _ _ _ (walking w T st) _ _ (g .walked2 .given .1)
 
-returns : tie.Need-returns
-returns c =
-    let n = c .before in
+size-of-requires : tie.Need-size-of-requires
+size-of-requires c κs = let s = c .before .before .before in let w = gave-at (compared-at s) in (_, rules-there s (table w) (in-table w))
+
+-- what is accepted: the fields and the rules were counted
+accepted : (c : tie.After-size-of) (T : Table) → InTable (gave-at (compared-at (sized-at c .before .before))) T
+    → (checkedAnswer T (proof (origin (sized-at c .before .before))) ≡ answer.counted (sized-at c .count-fields .result) (compared-at (sized-at c .before .before) .walked2 .given .0 .1 .0) (origin (sized-at c .before .before) .args .parts .remaining) (c .size-of .result))
+    × ((sized-at c .count-fields .result ≤ mostBytes) × (compared-at (sized-at c .before .before) .walked2 .given .0 .1 .0 ≤ mostBytes) × (origin (sized-at c .before .before) .args .parts .remaining ≤ mostBytes))
+accepted c T st =
+    let n = sized-at c in
     let s = n .before .before in
     let g = compared-at s in
     let w = gave-at g in
-    λ T p st e. same-proof _ _ p T _ (start (w .before) .pre .1 .1) e (c .counted .ensures ∙ sym (decides-accepted T _ _ _ _ _ _ (walking w T st) _ _ (g .walked2 .given .1) (sym (s .same-goals .ensures) ∙ n .before .if1 .taken) _ (counted-is n) .0))
+    decides-accepted T _ _ _ _ _ _ (walking w T st) _ _ (g .walked2 .given .1) (sym (s .same-goals .ensures) ∙ n .before .if1 .taken) _ _ (counted-is n) (c .size-of .ensures .0 _ (rules-there s T st))
+
+counted-requires : tie.Need-counted-requires
+counted-requires c κs =
+    let w = gave-at (compared-at (sized-at c .before .before)) in
+    let a = accepted c (table w) (in-table w) .1 in
+    (a .0, a .1, a .2, omega (arith, c .size-of .ensures .1))
+
+same-length : tie.Need-same-length
+same-length c = as-long (gave-at (compared-at (sized-at (c .before) .before .before)))
+
+returns : tie.Need-returns
+returns c = λ T p st e. same-proof _ _ p T _ (origin (sized-at (c .before) .before .before) .pre .1 .1) e (c .counted .ensures ∙ sym (accepted (c .before) T st .0))
 
 -- these are others
 refusal-requires-2 : tie.Need-refusal-requires-2
@@ -225,6 +273,7 @@ pub decide-spec : {M : Type 1} → statement M
 decide-spec =
     tie.close
     (tie.spec
+    make-empty-requires
     note-arities-requires
     mul-copy-in
     sub-copy-in
@@ -237,6 +286,7 @@ decide-spec =
     add-same-goals
     same-goals-requires
     count-fields-requires
+    size-of-requires
     counted-requires
     same-length
     returns

@@ -43,7 +43,7 @@ take-rule-requires c κs =
     let i = c .before .before .before .before .before .before in
     let r = i .pre .1 .1 in
     let a = some-atomic _ _ _ (i .args .n) (i .pre .1 .0) r (c .before .if1 .taken) in
-    (i .pre .0, a .0, a .1, r .below, r .space, i .pre .3)
+    (i .pre .0, a .0, a .1, r .below, r .space, i .pre .3, i .pre .4)
 
 same-length : tie.Need-same-length
 same-length c = search needs
@@ -52,7 +52,7 @@ returns : tie.Need-returns
 returns c = λ T t st r. named T _ _ _ _ _ _ (c .before .before .before .before .if1 .taken) (c .before .before .take-rule .ensures T st) t (r .stands)
 
 keep-goal-requires : tie.Need-keep-goal-requires
-keep-goal-requires c κs = let r = c .before .before .before .before .before .before .before .pre .1 .1 in (omega (arith, r .apart), omega (arith, r .below, r .space))
+keep-goal-requires c κs = let r = c .before .before .before .before .before .before .before .pre .1 .1 in (omega (arith, r .apart), r .below, r .space)
 
 same-length-2 : tie.Need-same-length-2
 same-length-2 c = search needs

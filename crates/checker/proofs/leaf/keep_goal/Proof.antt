@@ -22,7 +22,7 @@ same-length : tie.Need-same-length
 same-length c = search needs
 
 returns-2 : tie.Need-returns-2
-returns-2 c = let i = c .before .before .before .before .before .before .before .before .before in λ T at. id-one T at _ _ _ _ (c .before .before .before .before .before .before .if1 .left) (c .before .before .before .before .load16 .ensures) (c .before .before .store16 .ensures) (i .pre .0) (i .pre .1)
+returns-2 c = let i = c .before .before .before .before .before .before .before .before .before in λ T at. id-one T at _ _ _ _ (c .before .before .before .before .before .before .if1 .left) (c .before .before .before .before .load16 .ensures) (c .before .before .store16 .ensures) (c .before .before .store16 .kept .0) (i .pre .0) (i .pre .1) (i .pre .2)
 
 pub keep-goal-spec : {M : Type 1} → statement M
 keep-goal-spec =

@@ -23,14 +23,15 @@ start-requires : tie.Need-start-requires Inv-loop μ-loop
 start-requires c κs = let i = c .before .before .before in omega (arith, i .pre .1 .1 .goals-few)
 
 loop-holds : tie.Need-loop-holds Inv-loop μ-loop
-loop-holds c = let i = c .before .before .before .before in way-start _ _ _ _ _ _ _ (c .start .ensures) (i .pre .3)
+loop-holds c = let i = c .before .before .before .before in way-start _ _ _ _ _ _ _ (c .start .ensures) (i .pre .3) (i .pre .4)
 
 step-requires : tie.Need-step-requires Inv-loop μ-loop
 step-requires c κs =
     let i = c .before .before .before .before .before .before in
     let l = c .before .loop in
     let z = i .pre .2 in
-    ((i .pre .0 .0, _, i .pre .0 .1, l .inv .goes (i .pre .0 .0) (i .pre .1 .0) (i .pre .0 .1) (i .pre .1 .1)), record { file = z .file; space = omega (arith, z .space, l .inv .same-length) }, l .inv .index)
+    let u = l .inv .goes (i .pre .0 .0) (i .pre .1 .0) (i .pre .0 .1) (i .pre .1 .1) in
+    ((i .pre .0 .0, _, u .made, i .pre .0 .1, u .begins, u .rules), record { file = z .file; space = omega (arith, z .space, l .inv .same-length) }, l .inv .index)
 
 enum-known-turn : tie.Need-enum-known-turn Inv-loop μ-loop
 enum-known-turn c = search needs

@@ -17,7 +17,7 @@ use Rattle.answers.specs.Answers as answer
 use Rattle.entries.specs.LentSpace.{Written}
 use Rattle.input_arities.specs.Layout.{aritiesEnd}
 use Rattle.nodes.specs.Space.{cellsEnd}
-use Rattle.nodes.proofs.WalkLaws.{indexed-still}
+use Rattle.walks.proofs.IndexLaws.{indexed-still}
 use Rattle.flattener.specs.Forests.{TableReady}
 use Rattle.flattener.proofs.FlattenLaws.{table-refused, proof-refused, both-read}
 use Rattle.flattener.proofs.flatten.flatten_files.Statement.{statement}
