@@ -143,7 +143,7 @@ module _ (T : Table) (a : RuleName) (A : List Cell) (n : ℕ) (inside : n < leng
 
 pub grows : (T : Table) {s : Term} {g h : List Goal} → Takes T s g h → (A : List Cell) {ns : List ℕ} → Carry A ns g → Grows T s A ns h
 unfolding nodeWalk atomics
-grows T (V-Atomic {a = a} {γ = γ} {h = h} rl) A (Carry-Node {n = n} l e Carry-None) = grows-atomic T a A n l h (ap (premisesOf T a) e ∙ ap premisesIn rl)
+grows T (V-Atomic {a = a} {γ = γ} {h = h} rl) A (Carry-Node {n = n} l e Carry-None) = grows-atomic T a A n l h (ap (premisesOf T a) e ∙ ap premisesIn (rl .1))
 grows T (V-Identity {γ = γ}) A (Carry-Node l e Carry-None) = record { keeps = keeps-same A; carry = Carry-Node l e Carry-None; count = omega arith; closed = λ c. c }
 grows T (V-Label v) A c =
     let x = grows T v A c in

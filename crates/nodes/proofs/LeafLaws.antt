@@ -113,7 +113,7 @@ module _ (T : Table) (a : RuleName) (at : ℕ) (w : List ℕ) (n : Next) (next :
     unfolding Takes useFound number
     atomic-missing e = (ruleMissing, refl, looked-up ∙ ap (useFound a at A₀ node) e, refl)
 
-    module _ (h : List Goal) (found : findRule T a goalHere ≡ some (foundRule h)) (few : length h ≤ 8) (room : LeafRoom w n 1) where
+    module _ (number : ℕ) (h : List Goal) (found : findRule T a goalHere ≡ some (foundRule number h)) (few : length h ≤ 8) (room : LeafRoom w n 1) where
       abbrev k : ℕ
       k = length h
 

@@ -75,13 +75,13 @@ looked c T st =
     ∙ c .find-rule .ensures .found T st
 
 -- the premises found lie within the table
-inside : (c : tie.After-known-told) → let i = c .before .before .before .before .before .before .before .before .before .before .before .before .before .before .before in (c .before .found .given .0 .1 .0 ≤ 8) × (c .before .found .given .0 .0 + c .before .found .given .0 .1 .0 * 2 ≤ length (now (i .args .table)))
+inside : (c : tie.After-known-told) → let i = c .before .before .before .before .before .before .before .before .before .before .before .before .before .before .before in (c .before .found .given .0 .1 .1 .0 ≤ 8) × (c .before .found .given .0 .1 .0 + c .before .found .given .0 .1 .1 .0 * 2 ≤ length (now (i .args .table)))
 unfolding FoundInside
 inside c = subst (FoundInside (now ((c .before .before .before .before .before .before .before .before .before .before .before .before .before .before .before) .args .table))) (c .before .found .given .1) (c .before .before .before .find-rule .ensures .inside)
 
 -- they are the rule's
 premises : (c : tie.After-known-told) (T : Table) → let i = c .before .before .before .before .before .before .before .before .before .before .before .before .before .before .before in TableStands (now (i .args .table)) (i .args .first) T
-    → findRule T (named i) (goalHere T (named i) (i .args .at) (now (i .args .work)) (i .args .n) (i .args .next)) ≡ some (foundRule (goalsAt (now (i .args .table)) (c .before .found .given .0 .0) (c .before .found .given .0 .1 .0)))
+    → findRule T (named i) (goalHere T (named i) (i .args .at) (now (i .args .work)) (i .args .n) (i .args .next)) ≡ some (foundRule (c .before .found .given .0 .0) (goalsAt (now (i .args .table)) (c .before .found .given .0 .1 .0) (c .before .found .given .0 .1 .1 .0)))
 unfolding ruleFound
 premises c T st = looked (c .before .before .before) T st ∙ ap (ruleFound (now ((c .before .before .before .before .before .before .before .before .before .before .before .before .before .before .before) .args .table))) (c .before .found .given .1)
 
@@ -117,11 +117,11 @@ returns-3 c =
     let d = c .before .before .before .before in
     let n = c .before .before .before .before .before .before .before .before .before .before .before .before in
     let e = c .before .before .before .before .before .before .before .before .before .before .before .before .before .before .if1 .left in
-    let h = goalsAt (now (i .args .table)) (d .before .found .given .0 .0) (d .before .found .given .0 .1 .0) in
-    let l = length-goalsAt (d .before .found .given .0 .1 .0) (now (i .args .table)) (d .before .found .given .0 .0) in (
+    let h = goalsAt (now (i .args .table)) (d .before .found .given .0 .1 .0) (d .before .found .given .0 .1 .1 .0) in
+    let l = length-goalsAt (d .before .found .given .0 .1 .1 .0) (now (i .args .table)) (d .before .found .given .0 .1 .0) in (
       planted (now (i .args .work)) (n .load16 .result) (c .before .before .before .before .before .before .before .before .before .before .before .rule-name-at .result .0) (i .args .next) h,
       kept-planted _ _ _ _ h (there n .0) (omega (arith, there n, l, inside d)),
-      (λ T st. atomic-gives T _ _ _ _ _ e (i .pre .4 e) h (premises d T st) (omega (arith, l, inside d)) (i .pre .3) _ _ _ (n .load16 .ensures) (c .before .before .before .before .before .before .before .before .before .before .before .rule-name-at .ensures) (c .before .before .grow .ensures) _ l),
+      (λ T st. atomic-gives T _ _ _ _ _ e (i .pre .4 e) _ h (premises d T st) (omega (arith, l, inside d)) (i .pre .3) _ _ _ (n .load16 .ensures) (c .before .before .before .before .before .before .before .before .before .before .before .rule-name-at .ensures) (c .before .before .grow .ensures) _ l),
     )
 
 pub use-rule-spec : {M : Type 1} → statement M
