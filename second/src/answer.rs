@@ -22,6 +22,28 @@ pub struct Answer {
     pub uses: u32,
     /// Remaining goals of an accepted proof, open entries of a right flat file.
     pub open: u32,
+    /// Different rules used in an accepted proof or a right flat file (P6).
+    pub rules: u32,
+    /// These three are for later requests (goals taken and longest list of P9, the
+    /// tactic of P11) and always 0 here. They stand in the answer already, so that
+    /// its form changes once.
+    pub goals: u32,
+    pub longest: u32,
+    pub tactic: u32,
+}
+
+impl Answer {
+    /// All numbers in the order of their fields.
+    pub fn numbers(self) -> [u32; 12] {
+        let Answer { number, file, place, steps, length, fields, uses, open, rules, goals, longest, tactic } = self;
+        [number, file, place, steps, length, fields, uses, open, rules, goals, longest, tactic]
+    }
+
+    /// The answer with these numbers.
+    pub fn of_numbers(numbers: [u32; 12]) -> Answer {
+        let [number, file, place, steps, length, fields, uses, open, rules, goals, longest, tactic] = numbers;
+        Answer { number, file, place, steps, length, fields, uses, open, rules, goals, longest, tactic }
+    }
 }
 
 /// Every reason to refuse, with the number that document 01 or 02 gives it.

@@ -97,14 +97,16 @@ fn perform(words: &[&str]) -> Outcome {
 fn check(table: &str, proof: &str) -> Outcome {
     let (table_bytes, proof_bytes) = (read(table)?, read(proof)?);
     let answer = crate::check(&table_bytes, &proof_bytes, &mut vec![0; limits::CHECK_WORK]);
-    let success = format!("accepted fields {} uses {} open {}", answer.fields, answer.uses, answer.open);
+    let Answer { fields, uses, open, rules, .. } = answer;
+    let success = format!("accepted fields {fields} uses {uses} open {open} rules {rules}");
     Ok(report(answer, &success, table, proof))
 }
 
 fn check_flat(table: &str, flat: &str) -> Outcome {
     let (table_bytes, flat_bytes) = (read(table)?, read(flat)?);
     let answer = crate::check_flat(&table_bytes, &flat_bytes, &mut vec![0; limits::CHECK_FLAT_WORK]);
-    Ok(report(answer, &format!("right uses {} open {}", answer.uses, answer.open), table, flat))
+    let Answer { uses, open, rules, .. } = answer;
+    Ok(report(answer, &format!("right uses {uses} open {open} rules {rules}"), table, flat))
 }
 
 fn run(table: &str, job: &str, budget: &str, output: &str) -> Outcome {

@@ -12,6 +12,7 @@ pub fn check(table: &[u8], proof: &[u8], work: &mut [u8]) -> Answer {
             fields: accepted.fields as u32,
             uses: accepted.uses as u32,
             open: accepted.open as u32,
+            rules: accepted.rules as u32,
             ..Answer::default()
         })
     })
@@ -37,7 +38,7 @@ pub fn flatten(table: &[u8], proof: &[u8], work: &mut [u8], output: &mut [u8]) -
 pub fn check_flat(table: &[u8], flat: &[u8], work: &mut [u8]) -> Answer {
     with_work_space(work, limits::CHECK_FLAT_WORK, || {
         let right = engine::check_flat(table, flat)?;
-        Ok(Answer { uses: right.uses as u32, open: right.open as u32, ..Answer::default() })
+        Ok(Answer { uses: right.uses as u32, open: right.open as u32, rules: right.rules as u32, ..Answer::default() })
     })
 }
 

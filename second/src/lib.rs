@@ -1,11 +1,11 @@
 //! The second Hitac engine.
 //!
-//! An independent implementation of document 01 (the scope) and of P3, P5, P7, P8
-//! and P13 of document 02 (the change requests), written from these documents, the
-//! paper and the fixed readings alone. Comments quote the sentence that a piece of
+//! An independent implementation of document 01 (the scope) and of P3, P5, P6, P7,
+//! P8 and P13 of document 02 (the change requests), written from these documents,
+//! the paper and the fixed readings alone. Comments quote the sentence that a piece of
 //! code follows, or name the reading: READINGS A26 is reading A26, which
 //! docs/DECISIONS.md records under the same number; B3.3 is a reading of P3, B5.3
-//! one of P5, B7.1 one of P7, B8.4 one of P8 and B13.4 one of P13.
+//! one of P5, B6.1 one of P6, B7.1 one of P7, B8.4 one of P8 and B13.4 one of P13.
 //!
 //! - `entries`: the eight public calls, with lent work and output spaces;
 //! - `format`: the bytes of the five kinds of file;

@@ -4,7 +4,7 @@ use crate::answer::Answer;
 use crate::generate::case::{Case, Entry, Outcome};
 
 const MAGIC: &[u8; 8] = b"HITACVEC";
-const VERSION: u16 = 1;
+const VERSION: u16 = 2;
 
 const RECORD_END: u8 = 0;
 const RECORD_TABLE: u8 = 1;
@@ -58,24 +58,18 @@ fn put(number: usize, bytes: &mut Vec<u8>) {
 }
 
 fn write_case_record(case: &Case, outcome: &Outcome, bytes: &mut Vec<u8>) {
-    let answer = outcome.answer;
     bytes.push(RECORD_CASE);
     bytes.push(case.entry.code());
     bytes.extend(case.budget.to_be_bytes());
     put(case.work_length, bytes);
     put(case.output_length, bytes);
-    for number in numbers_of(answer) {
+    for number in outcome.answer.numbers() {
         bytes.extend(number.to_be_bytes());
     }
     bytes.extend(digest(&outcome.output).to_be_bytes());
     if case.entry == Entry::Search {
         bytes.extend(case.height.to_be_bytes());
     }
-}
-
-fn numbers_of(answer: Answer) -> [u32; 8] {
-    let Answer { number, file, place, steps, length, fields, uses, open } = answer;
-    [number, file, place, steps, length, fields, uses, open]
 }
 
 /// A block of bytes and how many times it stands in the file.
@@ -188,6 +182,14 @@ impl<'a> Source<'a> {
         Some(u32::from_be_bytes(self.block(4)?.try_into().ok()?))
     }
 
+    fn answer(&mut self) -> Option<Answer> {
+        let mut numbers = [0; 12];
+        for number in &mut numbers {
+            *number = self.number32()?;
+        }
+        Some(Answer::of_numbers(numbers))
+    }
+
     fn file(&mut self) -> Option<Vec<u8>> {
         let length = self.number32()? as usize;
         let mut file = Vec::new();
@@ -208,16 +210,7 @@ impl<'a> Source<'a> {
         let budget = self.number32()?;
         let work_length = self.number32()? as usize;
         let output_length = self.number32()? as usize;
-        let answer = Answer {
-            number: self.number32()?,
-            file: self.number32()?,
-            place: self.number32()?,
-            steps: self.number32()?,
-            length: self.number32()?,
-            fields: self.number32()?,
-            uses: self.number32()?,
-            open: self.number32()?,
-        };
+        let answer = self.answer()?;
         let digest = self.number32()?;
         let height = if entry == Entry::Search { self.number32()? } else { 0 };
         let (table, other) = (table.to_vec(), other.to_vec());

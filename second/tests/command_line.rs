@@ -53,9 +53,9 @@ fn from_a_run_to_the_proof_written_back() {
     let line = |text: &str| (text.to_string(), 0);
     assert_eq!(folder.says(&["run", "table.kit", "job", "19", "proof.hip"]), line("written 51 bytes steps 19\n"));
     assert_eq!(folder.get("proof.hip"), first_proof());
-    assert_eq!(folder.says(&["check", "table.kit", "proof.hip"]), line("accepted fields 11 uses 3 open 0\n"));
+    assert_eq!(folder.says(&["check", "table.kit", "proof.hip"]), line("accepted fields 11 uses 3 open 0 rules 3\n"));
     assert_eq!(folder.says(&["flatten", "table.kit", "proof.hip", "flat"]), line("written 26 bytes\n"));
-    assert_eq!(folder.says(&["check-flat", "table.kit", "flat"]), line("right uses 3 open 0\n"));
+    assert_eq!(folder.says(&["check-flat", "table.kit", "flat"]), line("right uses 3 open 0 rules 3\n"));
     assert_eq!(folder.says(&["write", "table.kit", "flat", "back"]), line("written 29 bytes\n"));
     assert_eq!(folder.get("back"), first_written_back());
 }
@@ -92,7 +92,7 @@ fn a_search_finds_what_a_run_does_not() {
     assert_eq!(search("99999999999", "4097"), refused("refused 25 file 0 place 0\n"));
     assert!(!folder.0.join("out").exists());
     assert_eq!(search("10", "56"), ("written 45 bytes steps 56\n".to_string(), 0));
-    assert_eq!(folder.says(&["check", "table", "out"]).0, "accepted fields 9 uses 3 open 0\n");
+    assert_eq!(folder.says(&["check", "table", "out"]).0, "accepted fields 9 uses 3 open 0 rules 2\n");
     assert_eq!(folder.complaint(&["search", "table", "job", "high", "56", "out"]).1, 2);
     let words = |height: &str| folder.complaint(&["search", "table", "job", height, "4096", "out"]).0;
     assert_eq!(words("9"), "no evaluation at most that high exists with lists of at most 256 goals\n");
@@ -134,7 +134,7 @@ fn a_proof_of_no_bytes_and_one_that_is_missing() {
     folder.put("table.kit", &table_a());
     folder.put("torn.kit", &[1, 0]);
     for table in ["table.kit", "nothing"] {
-        assert_eq!(folder.says(&["check", table, "nothing"]), line("accepted fields 1 uses 0 open 0\n"));
+        assert_eq!(folder.says(&["check", table, "nothing"]), line("accepted fields 1 uses 0 open 0 rules 0\n"));
         assert_eq!(folder.says(&["flatten", table, "nothing", "flat"]), line("written 3 bytes\n"));
         assert_eq!(folder.get("flat"), [3, 0, 0]);
         assert_eq!(folder.says(&["write", table, "flat", "back"]), line("written 9 bytes\n"));

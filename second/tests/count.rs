@@ -69,9 +69,9 @@ fn the_terms_of_document_01() {
     assert_eq!(tally["table"], 6 + 2 + 7 + 5);
     assert_eq!(first_proof().len(), 51);
     assert_eq!(count_fields(&first_proof(), 5, 48), 11);
-    assert_eq!(check(&table_a(), &first_proof()), accepted(11, 3, 0));
-    assert_eq!(check(&table_a(), &first_written_back()), accepted(5, 3, 0));
-    assert_eq!(check(&table_of_eight(), &eights(32)), accepted(63, 32, 256));
+    assert_eq!(check(&table_a(), &first_proof()), accepted(11, 3, 0, 3));
+    assert_eq!(check(&table_a(), &first_written_back()), accepted(5, 3, 0, 3));
+    assert_eq!(check(&table_of_eight(), &eights(32)), accepted(63, 32, 256, 1));
     has_fields(&tensor(&id(), &tensor(&id(), &empty())), 5);
     has_fields(&sequence(&alternation(&id(), &atomic(2)), &empty()), 5);
     has_fields(&label(1, &empty()), 2);

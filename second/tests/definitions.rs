@@ -4,6 +4,7 @@ mod common;
 mod plain;
 use common::*;
 use plain::proof_file::proof_of;
+use plain::rules::{rules_of_term, rules_of_trees};
 use plain::*;
 use second::generate::build;
 use second::generate::random::Random;
@@ -47,6 +48,7 @@ fn check_is_the_walk() {
                 accepted_proofs += 1;
                 assert_eq!((answer.number, answer.open), (0, goals.len() as u32));
                 assert_eq!(answer.uses, uses.len() as u32);
+                assert_eq!(answer.rules as usize, rules_of_term(&table, &says.hiproof, &says.goals).len());
             }
         }
     }
@@ -84,7 +86,8 @@ fn flat_check_and_writer_read_trees_back() {
             continue;
         }
         let (written, proof) = write_proof(&table_bytes, &flat);
-        match trees_of(&Table::of(&table_bytes), &flat) {
+        let table = Table::of(&table_bytes);
+        match trees_of(&table, &flat) {
             Err(place) => {
                 assert_eq!(checked, refused(27, 2, place as u32));
                 assert_eq!(written, checked);
@@ -92,24 +95,13 @@ fn flat_check_and_writer_read_trees_back() {
             Ok(trees) => {
                 right += 1;
                 assert_eq!(checked.number, 0);
+                assert_eq!(checked.rules as usize, rules_of_trees(&table, &trees).len());
                 let goals = goals_at(&flat, 0);
                 assert_eq!(proof, build::proof(&goals, &written_forest(&trees), &open_leaves(&trees)));
             }
         }
     }
     assert!(right > CASES / 3, "only {right} right");
-}
-
-fn trees_of(table: &Table, flat: &[u8]) -> Result<Vec<Tree>, usize> {
-    let mut place = end_of(flat, 0);
-    let mut trees = Vec::new();
-    for goal in goals_at(flat, 0) {
-        trees.push(read_back(table, flat, &mut place, goal)?);
-    }
-    if place < flat.len() {
-        return Err(place);
-    }
-    Ok(trees)
 }
 
 /// The plain run is recursive and a run may be 4,096 terms deep, so it gets a

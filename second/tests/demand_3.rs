@@ -14,6 +14,7 @@ use second::generate::no_bytes;
 use second::generate::random::Random;
 use second::generate::random_file::{random_flat, random_proof};
 use second::generate::random_table::{RandomTable, Size};
+use second::Answer;
 
 fn entries(flat: &[u8], tag: u8) -> Vec<Vec<u16>> {
     let mut place = end_of(flat, 0);
@@ -28,11 +29,12 @@ fn entries(flat: &[u8], tag: u8) -> Vec<Vec<u16>> {
 }
 
 /// An accepted proof flattens to a right derivation of its goals, open at its
-/// remaining goals, with uses one for one; labels make no difference.
+/// remaining goals, with uses one for one, so that its counts are the proof's; labels
+/// make no difference.
 fn from_proof(table_bytes: &[u8], proof: &[u8]) {
     let (answer, flat) = flatten(table_bytes, proof);
     assert_eq!(answer.number, 0);
-    assert_eq!(check_flat(table_bytes, &flat).number, 0);
+    assert_eq!(check_flat(table_bytes, &flat), Answer { fields: 0, ..check(table_bytes, proof) });
     let says = proof_of(proof).unwrap();
     assert_eq!(goals_at(&flat, 0), says.goals);
     assert_eq!(entries(&flat, 33).concat(), says.remaining);
@@ -43,19 +45,19 @@ fn from_proof(table_bytes: &[u8], proof: &[u8]) {
     used.sort();
     assert_eq!(used, walked);
     let unlabelled = dropping_labels(proof);
-    assert_eq!(check(table_bytes, &unlabelled).number, 0);
+    let fields = check(table_bytes, &unlabelled).fields;
+    assert_eq!(check(table_bytes, &unlabelled), Answer { fields, ..check(table_bytes, proof) });
     assert_eq!(flatten(table_bytes, &unlabelled).1, flat);
 }
 
 /// A right derivation of at most 2,048 entries is written as an accepted proof of
-/// 2e − 1 term fields that flattens to the same bytes.
+/// 2e − 1 term fields with the same counts, which flattens to the same bytes.
 fn from_derivation(table_bytes: &[u8], flat: &[u8]) {
     let (answer, proof) = write_proof(table_bytes, flat);
     assert_eq!(answer.number, 0);
     let count = entries(flat, 32).len() + entries(flat, 33).len();
-    let checked = check(table_bytes, &proof);
-    assert_eq!(checked.number, 0);
-    assert_eq!(checked.fields as usize, (2 * count).max(2) - 1);
+    let fields = (2 * count).max(2) as u32 - 1;
+    assert_eq!(check(table_bytes, &proof), Answer { fields, ..check_flat(table_bytes, flat) });
     assert_eq!(flatten(table_bytes, &proof).1, flat);
 }
 
@@ -124,9 +126,9 @@ fn from_a_proof_of_no_bytes() {
 fn an_accepted_proof_may_flatten_to_more_than_2048_entries() {
     let chain = limit_files::chain_table();
     let proof = limit_files::proof_of_most_uses();
-    assert_eq!(check(&chain, &proof), accepted(4_095, 2_048, 2));
+    assert_eq!(check(&chain, &proof), accepted(4_095, 2_048, 2, 2));
     let (answer, flat) = flatten(&chain, &proof);
     assert_eq!(answer.number, 0);
-    assert_eq!(check_flat(&chain, &flat), accepted(0, 2_048, 2));
+    assert_eq!(check_flat(&chain, &flat), accepted(0, 2_048, 2, 2));
     assert_eq!(write_proof(&chain, &flat).0, refused(28, 2, 0));
 }

@@ -30,7 +30,7 @@ fn first_proof_is_flattened_and_written_back() {
     let (_, proof_bytes) = write_proof(&table_a(), &flat_bytes);
     let term = sequence(&atomic(1), &tensor(&atomic(2), &atomic(3)));
     assert_eq!(proof_bytes, proof(&[10], &term, &[]));
-    assert_eq!(check(&table_a(), &proof_bytes), accepted(5, 3, 0));
+    assert_eq!(check(&table_a(), &proof_bytes), accepted(5, 3, 0, 3));
 }
 
 #[test]
@@ -68,7 +68,7 @@ fn proofs_that_do_not_validate() {
 
 #[test]
 fn eight_times_32_pass_and_33_do_not() {
-    assert_eq!(check(&table_of_eight(), &eights(32)), accepted(63, 32, 256));
+    assert_eq!(check(&table_of_eight(), &eights(32)), accepted(63, 32, 256, 1));
     // The outermost tensor joins all 264; it stands behind the list of 33 goals.
     assert_eq!(check(&table_of_eight(), &eights(33)), refused(22, 2, 3 + 66));
     let term = tensor_of(&vec![atomic(4); 33]);
@@ -88,14 +88,14 @@ fn entries_2048_are_written_back_and_2049_are_not() {
     let table = limit_files::chain_table();
     let (answer, bytes) = write_proof(&table, &limit_files::flat_chain(2_048));
     assert_eq!(answer.number, 0);
-    assert_eq!(check(&table, &bytes), accepted(2 * 2_048 - 1, 2_048, 0));
+    assert_eq!(check(&table, &bytes), accepted(2 * 2_048 - 1, 2_048, 0, 2));
     assert_eq!(write_proof(&table, &limit_files::flat_chain(2_049)).0, refused(28, 2, 0));
 }
 
 #[test]
 fn the_check_of_the_first_proof() {
-    assert_eq!(check(&table_a(), &first_proof()), accepted(11, 3, 0));
-    assert_eq!(check_flat(&table_a(), &first_flat()), accepted(0, 3, 0));
+    assert_eq!(check(&table_a(), &first_proof()), accepted(11, 3, 0, 3));
+    assert_eq!(check_flat(&table_a(), &first_flat()), accepted(0, 3, 0, 3));
 }
 
 #[test]

@@ -63,6 +63,9 @@ fn hold_promises(case: &Case) {
     } else {
         assert_eq!((answer.length, answer.fields, answer.uses, answer.open), (0, 0, 0, 0));
     }
+    let counts_rules = answer.number == 0 && !case.entry.has_output();
+    assert!(answer.rules <= answer.uses && (counts_rules || answer.rules == 0), "{case:?}");
+    assert_eq!((answer.goals, answer.longest, answer.tactic), (0, 0, 0));
     assert!(answer.steps <= case.budget.min(4_096));
 }
 

@@ -39,7 +39,7 @@ fn written(length: u32) -> Answer {
 #[test]
 fn it_is_accepted_in_every_table_that_reads() {
     for table in tables_that_read() {
-        assert_eq!(check(&table, &[]), accepted(1, 0, 0));
+        assert_eq!(check(&table, &[]), accepted(1, 0, 0, 0));
         assert_eq!(flatten(&table, &[]), (written(3), FLAT_FORM.to_vec()));
     }
 }
@@ -60,12 +60,17 @@ fn a_refused_table_comes_first() {
     assert_eq!(numbers, (1..=9).collect());
 }
 
+fn counted(counts: [usize; 4]) -> Answer {
+    let [fields, uses, open, rules] = counts.map(|count| count as u32);
+    accepted(fields, uses, open, rules)
+}
+
 /// Check's and flatten's answers, with spaces that suffice.
 fn engine_answers(table: &[u8], proof: &[u8]) -> [Answer; 2] {
     let counts = engine::check(table, proof);
     let flat = engine::flatten(table, proof);
     [
-        counts.map_or_else(Answer::from, |one| accepted(one.fields as u32, one.uses as u32, one.open as u32)),
+        counts.map_or_else(Answer::from, |one| counted([one.fields, one.uses, one.open, one.rules])),
         flat.map_or_else(Answer::from, |bytes| written(bytes.len() as u32)),
     ]
 }
@@ -74,7 +79,6 @@ fn engine_answers(table: &[u8], proof: &[u8]) -> [Answer; 2] {
 /// of fewer than three bytes.
 fn plain_answers(table: &Table, proof: &[u8]) -> [Answer; 2] {
     let refusal = |(number, place): (u32, usize)| refused(number, 2, place as u32);
-    let counted = |(fields, uses, open): (usize, usize, usize)| accepted(fields as u32, uses as u32, open as u32);
     [
         proof_file::check(table, proof).map_or_else(refusal, counted),
         proof_file::flatten(table, proof).map_or_else(refusal, |bytes| written(bytes.len() as u32)),
@@ -92,7 +96,7 @@ fn no_bytes_and_all_of_one_or_two_are_as_the_plain_definition_says() {
         for file in &files {
             let answers = engine_answers(&table_bytes, file);
             assert_eq!(answers, plain_answers(&table, file), "{file:?}");
-            let expected = if file.is_empty() { [accepted(1, 0, 0), written(3)] } else { [refused(2, 2, 0); 2] };
+            let expected = if file.is_empty() { [accepted(1, 0, 0, 0), written(3)] } else { [refused(2, 2, 0); 2] };
             assert_eq!(answers, expected, "{file:?}");
         }
     }
@@ -173,7 +177,7 @@ fn too_short_a_work_space_is_29_first() {
                     (false, _) => assert_eq!(outcome.answer, refused(29, 0, 0)),
                     (true, _) if !reads => assert_eq!(outcome.answer.file, 1),
                     (true, Entry::Flatten) => assert_eq!(outcome.answer, refused(26, 0, 0)),
-                    (true, _) => assert_eq!(outcome.answer, accepted(1, 0, 0)),
+                    (true, _) => assert_eq!(outcome.answer, accepted(1, 0, 0, 0)),
                 }
             }
         }
@@ -191,14 +195,14 @@ fn no_bytes_are_no_other_file_but_a_table() {
     }
     assert_eq!(write_text(&[]), (refused(2, 2, 0), vec![]));
     assert_eq!(read_text(&[]), (refused(36, 2, 0), vec![]));
-    assert_eq!(check(&[], NINE_BYTES), accepted(1, 0, 0));
+    assert_eq!(check(&[], NINE_BYTES), accepted(1, 0, 0, 0));
 }
 
 /// B7.4: the proof of no roots has nine bytes. Runs and searches write fields, too.
 #[test]
 fn no_bytes_are_never_written() {
     for table in no_bytes::good_tables() {
-        assert_eq!(check_flat(&table, FLAT_FORM), accepted(0, 0, 0));
+        assert_eq!(check_flat(&table, FLAT_FORM), accepted(0, 0, 0, 0));
         assert_eq!(write_proof(&table, FLAT_FORM), (written(9), NINE_BYTES.to_vec()));
         assert_eq!(flatten(&table, NINE_BYTES), (written(3), FLAT_FORM.to_vec()));
         let job = job(&[], &empty());
@@ -241,9 +245,9 @@ fn expected_of_file(case: &Case) -> Option<Answer> {
         }
     };
     Some(match (case.entry, file) {
-        (Entry::Check, [] | NINE_BYTES) => accepted(1, 0, 0),
+        (Entry::Check, [] | NINE_BYTES) => accepted(1, 0, 0, 0),
         (Entry::Flatten, [] | NINE_BYTES) => result(3),
-        (Entry::CheckFlat, FLAT_FORM) => accepted(0, 0, 0),
+        (Entry::CheckFlat, FLAT_FORM) => accepted(0, 0, 0, 0),
         (Entry::WriteProof, FLAT_FORM) => result(9),
         (Entry::ReadText, _) => refused(36, 2, 0),
         (_, [] | [_] | [_, _]) => refused(2, 2, 0),

@@ -8,26 +8,26 @@ use second::generate::examples::*;
 #[test]
 fn examples_1_and_2() {
     // ([l] a ; b ⊗ id) ; [m] c ⊢ γ1 → ⟨⟩
-    assert_eq!(check(&table_a(), &example_1()), accepted(9, 3, 0));
+    assert_eq!(check(&table_a(), &example_1()), accepted(9, 3, 0, 3));
 }
 
 #[test]
 fn example_2_in_pieces() {
     let a = table_a();
     let left = label(1, &sequence(&atomic(1), &tensor(&atomic(2), &id())));
-    assert_eq!(check(&a, &proof(&[10], &left, &[30])), accepted(6, 2, 1));
-    assert_eq!(check(&a, &proof(&[30], &label(2, &atomic(3)), &[])), accepted(2, 1, 0));
+    assert_eq!(check(&a, &proof(&[10], &left, &[30])), accepted(6, 2, 1, 2));
+    assert_eq!(check(&a, &proof(&[30], &label(2, &atomic(3)), &[])), accepted(2, 1, 0, 1));
 }
 
 #[test]
 fn example_3_every_rule() {
-    assert_eq!(check(&propositional_table(), &propositional_proof()), accepted(15, 8, 0));
+    assert_eq!(check(&propositional_table(), &propositional_proof()), accepted(15, 8, 0, 7));
 }
 
 #[test]
 fn example_4_derived_rules() {
-    assert_eq!(check(&equational_table(), &equational_h1()), accepted(5, 2, 1));
-    assert_eq!(check(&equational_table(), &equational_h2()), accepted(9, 3, 2));
+    assert_eq!(check(&equational_table(), &equational_h1()), accepted(5, 2, 1, 2));
+    assert_eq!(check(&equational_table(), &equational_h2()), accepted(9, 3, 2, 3));
 }
 
 #[test]
@@ -50,7 +50,7 @@ fn strip_implications() {
     // "The last goal is easily proven with the atomic tactic ax."
     let (answer, bytes) = run(&propositional_table(), &job(&[1], &sequence(&defined(2), &atomic(1))), 4096);
     assert_eq!(answer.number, 0);
-    assert_eq!(check(&propositional_table(), &bytes), accepted(9, 3, 0));
+    assert_eq!(check(&propositional_table(), &bytes), accepted(9, 3, 0, 3));
 }
 
 #[test]

@@ -22,13 +22,13 @@ fn number_1() {
     let long = vec![0; MOST_INPUT_BYTES + 1];
     assert_eq!(check(&long, &long), refused(1, 1, 0));
     assert_eq!(check(&[], &long), refused(1, 2, 0));
-    assert_eq!(table_answer(&limit_files::longest_table()), accepted(1, 0, 0));
+    assert_eq!(table_answer(&limit_files::longest_table()), accepted(1, 0, 0, 0));
     assert_eq!(table_answer(&[limit_files::longest_table(), vec![1]].concat()), refused(1, 1, 0));
 }
 
 #[test]
 fn number_2_in_tables() {
-    assert_eq!(table_answer(&[]), accepted(1, 0, 0));
+    assert_eq!(table_answer(&[]), accepted(1, 0, 0, 0));
     assert_eq!(table_answer(&[1]), refused(2, 1, 0));
     assert_eq!(table_answer(&[99, 0]), refused(2, 1, 0));
     assert_eq!(table_answer(&[1, 0, 4, 0, 1, 0]), refused(2, 1, 0));
@@ -40,7 +40,7 @@ fn number_2_in_tables() {
 #[test]
 fn number_2_where_a_field_must_begin() {
     // P7: a proof of no bytes reads.
-    assert_eq!(proof_answer(&[]), accepted(1, 0, 0));
+    assert_eq!(proof_answer(&[]), accepted(1, 0, 0, 0));
     assert_eq!(proof_answer(&[3]), refused(2, 2, 0));
     assert_eq!(proof_answer(&[3, 0]), refused(2, 2, 0));
     assert_eq!(proof_answer(&goal_list(&[10])), refused(2, 2, 5));
@@ -83,7 +83,7 @@ fn number_3() {
 #[test]
 fn number_4_for_lengths() {
     // READINGS A7: nine premises are a wrong length.
-    assert_eq!(table_answer(&rule(1, 1, &[0; 8])), accepted(1, 0, 0));
+    assert_eq!(table_answer(&rule(1, 1, &[0; 8])), accepted(1, 0, 0, 0));
     assert_eq!(table_answer(&rule(1, 1, &[0; 9])), refused(4, 1, 0));
     assert_eq!(table_answer(&field(1, &[0, 1])), refused(4, 1, 0));
     assert_eq!(table_answer(&field(1, &[0, 1, 0, 1, 0])), refused(4, 1, 0));
@@ -117,33 +117,33 @@ fn number_4_for_leftovers() {
 #[test]
 fn number_5_for_field_limits() {
     let rules = limit_files::equal_rules(MOST_RULES);
-    assert_eq!(table_answer(&limit_files::different_rules(MOST_RULES)), accepted(1, 0, 0));
+    assert_eq!(table_answer(&limit_files::different_rules(MOST_RULES)), accepted(1, 0, 0, 0));
     let end = rules.len() as u32;
     // READINGS A12: the header's tests come first, the contents' tests later.
     assert_eq!(table_answer(&[rules.clone(), vec![1, 0]].concat()), refused(2, 1, end));
     assert_eq!(table_answer(&[rules.clone(), vec![3, 0, 0]].concat()), refused(3, 1, end));
     assert_eq!(table_answer(&[rules.clone(), vec![1, 0, 3]].concat()), refused(5, 1, end));
     assert_eq!(table_answer(&[rules, vec![1, 0, 0]].concat()), refused(5, 1, end));
-    assert_eq!(table_answer(&limit_files::definitions(256)), accepted(1, 0, 0));
+    assert_eq!(table_answer(&limit_files::definitions(256)), accepted(1, 0, 0, 0));
     assert_eq!(table_answer(&limit_files::definitions(257)), refused(5, 1, 256 * 8));
-    assert_eq!(table_answer(&limit_files::deep_definition(4_096)), accepted(1, 0, 0));
+    assert_eq!(table_answer(&limit_files::deep_definition(4_096)), accepted(1, 0, 0, 0));
     assert_eq!(table_answer(&limit_files::deep_definition(4_097)), refused(5, 1, 5 + 5 * 4_096));
     // READINGS A13: over all definitions together.
     let over = limit_files::fields_over_definitions(4_097);
-    assert_eq!(table_answer(&limit_files::fields_over_definitions(4_096)), accepted(1, 0, 0));
+    assert_eq!(table_answer(&limit_files::fields_over_definitions(4_096)), accepted(1, 0, 0, 0));
     assert_eq!(table_answer(&over), refused(5, 1, over.len() as u32 - 3));
 }
 
 #[test]
 fn number_5_in_other_files() {
     let deep = |fields: usize| proof(&[10], &labels_around(fields - 1, &id()), &[10]);
-    assert_eq!(proof_answer(&deep(4_096)), accepted(4_096, 0, 1));
+    assert_eq!(proof_answer(&deep(4_096)), accepted(4_096, 0, 1, 0));
     assert_eq!(proof_answer(&deep(4_097)), refused(5, 2, 5 + 5 * 4_096));
     let table = limit_files::chain_table();
-    assert_eq!(check_flat(&table, &limit_files::flat_chain(4_096)), accepted(0, 4_096, 0));
+    assert_eq!(check_flat(&table, &limit_files::flat_chain(4_096)), accepted(0, 4_096, 0, 2));
     assert_eq!(check_flat(&table, &limit_files::flat_chain(4_097)), refused(5, 2, 5 + 7 * 4_096));
     let opens = |count: usize| flat(&[50; 256], &vec![open_entry(50); count]);
-    assert_eq!(check_flat(&table, &opens(256)), accepted(0, 0, 256));
+    assert_eq!(check_flat(&table, &opens(256)), accepted(0, 0, 256, 0));
     assert_eq!(check_flat(&table, &opens(257)), refused(5, 2, 515 + 5 * 256));
 }
 
@@ -174,7 +174,7 @@ fn numbers_6_to_9() {
     assert_eq!(table_answer(&two_bodies), refused(9, 1, 13 + 5));
     // Labels of proofs are free.
     let labels = label(1, &label(1, &id()));
-    assert_eq!(proof_answer(&proof(&[10], &labels, &[10])), accepted(3, 0, 1));
+    assert_eq!(proof_answer(&proof(&[10], &labels, &[10])), accepted(3, 0, 1, 0));
 }
 
 #[test]
@@ -216,7 +216,7 @@ fn numbers_20_and_34_and_35_name_the_first_term() {
     assert_eq!(at(tensor(&tensor_of(&vec![id(); 257]), &empty()), &[10; 256]), refused(35, 2, 515));
     // READINGS A30: a left part of arity 0 takes no goals.
     let left = sequence(&empty(), &empty());
-    assert_eq!(check(&a, &proof(&[10], &tensor(&left, &id()), &[10])), accepted(5, 0, 1));
+    assert_eq!(check(&a, &proof(&[10], &tensor(&left, &id()), &[10])), accepted(5, 0, 1, 0));
 }
 
 #[test]
@@ -224,7 +224,7 @@ fn number_21_after_the_whole_walk() {
     let a = table_a();
     assert_eq!(check(&a, &proof(&[10], &atomic(1), &[30, 20])), refused(21, 2, 10));
     assert_eq!(check(&a, &proof(&[10], &atomic(1), &[20])), refused(21, 2, 10));
-    assert_eq!(check(&a, &proof(&[10], &atomic(1), &[20, 30])), accepted(1, 1, 2));
+    assert_eq!(check(&a, &proof(&[10], &atomic(1), &[20, 30])), accepted(1, 1, 2, 1));
     // READINGS A32: the flattener refuses what the checker refuses.
     assert_eq!(flatten(&a, &proof(&[10], &atomic(1), &[20])).0, refused(21, 2, 10));
 }
@@ -270,7 +270,7 @@ fn number_27() {
     assert_eq!(check_flat(&a, &flat(&[10], &[])), refused(27, 2, 5));
     assert_eq!(check_flat(&a, &flat(&[10], &[use_entry(1, 10)])), refused(27, 2, 12));
     let opened = flat(&[10], &[use_entry(1, 10), open_entry(20), open_entry(30)]);
-    assert_eq!(check_flat(&a, &opened), accepted(0, 1, 2));
+    assert_eq!(check_flat(&a, &opened), accepted(0, 1, 2, 1));
     assert_eq!(write_proof(&a, &flat(&[10], &[])).0, refused(27, 2, 5));
     // READINGS A37: pending goals have no limit.
     for most_pending in limit_files::flats_of_most_pending_goals() {

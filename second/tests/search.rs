@@ -49,7 +49,7 @@ fn at_height_10_it_finds_what_the_machine_does_not() {
         assert_eq!((answer.number, answer.steps), (0, 56));
         let left = tensor_of(&[atomic(2), atomic(2), empty()]);
         assert_eq!(bytes, proof(&[20, 20, 30], &tensor(&left, &tensor(&atomic(3), &empty())), &[]));
-        assert_eq!(check(&table, &bytes), accepted(9, 3, 0));
+        assert_eq!(check(&table, &bytes), accepted(9, 3, 0, 2));
         let flat_bytes = flatten(&table, &bytes).1;
         assert_eq!(flat_bytes, flat(&[20, 20, 30], &[use_entry(2, 20), use_entry(2, 20), use_entry(3, 30)]));
     }
@@ -195,7 +195,7 @@ fn the_longest_proofs() {
         let table = case.table.clone();
         let (answer, bytes) = result_of(case.clone());
         assert_eq!((answer.number, answer.steps), (0, steps));
-        assert_eq!(check(&table, &bytes), accepted(fields, 0, 1));
+        assert_eq!(check(&table, &bytes), accepted(fields, 0, 1, 0));
         assert_eq!(case.with_budget(steps - 1).outcome().answer, run_refused(24, steps - 1));
     }
 }

@@ -4,9 +4,10 @@
 use second::generate::build;
 use second::generate::case::{Case, Entry};
 use second::generate::random::Random;
-use second::generate::{random_case, vector_set};
+use second::generate::{examples, random_case, vector_set};
 use second::limits::SEARCH_WORK;
 use second::vectors::{self, Expected};
+use second::Answer;
 use std::collections::BTreeSet;
 use std::sync::OnceLock;
 
@@ -88,7 +89,7 @@ fn sizes_stay_as_documented() {
         }
         total += bytes.len();
     }
-    assert!(total <= 2_600_000, "{total} bytes in all");
+    assert!(total <= 3_300_000, "{total} bytes in all");
 }
 
 /// The committed files answer as this engine does. That they are also, byte for
@@ -108,6 +109,33 @@ fn cases_read_as_they_were_written() {
     let cases: Vec<_> = (0..200).map(|_| random_case(&mut random)).collect();
     let read = vectors::read(&vectors::write(&cases)).expect("a vector file");
     assert!(cases.iter().eq(read.iter().map(|one| &one.case)));
+}
+
+/// The answer's twelve numbers stand in the order of its fields, in a record of 66
+/// bytes, of search 70.
+#[test]
+fn case_records_have_the_documented_form() {
+    let table_and_proof = (examples::table_a(), build::proof(&[10], &build::atomic(1), &[20, 30]));
+    let case = Case::new(Entry::Check, &table_and_proof.0, &table_and_proof.1);
+    let bytes = vectors::write(&[case.clone(), case.clone()]);
+    let record = &bytes[bytes.len() - 1 - 66..bytes.len() - 1];
+    assert_eq!(bytes.len(), vectors::write(&[case]).len() + 66);
+    assert_eq!(record[..2], [3, Entry::Check.code()]);
+    let number = |place: usize| u32::from_be_bytes(record[place..place + 4].try_into().unwrap());
+    let numbers: Vec<u32> = (0..12).map(|at| number(14 + 4 * at)).collect();
+    assert_eq!(numbers, [0, 0, 0, 0, 0, 1, 1, 2, 1, 0, 0, 0]);
+    assert_eq!(number(62), vectors::digest(&[]));
+    let search = Case::new(Entry::Search, &[], &build::job(&[20], &build::id()));
+    let two = vectors::write(&[search.clone(), search.clone()]);
+    assert_eq!(two.len(), vectors::write(&[search]).len() + 70);
+}
+
+#[test]
+fn answers_are_their_numbers() {
+    let numbers = [1, 2, 3, 4, 5, 6, 7, 8, 9, 10, 11, 12];
+    let answer = Answer::of_numbers(numbers);
+    assert_eq!(answer.numbers(), numbers);
+    assert_eq!((answer.number, answer.place, answer.open, answer.rules, answer.tactic), (1, 3, 8, 9, 12));
 }
 
 /// A case of a search is four bytes longer than the same one of a run: its height

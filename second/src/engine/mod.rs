@@ -6,6 +6,7 @@ pub mod forest;
 pub mod goal_pool;
 pub mod run;
 pub mod search;
+pub mod used_rules;
 pub mod walk;
 pub mod write_back;
 
@@ -23,12 +24,16 @@ pub struct AcceptedProof {
     pub fields: usize,
     pub uses: usize,
     pub open: usize,
+    /// How many different rules were used (P6).
+    pub rules: usize,
 }
 
 /// The counts of a right flat file.
 pub struct RightFlatFile {
     pub uses: usize,
     pub open: usize,
+    /// How many different rules were used (P6).
+    pub rules: usize,
 }
 
 /// The proof file of a run or search that succeeded, and the terms it began.
@@ -40,24 +45,29 @@ pub struct SuccessfulRun {
 pub fn check(table: &[u8], proof: &[u8]) -> Result<AcceptedProof, Refusal> {
     let table = Table::read(table)?;
     let proof = Proof::read(proof)?;
-    walk::walk_proof(&table, &proof)?;
-    Ok(AcceptedProof { fields: proof.term_fields(), uses: proof.atomic_fields(), open: proof.remaining.len() })
+    let walked = walk::walk_proof(&table, &proof)?;
+    Ok(AcceptedProof {
+        fields: proof.term_fields(),
+        uses: proof.atomic_fields(),
+        open: proof.remaining.len(),
+        rules: walked.rules.count(),
+    })
 }
 
 /// A proof that is not accepted gets the checker's refusal (READINGS A32).
 pub fn flatten(table: &[u8], proof: &[u8]) -> Result<Vec<u8>, Refusal> {
     let table = Table::read(table)?;
     let proof = Proof::read(proof)?;
-    let forest = walk::walk_proof(&table, &proof)?;
-    Ok(forest.flat_file())
+    let walked = walk::walk_proof(&table, &proof)?;
+    Ok(walked.forest.flat_file())
 }
 
 pub fn check_flat(table: &[u8], flat: &[u8]) -> Result<RightFlatFile, Refusal> {
     let table = Table::read(table)?;
     let flat = Flat::read(flat)?;
-    check_flat::follow_entries(&table, &flat)?;
+    let rules = check_flat::follow_entries(&table, &flat)?.count();
     let uses = flat.count_uses();
-    Ok(RightFlatFile { uses, open: flat.entries.len() - uses })
+    Ok(RightFlatFile { uses, open: flat.entries.len() - uses, rules })
 }
 
 /// "28 before 27" (READINGS A35); uses and opens together are the entries.

@@ -131,11 +131,11 @@ impl Machine<'_> {
         let [goal] = goals[..] else {
             return Control::Failed;
         };
-        let Some(premises) = self.table.premises(name, goal) else {
+        let Some(rule) = self.table.look_up(name, goal) else {
             return Control::Failed;
         };
         goals.clear();
-        goals.extend(premises);
+        goals.extend(rule.premises);
         self.leave_field_if(true, HiproofField::Atomic(name), goals)
     }
 

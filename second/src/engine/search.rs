@@ -213,10 +213,10 @@ impl Search<'_> {
     }
 
     fn begin_atomic(&mut self, name: RuleName, goals: GoalList, then: WaitingNumber) -> Control {
-        let premises = self.goals.only_goal(goals).and_then(|goal| self.table.premises(name, goal));
-        match premises {
-            Some(premises) => {
-                let premises = self.goals.add(premises);
+        let rule = self.goals.only_goal(goals).and_then(|goal| self.table.look_up(name, goal));
+        match rule {
+            Some(rule) => {
+                let premises = self.goals.add(rule.premises);
                 self.leave_field_if(true, HiproofField::Atomic(name), premises, then)
             }
             None => Control::GoBack,

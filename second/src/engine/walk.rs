@@ -5,6 +5,7 @@
 //! only looks at their goals, and the flattener writes the forest in the end.
 
 use super::forest::{Forest, TreeNumber};
+use super::used_rules::UsedRules;
 use crate::answer::{InputFile, Reason, Refusal};
 use crate::format::proof::Proof;
 use crate::format::table::Table;
@@ -27,17 +28,25 @@ struct Walk<'a> {
     proof: &'a Proof<'a>,
     arities: Vec<usize>,
     forest: Forest,
+    used: UsedRules,
     waiting: Vec<Waiting>,
 }
 
+/// What the walk of an accepted proof leaves.
+pub struct WalkedProof {
+    pub forest: Forest,
+    pub rules: UsedRules,
+}
+
 /// Walks the hiproof on the stated goals and compares what it gives with the
-/// stated remaining goals. Gives the forest of an accepted proof.
-pub fn walk_proof(table: &Table, proof: &Proof) -> Result<Forest, Refusal> {
+/// stated remaining goals.
+pub fn walk_proof(table: &Table, proof: &Proof) -> Result<WalkedProof, Refusal> {
     let mut walk = Walk {
         table,
         proof,
         arities: hiproof_arities(proof),
         forest: Forest::of_open_leaves(&proof.goals),
+        used: UsedRules::none(),
         waiting: Vec::new(),
     };
     let given = walk.walk()?;
@@ -47,7 +56,7 @@ pub fn walk_proof(table: &Table, proof: &Proof) -> Result<Forest, Refusal> {
     if given_goals != proof.remaining {
         return Err(Refusal::at(Reason::RemainingGoalsDiffer, InputFile::Other, proof.remaining_place));
     }
-    Ok(walk.forest)
+    Ok(WalkedProof { forest: walk.forest, rules: walk.used })
 }
 
 /// "Input arity: atomic, id and label 1; empty 0; a sequence that of its left
@@ -116,11 +125,12 @@ impl Walk<'_> {
         let [leaf] = goals[..] else {
             return Err(self.cannot_take(Reason::GoalCountWrong, term));
         };
-        let Some(premises) = self.table.premises(name, self.forest.goal(leaf)) else {
+        let Some(rule) = self.table.look_up(name, self.forest.goal(leaf)) else {
             return Err(self.cannot_take(Reason::RuleMissing, term));
         };
+        self.used.add(rule.number);
         goals.clear();
-        goals.extend(self.forest.grow(leaf, name, premises));
+        goals.extend(self.forest.grow(leaf, name, rule.premises));
         Ok(goals)
     }
 

@@ -28,7 +28,7 @@ fn hiproof_of(table: &Table, flat: &Flat) -> Vec<HiproofField> {
         match entry.step {
             FlatStep::Open => fields.push(HiproofField::Id),
             FlatStep::Use(name) => {
-                let premises = table.premises(name, entry.goal).map_or(0, <[Goal]>::len);
+                let premises = table.look_up(name, entry.goal).map_or(0, |rule| rule.premises.len());
                 write_use(name, premises, &mut trees_to_come, &mut fields);
             }
         }

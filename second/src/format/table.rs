@@ -11,7 +11,7 @@ use std::ops::Range;
 pub struct Table {
     rules: Vec<Rule>,
     premises: Vec<Goal>,
-    rule_numbers: NameMap<(RuleName, Goal), usize>,
+    rule_numbers: NameMap<(RuleName, Goal), RuleNumber>,
     definitions: Vec<Definition>,
     bodies: NameMap<TacticNo, TermNumber>,
     /// The term fields of all definitions.
@@ -24,6 +24,17 @@ pub struct Rule {
     pub name: RuleName,
     pub goal: Goal,
     premises: Range<usize>,
+}
+
+/// P6: the number of a rule "in the table, counting from 0". It counts rule fields
+/// alone, so definitions do not shift it (B6.5).
+#[derive(Clone, Copy, PartialEq, Eq, PartialOrd, Ord, Debug)]
+pub struct RuleNumber(pub u16);
+
+/// What looking up a rule gives.
+pub struct FoundRule<'a> {
+    pub number: RuleNumber,
+    pub premises: &'a [Goal],
 }
 
 pub struct Definition {
@@ -45,10 +56,10 @@ impl Table {
         Ok(table)
     }
 
-    /// The premises of the rule of that name for that goal, if there is one.
-    pub fn premises(&self, name: RuleName, goal: Goal) -> Option<&[Goal]> {
+    /// Number and premises of the rule of that name for that goal, if there is one.
+    pub fn look_up(&self, name: RuleName, goal: Goal) -> Option<FoundRule<'_>> {
         let &number = self.rule_numbers.get(&(name, goal))?;
-        Some(self.premises_of(&self.rules[number]))
+        Some(FoundRule { number, premises: self.premises_of(&self.rules[usize::from(number.0)]) })
     }
 
     /// The body of a defined tactic, if it has a definition.
@@ -118,7 +129,8 @@ impl Table {
     /// "6: rule with name and goal of an earlier rule."
     fn index_rules(&mut self) -> Result<(), Refusal> {
         self.rule_numbers.reserve(self.rules.len());
-        for (number, rule) in self.rules.iter().enumerate() {
+        // There are at most 4,096 rules, so a number has room in 16 bits.
+        for (number, rule) in (0..).map(RuleNumber).zip(&self.rules) {
             if self.rule_numbers.insert((rule.name, rule.goal), number).is_some() {
                 return Err(Refusal::at(Reason::RuleRepeated, InputFile::Table, rule.place));
             }

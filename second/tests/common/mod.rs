@@ -15,8 +15,9 @@ pub fn run_refused(number: u32, steps: u32) -> Answer {
     Answer { number, steps, ..Answer::default() }
 }
 
-pub fn accepted(fields: u32, uses: u32, open: u32) -> Answer {
-    Answer { fields, uses, open, ..Answer::default() }
+/// The answer for an accepted proof; with no fields, that for a right flat file.
+pub fn accepted(fields: u32, uses: u32, open: u32, rules: u32) -> Answer {
+    Answer { fields, uses, open, rules, ..Answer::default() }
 }
 
 /// Answer and result of a call with spaces that suffice.

@@ -7,6 +7,7 @@ use second::generate::build;
 pub mod notation;
 pub mod proof_file;
 pub mod reasons;
+pub mod rules;
 pub mod search;
 
 pub enum Term {
@@ -272,6 +273,19 @@ pub fn read_back(table: &Table, bytes: &[u8], place: &mut usize, goal: u16) -> R
         trees.push(read_back(table, bytes, place, premise)?);
     }
     Ok(Tree::Use(values[0], goal, trees))
+}
+
+/// The forest of a flat file that reads, or the place at which it is wrong.
+pub fn trees_of(table: &Table, flat: &[u8]) -> Result<Vec<Tree>, usize> {
+    let mut place = end_of(flat, 0);
+    let mut trees = Vec::new();
+    for goal in goals_at(flat, 0) {
+        trees.push(read_back(table, flat, &mut place, goal)?);
+    }
+    if place < flat.len() {
+        return Err(place);
+    }
+    Ok(trees)
 }
 
 /// "Arity of tactics" by rounds: in each round a tactic may use what the round

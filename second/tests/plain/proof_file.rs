@@ -2,6 +2,7 @@
 //! also one of no bytes, and what check and flatten then give.
 
 use super::reasons::walk;
+use super::rules::rules_of_term;
 use super::{build, end_of, entries_of, forest, give, goals_at, term_at, term_fields, without_labels};
 use super::{Placed, Table, Term};
 
@@ -41,8 +42,8 @@ pub fn proof_of(file: &[u8]) -> Result<Proof, Refused> {
     }
 }
 
-/// Term fields, uses and remaining goals of an accepted proof.
-pub type Counts = (usize, usize, usize);
+/// Term fields, uses, remaining goals and different rules of an accepted proof.
+pub type Counts = [usize; 4];
 
 /// "A proof is accepted exactly when [...] every term in the walk on the stated goals
 /// can take its goals, no joined list has more than 256, and the list given at the
@@ -55,7 +56,8 @@ pub fn check(table: &Table, file: &[u8]) -> Result<Counts, Refused> {
     }
     let mut uses = Vec::new();
     give(table, &proof.hiproof, &proof.goals, &mut uses)?;
-    Ok((term_fields(&proof.hiproof), uses.len(), given.len()))
+    let rules = rules_of_term(table, &proof.hiproof, &proof.goals);
+    Ok([term_fields(&proof.hiproof), uses.len(), given.len(), rules.len()])
 }
 
 /// The flat file of an accepted proof: "Written with the stated goals as roots".
