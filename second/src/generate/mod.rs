@@ -13,11 +13,13 @@ pub mod no_bytes;
 pub mod positions;
 pub mod random;
 pub mod random_file;
+pub mod random_rules;
 pub mod random_search;
 pub mod random_table;
 pub mod random_text;
 pub mod reading;
 pub mod reasons;
+pub mod rules;
 pub mod searches;
 pub mod texts;
 pub mod topics;
@@ -48,7 +50,8 @@ pub fn random_case(random: &mut Random) -> Case {
         1 => random_case_with(other_file, entry, Size::Large, random),
         _ => random_case_with(other_file, entry, Size::Small, random),
     };
-    with_short_proof(random, case)
+    let case = with_short_proof(random, case);
+    random_rules::with_many_uses(random, case)
 }
 
 /// P7: of the calls that take a proof one in fifty gets one of no bytes, and as many

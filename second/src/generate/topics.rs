@@ -5,7 +5,7 @@ use super::case::{Case, Entry};
 use super::random::Random;
 use super::random_table::{RandomTable, Size};
 use super::{
-    damage, examples, limit_files, no_bytes, other_file_of_vectors, positions, random_case_of, reading, reasons,
+    damage, examples, limit_files, no_bytes, other_file_of_vectors, positions, random_case_of, reading, reasons, rules,
     searches, texts,
 };
 use crate::limits::MOST_BUDGET;
@@ -27,6 +27,7 @@ pub fn vector_set() -> Vec<(&'static str, Vec<Case>)> {
         ("search.vec", search()),
         ("reasons.vec", reasons::cases()),
         ("no-bytes.vec", no_bytes::cases()),
+        ("rules.vec", rules::cases()),
     ]
 }
 
