@@ -11,10 +11,14 @@ extern "C" {
 
 /*
  * The version of this header. The minor number goes up with each new call: 1.0 had the first five, 1.1 brought hitac_read_text,
- * 1.2 hitac_write_text, 1.3 hitac_search. The major number goes up when a program has to be compiled anew.
+ * 1.2 hitac_write_text, 1.3 hitac_search. The major number goes up when a program has to be compiled anew. 2.0 brought no call:
+ * its answer has twelve numbers, where that of version 1 has eight.
+ * A program that was built against version 1 must be built again, because a call of version 2 writes a longer answer. The names
+ * of the shared libraries, libhitac.so.1 and libhitac.so.2, keep the two apart. Nothing keeps an old object file from being
+ * linked with the archive of version 2, so compile all of them.
  */
-#define HITAC_VERSION_MAJOR 1
-#define HITAC_VERSION_MINOR 3
+#define HITAC_VERSION_MAJOR 2
+#define HITAC_VERSION_MINOR 0
 #define HITAC_VERSION (HITAC_VERSION_MAJOR * 65536 + HITAC_VERSION_MINOR) /* as hitac_version answers it */
 
 /*
@@ -33,6 +37,10 @@ struct hitac_answer {
     uint32_t fields;    /* term fields of a proof that hitac_check accepts */
     uint32_t uses;      /* uses of rules, of hitac_check and hitac_check_flat */
     uint32_t remaining; /* goals left open, of hitac_check and hitac_check_flat */
+    uint32_t rules;     /* different rules used, of hitac_check and hitac_check_flat */
+    uint32_t goals;     /* always 0 in this version; for a later call */
+    uint32_t longest;   /* always 0 in this version; for a later call */
+    uint32_t tactic;    /* always 0 in this version; for a later call */
 };
 
 /*
@@ -45,11 +53,13 @@ struct hitac_answer {
  */
 
 /*
- * Whether the proof is accepted in the table; answers number, fields, uses and remaining.
+ * Whether the proof is accepted in the table; answers number, fields, uses, remaining and rules.
+ * A rule is a rule field of the table: one that is used many times counts once, and a name that is used on two goals counts
+ * twice, since it has a rule for each. So rules is at most uses, and at most the number of rules in the table.
  * A proof of zero bytes, a blank document, has no goals, the empty hiproof and none remaining: it is accepted in every table
- * that is not refused, with one field and no use. So do not pass zero bytes for a proof that could not be opened or read: it
- * would be accepted by mistake. A library that was built before answers HITAC_FIELD_TORN to zero bytes, also with version 1.3:
- * they came without a new call. Every library accepts the nine bytes 3 0 0 21 0 0 3 0 0, which say the same.
+ * that is not refused, with one field, no use and no rule. So do not pass zero bytes for a proof that could not be opened or
+ * read: it would be accepted by mistake. The nine bytes 3 0 0 21 0 0 3 0 0 say the same, and every library of version 1 accepts
+ * them; some of these answer HITAC_FIELD_TORN to zero bytes.
  */
 struct hitac_answer hitac_check(const uint8_t *table, size_t table_length,
                                 const uint8_t *proof, size_t proof_length,
@@ -68,7 +78,10 @@ struct hitac_answer hitac_flatten(const uint8_t *table, size_t table_length,
                                   uint8_t *work, size_t work_length,
                                   uint8_t *out, size_t out_length);
 
-/* Whether the flat derivation is right in the table; answers number, uses and remaining. */
+/*
+ * Whether the flat derivation is right in the table; answers number, uses, remaining and rules. For the flat file of a proof
+ * these three are what hitac_check answers for the proof.
+ */
 struct hitac_answer hitac_check_flat(const uint8_t *table, size_t table_length,
                                      const uint8_t *flat, size_t flat_length,
                                      uint8_t *work, size_t work_length);
@@ -182,8 +195,8 @@ struct hitac_answer hitac_search(const uint8_t *table, size_t table_length,
 
 /*
  * The earlier name of 20, from when it stood for all three: HITAC_RULE_MISSING, HITAC_GOAL_COUNT_WRONG and HITAC_GOALS_TOO_FEW.
- * A program that tests for it wants to test for the other two as well. A library that was built before answers 20 in place of
- * 34 and 35, also with version 1.3: they came without a new call.
+ * A program that tests for it wants to test for the other two as well: libraries of version 1, but for the last ones, answered
+ * 20 in place of 34 and 35.
  */
 #define HITAC_NOT_VALID HITAC_RULE_MISSING
 

@@ -28,6 +28,8 @@ static int all(const uint8_t *bytes, size_t length, uint8_t value)
 static void is(const char *what, struct hitac_answer got, uint32_t number, uint32_t file, uint32_t place)
 {
     expect(what, got.number == number && got.file == file && got.place == place);
+    expect("a refusal counts no rule", got.number == HITAC_SUCCESS || got.rules == 0);
+    expect("the numbers for later calls are 0", got.goals == 0 && got.longest == 0 && got.tactic == 0);
 }
 
 /* A term of so many atomics side by side. */
@@ -132,7 +134,7 @@ static void spaces(enum call call)
 static void layout(void)
 {
     struct hitac_answer fields;
-    expect("the answer has 32 bytes", sizeof fields == 32);
+    expect("the answer has 48 bytes", sizeof fields == 48);
     expect("file", offsetof(struct hitac_answer, file) == 4);
     expect("place", offsetof(struct hitac_answer, place) == 8);
     expect("steps", offsetof(struct hitac_answer, steps) == 12);
@@ -140,6 +142,10 @@ static void layout(void)
     expect("fields", offsetof(struct hitac_answer, fields) == 20);
     expect("uses", offsetof(struct hitac_answer, uses) == 24);
     expect("remaining", offsetof(struct hitac_answer, remaining) == 28);
+    expect("rules", offsetof(struct hitac_answer, rules) == 32);
+    expect("goals", offsetof(struct hitac_answer, goals) == 36);
+    expect("longest", offsetof(struct hitac_answer, longest) == 40);
+    expect("tactic", offsetof(struct hitac_answer, tactic) == 44);
 }
 
 static void version(void)
@@ -158,15 +164,76 @@ static void counts(void)
     side_by_side(&other, 2, 1);
     field(&other, 3, 4, 20);
     struct hitac_answer got = answer(CHECK);
-    expect("counts of check", got.fields == 3 && got.uses == 2 && got.remaining == 4);
+    expect("counts of check", got.fields == 3 && got.uses == 2 && got.remaining == 4 && got.rules == 1);
     good_files(CHECK_FLAT);
     got = answer(CHECK_FLAT);
-    expect("counts of check_flat", got.fields == 0 && got.uses == 3 && got.remaining == 0);
+    expect("counts of check_flat", got.fields == 0 && got.uses == 3 && got.remaining == 0 && got.rules == 2);
+    got = answer(WRITE_PROOF);
+    expect("length of write_proof", got.length > 0 && got.uses == 0 && got.rules == 0);
     good_files(RUN);
     got = answer(RUN);
-    expect("steps and length of run", got.steps == 1 && got.length == 17 && got.uses == 0);
+    expect("steps and length of run", got.steps == 1 && got.length == 17 && got.uses == 0 && got.rules == 0);
     got = answer(SEARCH);
-    expect("steps and length of search", got.steps == 1 && got.length == 17 && got.uses == 0);
+    expect("steps and length of search", got.steps == 1 && got.length == 17 && got.uses == 0 && got.rules == 0);
+    good_files(FLATTEN);
+    got = answer(FLATTEN);
+    expect("length of flatten", got.length > 0 && got.uses == 0 && got.rules == 0);
+}
+
+/* As many rules as a table may have: names from 1 on, each gives its goal 10 back; a definition behind them. */
+static void many_rules(void)
+{
+    table.length = 0;
+    for (size_t name = 1; name <= HITAC_MOST_RULES; name++)
+        rule(&table, name, 10, 1, 10);
+    definition(&table, 1);
+}
+
+/* So many uses, one in the premise of the other, of so many of the last rules in turn; the goal stays open. */
+static void uses_in_turn(size_t uses, size_t rules)
+{
+    other.length = 0;
+    field(&other, 3, 1, 10);
+    for (size_t i = 0; i < uses; i++)
+        entry(&other, HITAC_MOST_RULES - i % rules, 10);
+    field(&other, 33, 1, 10);
+}
+
+/* The counts of the flat file that stands ready, and of the proof written from it. */
+static void counts_rules(uint32_t uses, uint32_t rules)
+{
+    struct hitac_answer got = answer(CHECK_FLAT);
+    is("uses in turn", got, HITAC_SUCCESS, HITAC_NO_FILE, 0);
+    expect("their rules", got.uses == uses && got.rules == rules);
+    if (uses >= HITAC_MOST_ENTRIES)
+        return;
+    got = answer(WRITE_PROOF);
+    other.length = got.length;
+    memcpy(other.at, out, got.length);
+    got = answer(CHECK);
+    is("the proof of uses in turn", got, HITAC_SUCCESS, HITAC_NO_FILE, 0);
+    expect("its rules", got.uses == uses && got.rules == rules);
+}
+
+/* Different rules are rule fields: one counts once, however often it is used, and a name on two goals counts twice. */
+static void different_rules(void)
+{
+    static const uint32_t TURNS[][2] = {{0, 1},   {1, 1},       {4, 1},    {4, 2},       {300, 8},
+                                        {300, 9}, {2047, 2047}, {2047, 1}, {4096, 4096}, {4096, 2}};
+    many_rules();
+    for (size_t i = 0; i < sizeof TURNS / sizeof TURNS[0]; i++) {
+        uses_in_turn(TURNS[i][0], TURNS[i][1]);
+        counts_rules(TURNS[i][0], TURNS[i][0] < TURNS[i][1] ? TURNS[i][0] : TURNS[i][1]);
+    }
+    table.length = 0;
+    rule(&table, 5, 10, 1, 11);
+    rule(&table, 5, 11, 1, 10);
+    other.length = 0;
+    field(&other, 3, 1, 10);
+    for (size_t i = 0; i < 6; i++)
+        entry(&other, 5, 10 + i % 2);
+    field(&other, 33, 1, 10);
+    counts_rules(6, 2);
 }
 
 /* The refusals of a file that does not read, 1 to 5, in the other file. */
@@ -485,7 +552,7 @@ static void searches(void)
         put(&other, out[i]);
     got = answer(CHECK);
     is("the proof that was found", got, HITAC_SUCCESS, HITAC_NO_FILE, 0);
-    expect("its counts", got.fields == 9 && got.uses == 3 && got.remaining == 0);
+    expect("its counts", got.fields == 9 && got.uses == 3 && got.remaining == 0 && got.rules == 2);
 }
 
 /* Whether a call leaves just these bytes, and says so. */
@@ -504,7 +571,7 @@ static void blank_proofs(void)
         other.length = 0;
         struct hitac_answer got = answer(CHECK);
         is("a proof of zero bytes", got, HITAC_SUCCESS, HITAC_NO_FILE, 0);
-        expect("its counts", got.fields == 1 && got.uses == 0 && got.remaining == 0);
+        expect("its counts", got.fields == 1 && got.uses == 0 && got.remaining == 0 && got.rules == 0);
         spaces_for(CHECK);
         expect("its flat file", leaves(FLATTEN, NO_GOALS, sizeof NO_GOALS));
         spaces_for(FLATTEN);
@@ -611,6 +678,7 @@ int main(void)
     version();
     layout();
     counts();
+    different_rules();
     spaces(CHECK);
     spaces(RUN);
     spaces(FLATTEN);

@@ -1,4 +1,4 @@
-"""Checks that the wrappers in examples/rust and examples/python have the version, sizes and refusal numbers of include/hitac.h."""
+"""Checks that the wrappers in examples/rust and examples/python have the version, sizes, refusal numbers and answer of include/hitac.h."""
 import pathlib
 import re
 import sys
@@ -13,6 +13,11 @@ def found(pattern, path):
 def upper(name):
     """RuleMissing as RULE_MISSING."""
     return re.sub(r"(?<!^)(?=[A-Z])", "_", name).upper()
+
+
+def numbers(around, one, path):
+    """The names of an answer's numbers, in order: what one finds in the text that around takes out of the file."""
+    return re.findall(one, re.search(around, (root / path).read_text(), re.DOTALL).group(1))
 
 
 header = found(r"^#define HITAC_(\w+) (\d+)", "include/hitac.h")
@@ -30,7 +35,12 @@ for language, constants in (("rust", rust), ("python", python)):
     for name in sorted(header.keys() | constants.keys()):
         if header.get(name) != constants.get(name):
             sys.exit(f"constants: {name} is {header.get(name)} in the header and {constants.get(name)} in {language}")
+answer = numbers(r"struct hitac_answer {(.*?)};", r"uint32_t (\w+);", "include/hitac.h")
+in_rust = numbers(r"pub struct Answer {(.*?)}", r"pub (\w+): u32,", "examples/rust/src/raw.rs")
+in_python = numbers(r'\n_NUMBERS = "(.*?)"', r"\w+", "examples/python/hitac.py")
+if not answer == in_rust == in_python:
+    sys.exit(f"constants: the answer is {answer} in the header, {in_rust} in rust and {in_python} in python")
 version = f"{header['VERSION_MAJOR']}.{header['VERSION_MINOR']}.0"
 if found(r'^(version) = "(.*)"$', "examples/rust/Cargo.toml")["version"] != version:
     sys.exit(f"constants: examples/rust/Cargo.toml has not the version {version}")
-print(f"constants: {len(header)} are the same in the header, in Rust and in Python")
+print(f"constants: {len(header)}, and the answer's {len(answer)} numbers, are the same in the header, in Rust and in Python")
