@@ -19,7 +19,8 @@ static void check(const char *words, const struct file *its_proof)
     struct hitac_answer answer =
         hitac_check(table.bytes, table.length, its_proof->bytes, its_proof->length, work, HITAC_CHECK_WORK);
     if (succeeded(words, answer))
-        printf("%s: accepted fields %u uses %u open %u\n", words, answer.fields, answer.uses, answer.remaining);
+        printf("%s: accepted fields %u uses %u open %u rules %u\n", words, answer.fields, answer.uses, answer.remaining,
+               answer.rules);
 }
 
 static void run(uint32_t budget)
@@ -49,7 +50,7 @@ static void check_flat(size_t flat_length)
     struct hitac_answer answer =
         hitac_check_flat(table.bytes, table.length, flat, flat_length, work, HITAC_CHECK_FLAT_WORK);
     if (succeeded("check_flat", answer))
-        printf("check_flat: right uses %u open %u\n", answer.uses, answer.remaining);
+        printf("check_flat: right uses %u open %u rules %u\n", answer.uses, answer.remaining, answer.rules);
 }
 
 static void write_proof(size_t flat_length)

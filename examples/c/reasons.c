@@ -24,7 +24,8 @@ static void check(const char *name)
     struct hitac_answer answer =
         hitac_check(table.bytes, table.length, proof.bytes, proof.length, work, HITAC_CHECK_WORK);
     if (succeeded(name, answer))
-        printf("%s: accepted fields %u uses %u open %u\n", name, answer.fields, answer.uses, answer.remaining);
+        printf("%s: accepted fields %u uses %u open %u rules %u\n", name, answer.fields, answer.uses, answer.remaining,
+               answer.rules);
     else
         printf("byte %u: %s\n", answer.place, reason(answer.number));
 }

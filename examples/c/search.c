@@ -42,7 +42,8 @@ static void check(size_t proof_length)
 {
     struct hitac_answer answer = hitac_check(table.bytes, table.length, proof, proof_length, work, HITAC_CHECK_WORK);
     if (succeeded("check", answer))
-        printf("check: accepted fields %u uses %u open %u\n", answer.fields, answer.uses, answer.remaining);
+        printf("check: accepted fields %u uses %u open %u rules %u\n", answer.fields, answer.uses, answer.remaining,
+               answer.rules);
 }
 
 int main(int count, char **arguments)

@@ -11,11 +11,6 @@ def listed(data):
     return f"bytes {len(data)}\n{data.hex(' ')}"
 
 
-def counted(accepted):
-    """What is counted in an accepted proof."""
-    return f"accepted fields {accepted.fields} uses {accepted.uses} open {accepted.open}"
-
-
 def run(engine, table, job, budget):
     """One run as text, refused or not."""
     try:
@@ -31,16 +26,16 @@ def main():
     engine = hitac.Engine()
 
     print(f"version: {engine.version().major}.{engine.version().minor}")
-    print(f"check: {counted(engine.check(table, proof))}")
+    print(f"check: {engine.check(table, proof)}")
     print(f"run: {run(engine, table, job, 4096)}")
     print(f"run: {run(engine, table, job, 18)}")
     flat = engine.flatten(table, proof)
     print(f"flatten: {listed(flat)}")
     right = engine.check_flat(table, flat)
-    print(f"check_flat: right uses {right.uses} open {right.open}")
+    print(f"check_flat: right uses {right.uses} open {right.open} rules {right.rules}")
     print(f"write_proof: {listed(engine.write_proof(table, flat))}")
     blank = b""
-    print(f"check of zero bytes: {counted(engine.check(table, blank))}")
+    print(f"check of zero bytes: {engine.check(table, blank)}")
     print(f"flatten of zero bytes: {listed(engine.flatten(table, blank))}")
 
 

@@ -10,8 +10,8 @@ import pathlib
 from typing import NamedTuple
 
 # The version of the header that this module follows.
-VERSION_MAJOR = 1
-VERSION_MINOR = 3
+VERSION_MAJOR = 2
+VERSION_MINOR = 0
 
 CHECK_WORK = 65536
 RUN_WORK = 1290752
@@ -98,18 +98,24 @@ class Version(NamedTuple):
 
 
 class Accepted(NamedTuple):
-    """What is counted in an accepted proof."""
+    """What is counted in an accepted proof; as text, what the check program prints. The rules are those of the table that were
+    used, so a name that was used on two goals counts twice."""
 
     fields: int
     uses: int
     open: int
+    rules: int
+
+    def __str__(self):
+        return f"accepted fields {self.fields} uses {self.uses} open {self.open} rules {self.rules}"
 
 
 class Right(NamedTuple):
-    """What is counted in a right derivation."""
+    """What is counted in a right derivation; the rules as in an accepted proof."""
 
     uses: int
     open: int
+    rules: int
 
 
 class Ran(NamedTuple):
@@ -119,11 +125,12 @@ class Ran(NamedTuple):
     steps: int
 
 
+# The last three are always 0 in this version; for later calls.
+_NUMBERS = "number file place steps length fields uses remaining rules goals longest tactic"
+
+
 class _Answer(ctypes.Structure):
-    _fields_ = [
-        (name, ctypes.c_uint32)
-        for name in ("number", "file", "place", "steps", "length", "fields", "uses", "remaining")
-    ]
+    _fields_ = [(name, ctypes.c_uint32) for name in _NUMBERS.split()]
 
 
 _FILE = [ctypes.c_char_p, ctypes.c_size_t]
@@ -178,7 +185,7 @@ class Engine:
         """Whether the proof is accepted in the table. Zero bytes are a proof, a blank document: no goals, the empty hiproof and
         none remaining. They are accepted, so do not pass b"" for a file that cannot be read."""
         answer = self._checks("hitac_check", CHECK_WORK, table, proof)
-        return Accepted(answer.fields, answer.uses, answer.remaining)
+        return Accepted(answer.fields, answer.uses, answer.remaining, answer.rules)
 
     def run(self, table, job, budget):
         """Runs the tactic of the job in at most so many steps, of which 4,096 are the most."""
@@ -201,7 +208,7 @@ class Engine:
     def check_flat(self, table, flat):
         """Whether the flat derivation is right in the table."""
         answer = self._checks("hitac_check_flat", CHECK_FLAT_WORK, table, flat)
-        return Right(answer.uses, answer.remaining)
+        return Right(answer.uses, answer.remaining, answer.rules)
 
     def write_proof(self, table, flat):
         """The proof file of a right derivation."""

@@ -11,8 +11,7 @@ def main():
     for name in ("refused", "miscounted", "few_goals"):
         table, proof = ((folder / name / file).read_bytes() for file in ("table.kit", "proof.hip"))
         try:
-            accepted = engine.check(table, proof)
-            print(f"{name}: accepted fields {accepted.fields} uses {accepted.uses} open {accepted.open}")
+            print(f"{name}: {engine.check(table, proof)}")
         except hitac.Refusal as refusal:
             print(f"{name}: {refusal}")
             reason = refusal.cause.reason() or "docs/FORMAT.md says what the number means"

@@ -35,8 +35,7 @@ def main():
             continue
         print(f"{words}: steps {found.steps} bytes {len(found.proof)}")
         print(f"proof: {engine.write_text(term_of(found.proof))}")
-        accepted = engine.check(table, found.proof)
-        print(f"check: accepted fields {accepted.fields} uses {accepted.uses} open {accepted.open}")
+        print(f"check: {engine.check(table, found.proof)}")
 
 
 if __name__ == "__main__":

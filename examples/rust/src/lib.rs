@@ -40,6 +40,16 @@ pub struct Accepted {
     pub fields: u32,
     pub uses: u32,
     pub open: u32,
+    /// Different rules that were used: rules of the table, so a name that was used on two goals counts twice.
+    pub rules: u32,
+}
+
+/// As the check program prints it.
+impl fmt::Display for Accepted {
+    fn fmt(&self, f: &mut fmt::Formatter<'_>) -> fmt::Result {
+        let Accepted { fields, uses, open, rules } = self;
+        write!(f, "accepted fields {fields} uses {uses} open {open} rules {rules}")
+    }
 }
 
 /// What is counted in a right derivation.
@@ -47,6 +57,8 @@ pub struct Accepted {
 pub struct Right {
     pub uses: u32,
     pub open: u32,
+    /// Different rules that were used, as in an accepted proof.
+    pub rules: u32,
 }
 
 /// The proof file that a run or a search gives, and the terms that it began.
@@ -83,7 +95,7 @@ impl Engine {
     pub fn check(&mut self, table: &[u8], proof: &[u8]) -> Result<Accepted, Refusal> {
         let work = &mut self.work[..raw::CHECK_WORK];
         let answer = succeeded(raw::check(table, proof, work))?;
-        Ok(Accepted { fields: answer.fields, uses: answer.uses, open: answer.remaining })
+        Ok(Accepted { fields: answer.fields, uses: answer.uses, open: answer.remaining, rules: answer.rules })
     }
 
     /// Runs the tactic of the job in at most `budget` steps, of which 4,096 are the most.
@@ -112,7 +124,7 @@ impl Engine {
     pub fn check_flat(&mut self, table: &[u8], flat: &[u8]) -> Result<Right, Refusal> {
         let work = &mut self.work[..raw::CHECK_FLAT_WORK];
         let answer = succeeded(raw::check_flat(table, flat, work))?;
-        Ok(Right { uses: answer.uses, open: answer.remaining })
+        Ok(Right { uses: answer.uses, open: answer.remaining, rules: answer.rules })
     }
 
     /// The proof file of a right derivation.

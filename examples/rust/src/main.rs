@@ -1,6 +1,6 @@
 //! Checks a proof, runs a tactic, flattens a proof, checks the derivation and writes it back, on the files of a folder; then
 //! checks and flattens a proof of zero bytes.
-use hitac::{Accepted, Engine};
+use hitac::Engine;
 use std::path::Path;
 use std::{env, error, fs};
 
@@ -11,7 +11,7 @@ fn main() -> Result<(), Box<dyn error::Error>> {
     let mut engine = Engine::new();
 
     println!("version: {}", hitac::version());
-    println!("check: {}", counted(engine.check(&table, &proof)?));
+    println!("check: {}", engine.check(&table, &proof)?);
     for budget in [4096, 18] {
         match engine.run(&table, &job, budget) {
             Ok(ran) => println!("run: steps {} {}", ran.steps, listed(&ran.proof)),
@@ -21,17 +21,12 @@ fn main() -> Result<(), Box<dyn error::Error>> {
     let flat = engine.flatten(&table, &proof)?;
     println!("flatten: {}", listed(&flat));
     let right = engine.check_flat(&table, &flat)?;
-    println!("check_flat: right uses {} open {}", right.uses, right.open);
+    println!("check_flat: right uses {} open {} rules {}", right.uses, right.open, right.rules);
     println!("write_proof: {}", listed(&engine.write_proof(&table, &flat)?));
     let blank = [];
-    println!("check of zero bytes: {}", counted(engine.check(&table, &blank)?));
+    println!("check of zero bytes: {}", engine.check(&table, &blank)?);
     println!("flatten of zero bytes: {}", listed(&engine.flatten(&table, &blank)?));
     Ok(())
-}
-
-/// What is counted in an accepted proof.
-fn counted(accepted: Accepted) -> String {
-    format!("accepted fields {} uses {} open {}", accepted.fields, accepted.uses, accepted.open)
 }
 
 /// The length of a file, and its bytes on the next line.

@@ -1,8 +1,8 @@
 //! What include/hitac.h declares, and the calls on slices. Laid out by hand: a pointer stands beside its length.
 
 /// The version of the header that this file follows.
-pub const VERSION_MAJOR: u32 = 1;
-pub const VERSION_MINOR: u32 = 3;
+pub const VERSION_MAJOR: u32 = 2;
+pub const VERSION_MINOR: u32 = 0;
 
 /// The answer of every call.
 #[repr(C)]
@@ -16,6 +16,11 @@ pub struct Answer {
     pub fields: u32,
     pub uses: u32,
     pub remaining: u32,
+    pub rules: u32,
+    // Always 0 in this version; for later calls.
+    pub goals: u32,
+    pub longest: u32,
+    pub tactic: u32,
 }
 
 pub const CHECK_WORK: usize = 65536;

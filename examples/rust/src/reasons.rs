@@ -9,9 +9,7 @@ fn main() -> Result<(), Box<dyn error::Error>> {
     for name in ["refused", "miscounted", "few_goals"] {
         let load = |file| fs::read(Path::new(&folder).join(name).join(file));
         match engine.check(&load("table.kit")?, &load("proof.hip")?) {
-            Ok(accepted) => {
-                println!("{name}: accepted fields {} uses {} open {}", accepted.fields, accepted.uses, accepted.open)
-            }
+            Ok(accepted) => println!("{name}: {accepted}"),
             Err(refusal) => {
                 println!("{name}: {refusal}");
                 let reason = refusal.cause.reason().unwrap_or("docs/FORMAT.md says what the number means");

@@ -16,8 +16,7 @@ fn main() -> Result<(), Box<dyn error::Error>> {
         println!("search at height {height}, budget {budget}: {}", told(&found));
         if let Ok(found) = found {
             println!("proof: {}", engine.write_text(term_of(&found.proof))?);
-            let accepted = engine.check(&table, &found.proof)?;
-            println!("check: accepted fields {} uses {} open {}", accepted.fields, accepted.uses, accepted.open);
+            println!("check: {}", engine.check(&table, &found.proof)?);
         }
     }
     Ok(())
