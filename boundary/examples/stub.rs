@@ -14,6 +14,9 @@ fn fault() -> String {
 unsafe fn spoil(mut answer: Answer, work: *mut u8, work_length: usize, out: *mut u8, out_length: usize) -> Answer {
     match fault().as_str() {
         "place" => answer.place += 1,
+        // Uses in place of the rules that are used.
+        "rules" => answer.rules = answer.uses,
+        "number for a later call" => answer.tactic = 1,
         "earlier contents" => answer.place += EARLIER.load(Relaxed),
         "work" if answer.number != 29 => *work.add(work_length - 1) = 1,
         "guard" => *work.add(work_length) ^= 1,

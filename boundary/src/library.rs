@@ -26,7 +26,7 @@ pub type SearchFunction =
 pub type TextFunction = unsafe extern "C" fn(*const u8, usize, *mut u8, usize, *mut u8, usize) -> Answer;
 
 /// The functions of the entries. `Answer` of the second engine has the layout of the C
-/// struct: eight u32 in the order of docs/ENTRIES.md.
+/// struct: twelve u32 in the order of docs/ENTRIES.md.
 #[derive(Clone, Copy)]
 pub struct Library {
     pub check: CheckFunction,

@@ -4,6 +4,7 @@
 use second::generate::case::{Case, Entry};
 use second::generate::damage::damage;
 use second::generate::random::Random;
+use second::generate::random_rules::with_many_uses;
 use second::generate::random_table::{RandomTable, Size};
 use second::generate::random_text::damage_text;
 use second::generate::{other_file, vary_lent_spaces, vector_set};
@@ -12,7 +13,8 @@ use second::generate::{other_file, vary_lent_spaces, vector_set};
 #[derive(Clone, Copy, PartialEq, Eq, Debug)]
 pub enum Kind {
     /// Files that fit each other, but for mistakes that the maker of random
-    /// files makes on purpose.
+    /// files makes on purpose. Of the calls that count rules one in ten uses some
+    /// of them again and again.
     Fitting,
     /// The same with thousands of fields.
     Large,
@@ -110,7 +112,9 @@ impl Mix {
             Kind::Known => random.pick(&self.known).clone(),
         };
         let case = vary_lent_spaces(random, case);
-        (kind, around_three_bytes(random, case))
+        let case = around_three_bytes(random, case);
+        let case = if kind == Kind::Fitting { with_many_uses(random, case) } else { case };
+        (kind, case)
     }
 }
 
@@ -246,6 +250,7 @@ fn faulty_table(entry: Entry, random: &mut Random) -> Case {
 #[cfg(test)]
 mod tests {
     use super::*;
+    use second::Answer;
     use std::collections::BTreeSet;
 
     #[test]
@@ -301,6 +306,25 @@ mod tests {
             let places: BTreeSet<u32> =
                 answers.iter().filter(|answer| answer.number == number).map(|answer| answer.place).collect();
             assert!(places.len() > 4, "{number} at {places:?}");
+        }
+    }
+
+    /// Rules that are used again, and many different ones, come for both entries that count them; every other answer counts none.
+    #[test]
+    fn rules_are_used_again() {
+        let mix = Mix::new(7);
+        let cases = (0..12_000).map(|number| mix.case(number).1);
+        let answers: Vec<_> = cases.map(|case| (case.entry, case.outcome().answer)).collect();
+        for entry in Entry::ALL {
+            let count = |holds: fn(&Answer) -> bool| {
+                answers.iter().filter(|(its, answer)| *its == entry && holds(answer)).count()
+            };
+            let again = count(|answer| answer.rules > 0 && answer.rules < answer.uses);
+            let (some, many) = (count(|answer| answer.rules > 8), count(|answer| answer.rules > 100));
+            let counts_rules = [Entry::Check, Entry::CheckFlat].contains(&entry);
+            let enough = again > 99 && some > 19 && many > 3;
+            assert!(enough || !counts_rules, "{entry:?}: {again}, {some}, {many}");
+            assert!(counts_rules || count(|answer| answer.rules > 0) == 0, "{entry:?}");
         }
     }
 

@@ -47,9 +47,18 @@ fn a_right_library_has_no_difference() {
 
 #[test]
 fn every_fault_is_reported_with_a_file_that_replays_it() {
-    for fault in
-        ["place", "work", "guard", "refused output", "output behind", "earlier contents", "crash", "crash at 22"]
-    {
+    for fault in [
+        "place",
+        "rules",
+        "number for a later call",
+        "work",
+        "guard",
+        "refused output",
+        "output behind",
+        "earlier contents",
+        "crash",
+        "crash at 22",
+    ] {
         let output = generated(fault, fault);
         assert_eq!(output.status.code(), Some(1), "{fault}");
         let files = vector_files(fault);

@@ -242,7 +242,8 @@ fn proof_flat_form_and_proof_written_back_have_one_count() {
     let mut random = Random::new(803);
     let mut again = 0;
     for _ in 0..600 {
-        let uses = RandomUses::make(&mut random, &Sizes { goals: 12, uses_of_each: 10, rules_in_front: 40 });
+        let sizes = Sizes { goals: 12, uses_of_each: 10, goals_of_name: 30, rules_in_front: 40 };
+        let uses = RandomUses::make(&mut random, &sizes);
         let (table, proof) = (uses.table(), uses.proof());
         let answer = check(&table, &proof);
         assert_eq!(answer.number, 0);

@@ -8,7 +8,6 @@ use super::random_table::RandomRule;
 use crate::limits::{MOST_GOALS, MOST_RULES};
 
 const MOST_NAMES: usize = 12;
-const MOST_GOALS_OF_NAME: usize = 30;
 
 /// A table, and goals that are each taken by a chain of its rules.
 pub struct RandomUses {
@@ -25,11 +24,12 @@ struct Chain {
     open: Option<u16>,
 }
 
-/// How many goals and uses there are at most, and how many rules stand in front of
-/// those that are used.
+/// How many goals, uses of each and goals of one name there are at most, and how
+/// many rules stand in front of those that are used.
 pub struct Sizes {
     pub goals: usize,
     pub uses_of_each: usize,
+    pub goals_of_name: usize,
     pub rules_in_front: usize,
 }
 
@@ -37,17 +37,18 @@ impl Sizes {
     /// Mostly a few dozen uses; sometimes up to 2,048, and rules with numbers up to
     /// the last.
     pub fn any(random: &mut Random) -> Sizes {
-        let last = MOST_RULES - MOST_NAMES * MOST_GOALS_OF_NAME;
+        let goals_of_name = *random.pick(&[5, 30, 100]);
+        let last = MOST_RULES - MOST_NAMES * goals_of_name;
         let rules_in_front = *random.pick(&[0, 0, 0, 3, 8, 60, 250, 1_000, 2_040, last]);
         let (goals, uses_of_each) = *random.pick(&[(MOST_GOALS, 8), (2, 1_000), (40, 5), (12, 10), (12, 10), (12, 10)]);
-        Sizes { goals, uses_of_each, rules_in_front }
+        Sizes { goals, uses_of_each, goals_of_name, rules_in_front }
     }
 }
 
 impl RandomUses {
     pub fn make(random: &mut Random, sizes: &Sizes) -> RandomUses {
         let names = 1 + random.below(MOST_NAMES) as u16;
-        let goals = 1 + random.below(MOST_GOALS_OF_NAME) as u16;
+        let goals = 1 + random.below(sizes.goals_of_name) as u16;
         let rules = random_rules(random, names, goals);
         let chains = (0..random.below(sizes.goals + 1)).map(|_| random_chain(random, &rules, sizes)).collect();
         let in_front = (0..sizes.rules_in_front as u16).map(|number| RandomRule {

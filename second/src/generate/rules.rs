@@ -321,7 +321,7 @@ fn without_uses() -> Vec<Case> {
 
 fn random_cases() -> Vec<Case> {
     let mut random = Random::new(14);
-    let sizes = Sizes { goals: 12, uses_of_each: 10, rules_in_front: 0 };
+    let sizes = Sizes { goals: 12, uses_of_each: 10, goals_of_name: 30, rules_in_front: 0 };
     let mut cases = Vec::new();
     for _ in 0..60 {
         cases.extend([Entry::Check, Entry::CheckFlat].map(|entry| random_case_of(entry, Size::Small, &mut random)));
