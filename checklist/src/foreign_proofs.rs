@@ -1,6 +1,7 @@
 //! Line 3: proofs made by another prover: hiproofs in shapes that the engine
 //! never writes, and derivations converted from elsewhere.
 
+use crate::counts::Counts;
 use crate::inspector::Inspector;
 use crate::prover::Derivation;
 use crate::tree::{label, sequence, tensor, Parts, Tree};
@@ -17,11 +18,7 @@ pub fn inspect(inspector: &mut Inspector) -> Result<String, String> {
         let (_, flat) = inspector.call_with_room(Entry::Flatten, &table, &proof);
         round_trips += u64::from(round_trip(inspector, &table, &flat));
         for shape in other_shapes(&Parts::of(&proof)) {
-            inspector.call_with_room(Entry::Check, &table, &shape);
-            let case = Case::new(Entry::Flatten, &table, &shape);
-            let (answer, same) = inspector.call(&case);
-            let holds = answer.number == 0 && same == flat;
-            inspector.demand(holds, &case, "another shape of the proof has another flat form");
+            same_in_another_shape(inspector, &table, &shape, &flat);
             shapes += 1;
         }
     }
@@ -41,6 +38,18 @@ pub fn inspect(inspector: &mut Inspector) -> Result<String, String> {
     ))
 }
 
+/// A proof in another shape is accepted with the counts of the flat form, which it has, too.
+fn same_in_another_shape(inspector: &mut Inspector, table: &[u8], shape: &[u8], flat: &[u8]) {
+    let case = Case::new(Entry::Check, table, shape);
+    let (answer, _) = inspector.call(&case);
+    let holds = answer.number == 0 && Counts::answered(answer) == Counts::of_flat(flat);
+    inspector.demand(holds, &case, "another shape of the proof has other counts");
+    let case = Case::new(Entry::Flatten, table, shape);
+    let (answer, same) = inspector.call(&case);
+    let holds = answer.number == 0 && same == flat;
+    inspector.demand(holds, &case, "another shape of the proof has another flat form");
+}
+
 /// Accepted proofs of some size, the paper's and a blank one, which the engine never writes, among them.
 pub fn accepted_proofs(seed: u64, count: usize) -> Vec<(Vec<u8>, Vec<u8>)> {
     let mut proofs = examples::proofs();
@@ -55,10 +64,14 @@ pub fn accepted_proofs(seed: u64, count: usize) -> Vec<(Vec<u8>, Vec<u8>)> {
     proofs
 }
 
-/// A derivation is right, is written back, and the proof is accepted and
-/// flattens to the same bytes.
+/// A derivation is right, is written back, and the proof is accepted, has the same
+/// counts and flattens to the same bytes.
 fn round_trip(inspector: &mut Inspector, table: &[u8], flat: &[u8]) -> bool {
-    let (right, _) = inspector.call_with_room(Entry::CheckFlat, table, flat);
+    let counts = Counts::of_flat(flat);
+    let case = Case::new(Entry::CheckFlat, table, flat);
+    let (right, _) = inspector.call(&case);
+    let holds = right.number == 0 && Counts::answered(right) == counts;
+    inspector.demand(holds, &case, "the derivation is not right with the counts of its entries");
     let case = Case::new(Entry::WriteProof, table, flat);
     let (written, proof) = inspector.call(&case);
     if written.number != 0 {
@@ -70,8 +83,8 @@ fn round_trip(inspector: &mut Inspector, table: &[u8], flat: &[u8]) -> bool {
     let (_, again) = inspector.call_with_room(Entry::Flatten, table, &proof);
     let entries = right.uses + right.open;
     let fields = if entries == 0 { 1 } else { 2 * entries - 1 };
-    let same_counts = (accepted.fields, accepted.uses, accepted.open) == (fields, right.uses, right.open);
-    let holds = right.number == 0 && accepted.number == 0 && same_counts && again == flat;
+    let same_counts = accepted.fields == fields && Counts::answered(accepted) == counts;
+    let holds = accepted.number == 0 && same_counts && again == flat;
     inspector.demand(holds, &case, "the derivation did not come back from the proof written from it");
     holds
 }

@@ -1,6 +1,7 @@
 //! Line 4: labels added and removed. They change the count of term fields and
 //! nothing else.
 
+use crate::counts::Counts;
 use crate::foreign_proofs::accepted_proofs;
 use crate::inspector::Inspector;
 use crate::tree::{label, Parts, Tree};
@@ -128,13 +129,15 @@ fn deepest_labels(inspector: &mut Inspector, count: &mut Count) {
     labels_of_proof(inspector, &table, &proof, count);
 }
 
-/// The proof is accepted, with its own count of fields, and its flat form is the
-/// given one.
+/// The proof is accepted, with its own count of fields and the other counts of the
+/// given flat form, which is its own, too.
 fn same_but_for_labels(inspector: &mut Inspector, table: &[u8], proof: &Parts, flat: &[u8]) {
     let case = Case::new(Entry::Check, table, &proof.proof());
     let (answer, _) = inspector.call(&case);
     let accepted = answer.number == 0 && answer.fields == proof.term.fields() as u32;
     inspector.demand(accepted, &case, "a label changed whether the proof is accepted");
+    let same = Counts::answered(answer) == Counts::of_flat(flat);
+    inspector.demand(same, &case, "a label changed the uses, the open goals or the rules");
     let case = Case::new(Entry::Flatten, table, &proof.proof());
     let (_, its_flat) = inspector.call(&case);
     inspector.demand(its_flat == flat, &case, "a label changed the flat form");

@@ -1,6 +1,7 @@
 //! The checklist: four lines that a field engineer runs against a built library.
 
 mod alternatives;
+mod counts;
 mod foreign_proofs;
 mod inspector;
 mod labels;
