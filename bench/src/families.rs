@@ -112,14 +112,18 @@ pub fn all() -> Vec<Family> {
         list.push(family(entry, "small", "document 01's first example", "file", 1, move |_| files::small(entry)));
         match entry {
             Entry::Check => {
-                let sets = [of_blank(entry), of_rules(entry), of_depth(entry), of_check(), of_count()];
+                let different = of_different_rules(entry, 2_048);
+                let sets = [of_blank(entry), of_rules(entry), different, of_depth(entry), of_check(), of_count()];
                 list.extend(sets.into_iter().flatten())
             }
             Entry::Flatten => {
                 let sets = [of_blank(entry), of_rules(entry), of_depth(entry), of_flatten()];
                 list.extend(sets.into_iter().flatten())
             }
-            Entry::CheckFlat => list.extend([of_rules(entry), of_check_flat()].into_iter().flatten()),
+            Entry::CheckFlat => {
+                let sets = [of_rules(entry), of_different_rules(entry, 4_096), of_check_flat()];
+                list.extend(sets.into_iter().flatten())
+            }
             Entry::WriteProof => list.extend([of_rules(entry), of_write_proof()].into_iter().flatten()),
             Entry::Run => list.extend(of_run()),
             Entry::Search => list.extend(of_search()),
@@ -171,9 +175,20 @@ fn of_depth(entry: Entry) -> Vec<Family> {
     ]
 }
 
+/// Different rules that are counted (document 02, P6): each used once, and eight of many again and again.
+fn of_different_rules(entry: Entry, most_uses: usize) -> Vec<Family> {
+    let once = move |count| files::each_rule_once(entry, count);
+    let turns = move |count| files::eight_rules_in_turn(entry, count);
+    vec![
+        family(entry, "once", "each rule once, out of order", "rules", most_uses, once),
+        family(entry, "turns", "eight rules in turn", "rules", 4_096, turns),
+    ]
+}
+
 fn of_check() -> Vec<Family> {
     let entry = Entry::Check;
     vec![
+        family(entry, "uses", "a chain of uses", "uses", 2_048, files::proof_of_uses),
         family(entry, "table", "a long table, a short proof", "bytes of table", 65_535, files::long_table),
         family(entry, "definitions", "labels in a definition", "term fields", 4_096, files::labels_in_a_definition),
         Family {
@@ -372,6 +387,22 @@ mod tests {
         for shape in ["labels", "sequences-left", "sequences-right"] {
             assert_eq!(largest(&format!("count-{shape}")).1, largest(&format!("check-{shape}")).1);
         }
+    }
+
+    /// Uses and different rules: one again and again, each once, eight in turn, half of the table.
+    #[test]
+    fn families_of_different_rules_have_their_counts() {
+        let counts = |key: &str| {
+            let answer = largest(key).0;
+            (answer.uses, answer.rules)
+        };
+        assert_eq!(counts("check-uses"), (2_048, 1));
+        assert_eq!(counts("check-once"), (2_048, 2_048));
+        assert_eq!(counts("check-turns"), (2_048, 8));
+        assert_eq!(counts("check-rising"), (2_048, 2_048));
+        assert_eq!(counts("check_flat-uses"), (4_096, 2));
+        assert_eq!(counts("check_flat-once"), (4_096, 4_096));
+        assert_eq!(counts("check_flat-turns"), (4_096, 8));
     }
 
     /// One field, and a flat file of one empty goal list, in a table of zero bytes and in the longest.

@@ -101,6 +101,18 @@ pub fn last_rule(entry: Entry, count: usize) -> Files {
     (table, using(entry, &vec![rising(count - 1); uses], 1))
 }
 
+/// So many rules, each used once, in another order than the table's. The factor is odd, and the count a power of two.
+pub fn each_rule_once(entry: Entry, count: usize) -> Files {
+    let used: Vec<(u16, u16)> = (0..count).map(|number| rising(40_503 * number % count)).collect();
+    (rules(rising, count), using(entry, &used, 1))
+}
+
+/// So many rules, and uses of eight of them in turn, an eighth of the table apart.
+pub fn eight_rules_in_turn(entry: Entry, count: usize) -> Files {
+    let used: Vec<(u16, u16)> = (0..uses_of(entry, count)).map(|number| rising(number % 8 * (count / 8) + 7)).collect();
+    (rules(rising, count), using(entry, &used, 1))
+}
+
 /// A proof of a term on one goal that remains, or on none.
 fn proof_of(goals: &[u16], term: &[u8]) -> Files {
     (examples::table_a(), proof(goals, term, goals))
