@@ -18,6 +18,7 @@ use crate::format::table::Table;
 use crate::format::term_file::TermFile;
 use crate::limits::{MOST_BUDGET, MOST_ENTRIES_WRITTEN_BACK, MOST_HEIGHT, MOST_SEARCH_BUDGET};
 use crate::notation;
+use used_rules::UsedRules;
 
 /// The counts of an accepted proof.
 pub struct AcceptedProof {
@@ -45,12 +46,13 @@ pub struct SuccessfulRun {
 pub fn check(table: &[u8], proof: &[u8]) -> Result<AcceptedProof, Refusal> {
     let table = Table::read(table)?;
     let proof = Proof::read(proof)?;
-    let walked = walk::walk_proof(&table, &proof)?;
+    let mut used = UsedRules::none();
+    walk::walk_proof(&table, &proof, |rule| used.add(rule))?;
     Ok(AcceptedProof {
         fields: proof.term_fields(),
         uses: proof.atomic_fields(),
         open: proof.remaining.len(),
-        rules: walked.rules.count(),
+        rules: used.count(),
     })
 }
 
@@ -58,16 +60,17 @@ pub fn check(table: &[u8], proof: &[u8]) -> Result<AcceptedProof, Refusal> {
 pub fn flatten(table: &[u8], proof: &[u8]) -> Result<Vec<u8>, Refusal> {
     let table = Table::read(table)?;
     let proof = Proof::read(proof)?;
-    let walked = walk::walk_proof(&table, &proof)?;
-    Ok(walked.forest.flat_file())
+    let forest = walk::walk_proof(&table, &proof, |_| ())?;
+    Ok(forest.flat_file())
 }
 
 pub fn check_flat(table: &[u8], flat: &[u8]) -> Result<RightFlatFile, Refusal> {
     let table = Table::read(table)?;
     let flat = Flat::read(flat)?;
-    let rules = check_flat::follow_entries(&table, &flat)?.count();
+    let mut used = UsedRules::none();
+    check_flat::follow_entries(&table, &flat, |rule| used.add(rule))?;
     let uses = flat.count_uses();
-    Ok(RightFlatFile { uses, open: flat.entries.len() - uses, rules })
+    Ok(RightFlatFile { uses, open: flat.entries.len() - uses, rules: used.count() })
 }
 
 /// "28 before 27" (READINGS A35); uses and opens together are the entries.
@@ -77,7 +80,7 @@ pub fn write_proof(table: &[u8], flat: &[u8]) -> Result<Vec<u8>, Refusal> {
     if flat.entries.len() > MOST_ENTRIES_WRITTEN_BACK {
         return Err(Refusal::at(Reason::TooManyEntries, InputFile::Other, 0));
     }
-    check_flat::follow_entries(&table, &flat)?;
+    check_flat::follow_entries(&table, &flat, |_| ())?;
     Ok(write_back::proof_file_of(&table, &flat))
 }
 

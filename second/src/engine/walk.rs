@@ -5,10 +5,9 @@
 //! only looks at their goals, and the flattener writes the forest in the end.
 
 use super::forest::{Forest, TreeNumber};
-use super::used_rules::UsedRules;
 use crate::answer::{InputFile, Reason, Refusal};
 use crate::format::proof::Proof;
-use crate::format::table::Table;
+use crate::format::table::{RuleNumber, Table};
 use crate::format::terms::{Term, TermNumber};
 use crate::limits::MOST_GOALS;
 use crate::names::{Goal, RuleName};
@@ -23,31 +22,26 @@ enum Waiting {
     TensorJoin { tensor: TermNumber, left_gave: Leaves },
 }
 
-struct Walk<'a> {
+struct Walk<'a, OnUse> {
     table: &'a Table,
     proof: &'a Proof<'a>,
     arities: Vec<usize>,
     forest: Forest,
-    used: UsedRules,
     waiting: Vec<Waiting>,
-}
-
-/// What the walk of an accepted proof leaves.
-pub struct WalkedProof {
-    pub forest: Forest,
-    pub rules: UsedRules,
+    on_use: OnUse,
 }
 
 /// Walks the hiproof on the stated goals and compares what it gives with the
-/// stated remaining goals.
-pub fn walk_proof(table: &Table, proof: &Proof) -> Result<WalkedProof, Refusal> {
+/// stated remaining goals. Gives the forest of an accepted proof; `on_use` is told
+/// of the rule of every use.
+pub fn walk_proof(table: &Table, proof: &Proof, on_use: impl FnMut(RuleNumber)) -> Result<Forest, Refusal> {
     let mut walk = Walk {
         table,
         proof,
         arities: hiproof_arities(proof),
         forest: Forest::of_open_leaves(&proof.goals),
-        used: UsedRules::none(),
         waiting: Vec::new(),
+        on_use,
     };
     let given = walk.walk()?;
     let given_goals: Vec<Goal> = given.iter().map(|&leaf| walk.forest.goal(leaf)).collect();
@@ -56,7 +50,7 @@ pub fn walk_proof(table: &Table, proof: &Proof) -> Result<WalkedProof, Refusal> 
     if given_goals != proof.remaining {
         return Err(Refusal::at(Reason::RemainingGoalsDiffer, InputFile::Other, proof.remaining_place));
     }
-    Ok(WalkedProof { forest: walk.forest, rules: walk.used })
+    Ok(walk.forest)
 }
 
 /// "Input arity: atomic, id and label 1; empty 0; a sequence that of its left
@@ -78,7 +72,7 @@ fn hiproof_arities(proof: &Proof) -> Vec<usize> {
     arities
 }
 
-impl Walk<'_> {
+impl<OnUse: FnMut(RuleNumber)> Walk<'_, OnUse> {
     /// "Left terms go first."
     fn walk(&mut self) -> Result<Leaves, Refusal> {
         let mut goals = self.take(self.proof.hiproof, self.forest.roots())?;
@@ -128,7 +122,7 @@ impl Walk<'_> {
         let Some(rule) = self.table.look_up(name, self.forest.goal(leaf)) else {
             return Err(self.cannot_take(Reason::RuleMissing, term));
         };
-        self.used.add(rule.number);
+        (self.on_use)(rule.number);
         goals.clear();
         goals.extend(self.forest.grow(leaf, name, rule.premises));
         Ok(goals)
