@@ -13,8 +13,8 @@ use libc::STDOUT_FILENO;
 use steps::replay;
 use tally::Tally;
 
-// The longest vector file has some 305,000 bytes. One that does not fit is cut off, and counts as damaged.
-const VECTORS: usize = 524288;
+// The longest vector file has some 551,000 bytes. One that does not fit is cut off, and counts as damaged.
+const VECTORS: usize = 655360;
 
 // Longer than any file that a vector file of the fixed set gives.
 const SPACE: usize = 73728;
@@ -108,6 +108,7 @@ pub fn run() {
     differences += replay_file(b"search.vec");
     differences += replay_file(b"reasons.vec");
     differences += replay_file(b"no-bytes.vec");
+    differences += replay_file(b"rules.vec");
     print_count(b"all differences ", differences);
     io::write_all(STDOUT_FILENO, b"\n");
 }

@@ -11,8 +11,8 @@ use words::load16;
 // The header: magic, version, number of cases, four lengths.
 pub const HEADER: usize = 30;
 
-// HITACVEC and version 1.
-const MAGIC: [u8; 10] = [72, 73, 84, 65, 67, 86, 69, 67, 0, 1];
+// HITACVEC and version 2.
+const MAGIC: [u8; 10] = [72, 73, 84, 65, 67, 86, 69, 67, 0, 2];
 
 // The kinds of record.
 pub const END: u8 = 0;
@@ -24,7 +24,7 @@ pub const OTHER: u8 = 2;
 pub const CASE: u8 = 3;
 
 // The length of a case record up to the height, which only a case of search has, in four bytes.
-pub const CASE_BYTES: usize = 50;
+pub const CASE_BYTES: usize = 66;
 
 // The entries.
 pub const CHECK: u8 = 1;
@@ -140,9 +140,9 @@ pub fn expand(s: &[u8], at: usize, out: &mut [u8]) -> Expanded
     Expanded { next, size: filled }
 }
 
-// The eight numbers of an answer.
+// The twelve numbers of an answer.
 fn load_answer(s: &[u8], at: usize) -> Answer
-    requires { ⌜ at + 32 ≤ length (now s) ⌝ }
+    requires { ⌜ at + 48 ≤ length (now s) ⌝ }
 {
     Answer {
         number: load32(s, at),
@@ -153,12 +153,16 @@ fn load_answer(s: &[u8], at: usize) -> Answer
         fields: load32(s, at + 20),
         uses: load32(s, at + 24),
         remaining: load32(s, at + 28),
+        rules: load32(s, at + 32),
+        goals: load32(s, at + 36),
+        longest: load32(s, at + 40),
+        tactic: load32(s, at + 44),
     }
 }
 
 // The length of an entry's case record.
 pub fn case_bytes(entry: u8) -> usize
-    ensures { λ r. ⌜ (50 ≤ r) × (r ≤ 54) × (entry ≡ 8 → r ≡ 54) ⌝ }
+    ensures { λ r. ⌜ (66 ≤ r) × (r ≤ 70) × (entry ≡ 8 → r ≡ 70) ⌝ }
 {
     if entry == SEARCH {
         return CASE_BYTES + 4;
@@ -168,7 +172,7 @@ pub fn case_bytes(entry: u8) -> usize
 
 // The height that a case of search tells last; 0 in every other.
 fn load_height(s: &[u8], at: usize, entry: u8) -> u32
-    requires { ⌜ (entry ≡ 8 → at + 54 ≤ length (now s)) ⌝ }
+    requires { ⌜ (entry ≡ 8 → at + 70 ≤ length (now s)) ⌝ }
 {
     if entry == SEARCH {
         return load32(s, at + CASE_BYTES);
@@ -178,7 +182,7 @@ fn load_height(s: &[u8], at: usize, entry: u8) -> u32
 
 // An entry's case record of which all bytes are there.
 pub fn load_case(s: &[u8], at: usize, entry: u8) -> Case
-    requires { ⌜ (at + 50 ≤ length (now s)) × (entry ≡ 8 → at + 54 ≤ length (now s)) ⌝ }
+    requires { ⌜ (at + 66 ≤ length (now s)) × (entry ≡ 8 → at + 70 ≤ length (now s)) ⌝ }
 {
     let told = load_answer(s, at + 14);
     let height = load_height(s, at, entry);
@@ -188,7 +192,7 @@ pub fn load_case(s: &[u8], at: usize, entry: u8) -> Case
         lent: load32(s, at + 6) as usize,
         room: load32(s, at + 10) as usize,
         told,
-        digest: load32(s, at + 46),
+        digest: load32(s, at + 62),
         height,
     }
 }
