@@ -1,16 +1,19 @@
 -- The answer of the flat-derivation checker: one law for each way that it ends, by where the walk stopped and by what the two files read as.
 -- Assumes nothing.
 use mathlib.Core.Path.{_≡_, sym, subst, ap, ap₂, _∙_}
-use mathlib.Core.List.{List}
+use mathlib.Core.List.{List, []}
 use Prim.Native.Nat.{ℕ, _+_, _≤_, _<_}
 use native.Mathlib.Omega.{arith}
 use lib.ListN.{length}
 use borrow.Author.Tests.{lt-ltb, le-ltb}
+use Rattle.words.specs.Kept.{Kept}
 use Rattle.format.specs.declared.values.Goal.{Goal}
 use Rattle.format.specs.Limits.{mostBytes, mostGoals, mostUses, mostOpens}
 use Rattle.format.specs.Refusals.{Cause, number}
 use Rattle.format.specs.Results.{gives, refused, andThen}
 use Rattle.format.specs.Goals.{goalsAt}
+use Rattle.rule_set.specs.Different.{different}
+use Rattle.rule_set.specs.Sets.{RuleSet}
 use Rattle.tables.specs.Tables.{Table}
 use Rattle.tables.specs.ReadTables.{readTable}
 use Rattle.tables.specs.Standing.{TableStands}
@@ -24,6 +27,7 @@ use Rattle.files.proofs.WhatStands.{flat-stands}
 use Rattle.hitac.specs.Forest.{leaves}
 use Rattle.hitac.specs.Counts.{uses, everyUse}
 use Rattle.hitac.specs.FlatWalk.{flatWalk}
+use Rattle.hitac.specs.UsedRules.{flatRules}
 use Rattle.hitac.proofs.EntryCounts.{uses-counted, opens-counted}
 use Rattle.answers.specs.declared.Answer.{Answer}
 use Rattle.answers.specs.Answers.{refusal, counted}
@@ -31,11 +35,12 @@ use Rattle.entries.specs.Outcomes.{tableFile, otherFile, noFile}
 use Rattle.entries.specs.LentSpace.{countedAnswer, checkIn, cleared}
 use Rattle.entries.specs.CheckFlat.{nonePending, right, flatCounts, checkFlatOutcome, checkFlatWork, checkFlat}
 use Rattle.derivation.specs.declared.walk.Stop.{Stop}
-use Rattle.derivation.specs.Layout.{indexPlace, cursorsEnd}
+use Rattle.derivation.specs.Layout.{indexPlace, rulesPlace, rulesEnd}
 use Rattle.derivation.specs.Pending.{firstEntry, pendingIn}
 use Rattle.derivation.specs.Walks.{walked, Given, Ready, Walks}
 use Rattle.derivation.specs.CheckedEntries.{DerivationAt, checkedEntries}
 use Rattle.derivation.proofs.PendingLaws.{none-pending, some-first}
+use Rattle.derivation.proofs.RuleLaws.{indexed-still}
 
 -- what the parts of a derivation that stands in a file say
 pub record PartsHold (flat : List ℕ) (parts : FlatParts) (d : Derivation) : Type 0 where
@@ -75,10 +80,17 @@ module _ (flat : List ℕ) (parts : FlatParts) (d : Derivation) (at : Derivation
     few-uses = at .stands .few-uses;
   }
 
-  pub ready-entries : (table : List ℕ) (rules : ℕ) (T : Table) (work : List ℕ) → TableStands table rules T → length table ≤ mostBytes → RulesIndexed table rules work indexPlace → cursorsEnd ≤ length work
-      → Ready table rules flat (parts .roots) work
-  ready-entries table rules T work ts short ix room =
-      record { the-table = T; the-entries = d .entries; given = given-entries table rules T ts; short = short; indexed = ix; room = room }
+  -- the set was made empty
+  pub ready-entries : (table : List ℕ) (rules : ℕ) (T : Table) (w w′ : List ℕ) → TableStands table rules T → length table ≤ mostBytes → RulesIndexed table rules w indexPlace
+      → length w′ ≡ length w → Kept w w′ rulesPlace rulesEnd → RuleSet w′ rulesPlace [] → Ready table rules flat (parts .roots) w′
+  ready-entries table rules T w w′ ts short ix size k empty = record {
+    the-table = T;
+    the-entries = d .entries;
+    given = given-entries table rules T ts;
+    short = short;
+    indexed = indexed-still table rules w w′ size (record { below = λ i l. k .below i (omega arith); above = k .above }) ix;
+    none-used = empty;
+  }
 
 -- the walk over the entries, from the roots on, stopped
 module _ (flat : List ℕ) (parts : FlatParts) (d : Derivation) (at : DerivationAt flat parts d) (table : List ℕ) (rules : ℕ) (T : Table) (ts : TableStands table rules T)
@@ -105,12 +117,16 @@ module _ (flat : List ℕ) (parts : FlatParts) (d : Derivation) (at : Derivation
   unfolding checkedEntries right andThen nonePending walked number
   goals-left l h = rw (result, le-ltb (stop .place) (length flat) l, some-first table flat _ w′ (stop .pending) (walks .pends) h .2)
 
-  -- the file is right
-  pub all-right : length flat ≤ stop .place → stop .pending .lists + stop .pending .roots ≡ 0 → counted 0 (parts .uses) (parts .opens) ≡ answer
+  -- at the file's end the set has the rule of every use
+  pub used-rules : length flat ≤ stop .place → RuleSet w′ rulesPlace (flatRules T (d .entries))
+  used-rules = walks .rules-used T (d .entries) (given-entries flat parts d at table rules T ts)
+
+  -- the file is right; `used` is the size of that set
+  pub all-right : length flat ≤ stop .place → stop .pending .lists + stop .pending .roots ≡ 0 → (used : ℕ) → used ≡ different (flatRules T (d .entries)) → counted 0 (parts .uses) (parts .opens) used ≡ answer
   unfolding checkedEntries right andThen nonePending walked flatCounts
-  all-right l z =
+  all-right l z used e =
       let p = parts-hold flat parts d at in
-      rw (result, le-ltb (stop .place) (length flat) l, none-pending table flat (parts .roots) w′ (stop .pending) z, p .uses-are, p .opens-are)
+      rw (result, le-ltb (stop .place) (length flat) l, none-pending table flat (parts .roots) w′ (stop .pending) z, p .uses-are, p .opens-are, e)
 
 module _ (table flat : List ℕ) where
   abbrev within : Answer

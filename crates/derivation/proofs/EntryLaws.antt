@@ -50,11 +50,11 @@ module _ (T : Table) (p : ℕ) where
   stops-missing (δ ∷ g) a γ es t f = rw (t, f)
 
   -- a use puts the premises in its place, in front
-  pub steps-use : (g : List Goal) (a : RuleName) (γ : Goal) (h : List Goal) (es : List Entry) → carriesFirst γ g ≡ true → findRule T a γ ≡ some (foundRule h)
+  pub steps-use : (g : List Goal) (a : RuleName) (γ : Goal) (n : ℕ) (h : List Goal) (es : List Entry) → carriesFirst γ g ≡ true → findRule T a γ ≡ some (foundRule n h)
       → flatWalk T p g (useEntry a γ ∷ es) ≡ flatWalk T (p + 7) (h ++ drop 1 g) es
   unfolding flatWalk carriesFirst andThen premisesOr
-  steps-use [] a γ h es t f = absurd (false≢true t)
-  steps-use (δ ∷ g) a γ h es t f = rw (t, f)
+  steps-use [] a γ n h es t f = absurd (false≢true t)
+  steps-use (δ ∷ g) a γ n h es t f = rw (t, f)
 
 -- an entry of those that stand from a place on
 pub record FirstEntry (s : List ℕ) (at : ℕ) (es : List Entry) : Type 0 where

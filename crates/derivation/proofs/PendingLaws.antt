@@ -54,6 +54,19 @@ module _ (table w w′ : List ℕ) (low high : ℕ) (k : Kept w w′ low high) w
   cursor-kept : (d : ℕ) → cursorsPlace + d * 4 + 4 ≤ low → Cursor table (placeIn w d) (leftIn w d) → Cursor table (placeIn w′ d) (leftIn w′ d)
   cursor-kept d h c = record { some-left = omega (arith, left-kept d h, c .some-left); inside = omega (arith, place-kept d h, left-kept d h, c .inside) }
 
+-- the pending goals below a write
+module _ (table flat : List ℕ) (roots : ℕ) (w w′ : List ℕ) (p : Pending) (low high : ℕ) (k : Kept w w′ low high) (h : cursorsPlace + p .lists * 4 ≤ low) where
+  pub pending-kept : pendingIn table flat roots w′ p ≡ pendingIn table flat roots w p
+  pending-kept = ap (λ (g : List Goal). g ++ lastRoots flat roots (p .roots)) (waiting-kept table w w′ low high k (p .lists) h)
+
+  pub pends-kept : length w′ ≡ length w → Pends table flat roots w p → Pends table flat roots w′ p
+  pends-kept size q = record {
+    cursors = λ d l. cursor-kept table w w′ low high k d (omega arith) (q .cursors d l);
+    room = omega (arith, q .room);
+    few-roots = q .few-roots;
+    roots-inside = q .roots-inside;
+  }
+
 -- a cursor stored behind those of so many lists
 module _ (table w w₁ w₂ : List ℕ) (d place left : ℕ) (first : w₁ ≡ putWord w (cursorsPlace + d * 4) place) (second : w₂ ≡ putWord w₁ (cursorsPlace + d * 4 + 2) left)
     (room : cursorsPlace + d * 4 + 4 ≤ length w) where

@@ -28,12 +28,12 @@ use Rattle.index.proofs.SeekLaws.{Way}
 use Rattle.index.proofs.AnswerLaws.{Nowhere, Only, at-head, at-slot, at-node}
 use Rattle.index.proofs.FindLaws as find
 use Rattle.index.proofs.IndexKept.{indexed-before}
-use Rattle.derivation.specs.Layout.{cursorsPlace, cursorsEnd, indexPlace, nodesPlace}
+use Rattle.derivation.specs.Layout.{cursorsPlace, rulesEnd, indexPlace, nodesPlace}
 use Rattle.derivation.specs.Pending.{RuleInside}
 
--- the rules stay indexed where only cursors are written
-pub indexed-still : (table : List ℕ) (rules : ℕ) (w w′ : List ℕ) → length w′ ≡ length w → Kept w w′ cursorsPlace cursorsEnd → RulesIndexed table rules w indexPlace → RulesIndexed table rules w′ indexPlace
-indexed-still table rules w w′ size kept ix = (ix .0, ix .1, indexed-before 6 table (ix .0) w w′ indexPlace cursorsPlace cursorsEnd size kept (omega arith) (ix .2))
+-- the rules stay indexed where only cursors and the set of the rules used are written
+pub indexed-still : (table : List ℕ) (rules : ℕ) (w w′ : List ℕ) → length w′ ≡ length w → Kept w w′ cursorsPlace rulesEnd → RulesIndexed table rules w indexPlace → RulesIndexed table rules w′ indexPlace
+indexed-still table rules w w′ size kept ix = (ix .0, ix .1, indexed-before 6 table (ix .0) w w′ indexPlace cursorsPlace rulesEnd size kept (omega arith) (ix .2))
 
 -- no rule of the table has this name and goal
 abbrev pub Missing : (table : List ℕ) → (rules name on : ℕ) → Type 0
@@ -83,19 +83,19 @@ module _ {table : List ℕ} {rules : ℕ} {work : List ℕ} {name on rest node :
     pub rule-here : place + 7 ≤ length table
     rule-here = let f = seek.field-here 6 table work indexPlace n name on sound rest node here place told in goal-inside 6 table place (f .0) refl (f .1)
 
-    -- the rule was found
+    -- the rule was found, and the node has its number
     module _ (k : isKey 6 table name on place ≡ true) where
-      only : Only 6 table (a .indexed .0) work indexPlace n (a .indexed .2 .1) name on place
-      only = at-node 6 table (a .indexed .0) work indexPlace n (a .indexed .2 .1) name on (S.Node place) (λ m so. seek.node-found 6 table work indexPlace m name on so rest node (a .way m so) place told k) place refl
+      only : Only 6 table (a .indexed .0) work indexPlace n (a .indexed .2 .1) name on node place
+      only = at-node 6 table (a .indexed .0) work indexPlace n (a .indexed .2 .1) name on (S.Node node place) (λ m so. seek.node-found 6 table work indexPlace m name on so rest node (a .way m so) place told k) node place refl
 
       pub rule-inside : RuleInside table place
       rule-inside =
-          let b = find.bounds table rules work indexPlace (a .indexed) (a .the-table) (a .stands) (ruleName name) (goal on) place only in
+          let b = find.bounds table rules work indexPlace (a .indexed) (a .the-table) (a .stands) (ruleName name) (goal on) node place only in
           record { seven = b .0; least = b .1; most = b .2; inside = b .3 }
 
-      pub rule-found : (T : Table) → TableStands table rules T → findRule T (ruleName name) (goal on) ≡ some (foundRule (goalsAt table (place + 7) (word table (place + 1) / 2 - 2)))
+      pub rule-found : (T : Table) → TableStands table rules T → findRule T (ruleName name) (goal on) ≡ some (foundRule node (goalsAt table (place + 7) (word table (place + 1) / 2 - 2)))
       unfolding ruleFound
-      rule-found T st = find.rule-found table rules work indexPlace (a .indexed) (a .the-table) (a .stands) (ruleName name) (goal on) place only (word table (place + 1)) refl .found T st
+      rule-found T st = find.rule-found table rules work indexPlace (a .indexed) (a .the-table) (a .stands) (ruleName name) (goal on) node place only (word table (place + 1)) refl .found T st
 
     -- another rule
     module _ (k : isKey 6 table name on place ≡ false) (next : ℕ) (link-is : next ≡ linkAt work (nodesPlace + node * 5) (rest % 2)) where

@@ -3,7 +3,7 @@
 use mathlib.Core.Path.{_≡_, refl, sym, subst, ap, _∙_}
 use mathlib.Core.Bool.{true, false}
 use mathlib.Core.Option.{none, some}
-use mathlib.Core.List.{List, _∷_, _++_}
+use mathlib.Core.List.{List, [], _∷_, _++_}
 use Prim.Native.Nat.{ℕ, _+_, _*_, _-_, _≤_, _<_}
 use native.Mathlib.Omega.{arith}
 use lib.ListN.{length, getD, drop}
@@ -18,6 +18,7 @@ use Rattle.format.specs.Refusals.{entryWrong}
 use Rattle.format.specs.Results.{Result, refused}
 use Rattle.format.specs.Values.{ruleName, goal}
 use Rattle.format.specs.Goals.{goalsAt}
+use Rattle.rule_set.specs.Sets.{RuleSet}
 use Rattle.tables.specs.Tables.{Table}
 use Rattle.tables.specs.Lookup.{foundRule, findRule}
 use Rattle.files.specs.Derivations.{Entry, useEntry, openEntry}
@@ -26,13 +27,16 @@ use Rattle.files.specs.Standing.{EntriesStand}
 use Rattle.files.proofs.EntryBytes.{entries-end}
 use Rattle.files.proofs.EntriesStanding.{First, none-left, first-use, first-open}
 use Rattle.hitac.specs.FlatWalk.{flatWalk}
+use Rattle.hitac.specs.UsedRules.{flatRules}
 use Rattle.derivation.specs.declared.pending.Pending.{Pending}
 use Rattle.derivation.specs.declared.pending.Taken.{Taken}
 use Rattle.derivation.specs.declared.pending.Taken.the-variants as T
-use Rattle.derivation.specs.Layout.{cursorsPlace, cursorsEnd}
+use Rattle.derivation.specs.Layout.{cursorsPlace, rulesPlace, rulesEnd}
 use Rattle.derivation.specs.Pending.{waiting, firstEntry, pendingIn, Pends, carriesFirst, Passes, Takes, Pushes}
 use Rattle.derivation.specs.Walks.{EntryInside, carriedGoal, walked, Given}
 use Rattle.derivation.proofs.EntryLaws.{use-goal, open-goal, stops-other, steps-open, stops-missing, steps-use, FirstEntry, first-entry}
+use Rattle.derivation.proofs.PendingLaws.{pends-kept}
+use Rattle.derivation.proofs.UsedLaws.{Used, used-first, used-all, used-open, used-use}
 
 -- what `take` tells, by its two cases
 module _ (table flat : List ℕ) (roots : ℕ) (w w′ : List ℕ) (p : Pending) (γ : Goal) (r : Taken) (t : Takes table flat roots w w′ p γ r) where
@@ -44,43 +48,51 @@ module _ (table flat : List ℕ) (roots : ℕ) (w w′ : List ℕ) (p : Pending)
   unfolding Takes
   left-told q e = subst (Takes table flat roots w w′ p γ) e t
 
--- what the walk keeps of the work space: its bytes outside the cursors are as they were, and the cursors are those of the pending goals
+-- what the walk keeps of the work space: its bytes outside the cursors and the set of the rules used are as they were, and the cursors are those of the pending goals
 pub record Keeps (table flat : List ℕ) (roots : ℕ) (w₀ w : List ℕ) (p : Pending) : Type 0 where
   pub size : length w ≡ length w₀
-  pub kept : Kept w₀ w cursorsPlace cursorsEnd
+  pub kept : Kept w₀ w cursorsPlace rulesEnd
   pub pends : Pends table flat roots w p
 
 module _ (table flat : List ℕ) (roots : ℕ) (w₀ : List ℕ) where
-  pub keeps-first : firstEntry roots ≤ length flat → cursorsEnd ≤ length w₀ → Keeps table flat roots w₀ w₀ (record { lists = 0; roots = roots })
-  keeps-first inside room = record {
+  pub keeps-first : firstEntry roots ≤ length flat → Keeps table flat roots w₀ w₀ (record { lists = 0; roots = roots })
+  keeps-first inside = record {
     size = refl;
-    kept = kept-same w₀ cursorsPlace cursorsEnd;
+    kept = kept-same w₀ cursorsPlace rulesEnd;
     pends = record { cursors = λ d l. absurd (omega arith); room = omega arith; few-roots = omega arith; roots-inside = inside };
   }
 
-  module _ (w w′ : List ℕ) (p r : Pending) (k : Keeps table flat roots w₀ w p) (size : length w′ ≡ length w) where
-    pub keeps-passed : p .lists ≤ mostUses → Passes table flat roots w w′ p r → Keeps table flat roots w₀ w′ r
-    keeps-passed few x = record {
+  module _ (w w′ : List ℕ) (p : Pending) (k : Keeps table flat roots w₀ w p) (size : length w′ ≡ length w) where
+    pub keeps-passed : (r : Pending) → p .lists ≤ mostUses → Passes table flat roots w w′ p r → Keeps table flat roots w₀ w′ r
+    keeps-passed r few x = record {
       size = size ∙ k .size;
-      kept = kept-both w₀ w w′ cursorsPlace cursorsEnd cursorsPlace (cursorsPlace + p .lists * 4) cursorsPlace cursorsEnd (k .kept) (x .kept) (omega arith) (omega arith) (omega arith) (omega arith);
+      kept = kept-both w₀ w w′ cursorsPlace rulesEnd cursorsPlace (cursorsPlace + p .lists * 4) cursorsPlace rulesEnd (k .kept) (x .kept) (omega arith) (omega arith) (omega arith) (omega arith);
       pends = x .pends;
     }
 
-    pub keeps-pushed : (rule : ℕ) → p .lists < mostUses → Pushes table flat roots w w′ rule p r → Keeps table flat roots w₀ w′ r
-    keeps-pushed rule few x = record {
+    pub keeps-pushed : (rule : ℕ) (r : Pending) → p .lists < mostUses → Pushes table flat roots w w′ rule p r → Keeps table flat roots w₀ w′ r
+    keeps-pushed rule r few x = record {
       size = size ∙ k .size;
-      kept = kept-both w₀ w w′ cursorsPlace cursorsEnd cursorsPlace (cursorsPlace + p .lists * 4 + 4) cursorsPlace cursorsEnd (k .kept) (x .kept) (omega arith) (omega arith) (omega arith) (omega arith);
+      kept = kept-both w₀ w w′ cursorsPlace rulesEnd cursorsPlace (cursorsPlace + p .lists * 4 + 4) cursorsPlace rulesEnd (k .kept) (x .kept) (omega arith) (omega arith) (omega arith) (omega arith);
       pends = x .pends;
     }
 
--- The walk from the first entry on is the walk from here on. There are at most as many lists as uses so far.
-pub record Reached (T : Table) (flat : List ℕ) (whole : Result (List Goal)) (at lists : ℕ) (pending : List Goal) : Type 0 where
+    pub keeps-put : p .lists ≤ mostUses → Kept w w′ rulesPlace rulesEnd → Keeps table flat roots w₀ w′ p
+    keeps-put few x = record {
+      size = size ∙ k .size;
+      kept = kept-both w₀ w w′ cursorsPlace rulesEnd rulesPlace rulesEnd cursorsPlace rulesEnd (k .kept) x (omega arith) (omega arith) (omega arith) (omega arith);
+      pends = pends-kept table flat roots w w′ p rulesPlace rulesEnd x (omega arith) size (k .pends);
+    }
+
+-- The walk from the first entry on is the walk from here on. There are at most as many lists as uses so far, and the set has the rules of these.
+pub record Reached (T : Table) (flat w : List ℕ) (all : List Entry) (whole : Result (List Goal)) (at lists : ℕ) (pending : List Goal) : Type 0 where
   pub rest : List Entry
   pub stand : EntriesStand flat at (length flat) rest
   pub same : whole ≡ flatWalk T at pending rest
   pub used : ℕ
   pub few : used + usesIn rest ≤ mostUses
   pub bound : lists ≤ used
+  pub so-far : Used T w all rest
 
 -- at the first entry
 module _ (table : List ℕ) (rules : ℕ) (flat : List ℕ) (roots : ℕ) (w : List ℕ) (T : Table) (es : List Entry) where
@@ -93,14 +105,15 @@ module _ (table : List ℕ) (rules : ℕ) (flat : List ℕ) (roots : ℕ) (w : L
       let begin : 3 ≡ firstEntry (roots - roots) = omega arith in
       ap (λ (k : ℕ). goalsAt flat k roots) begin
 
-  pub reached-first : Given table rules flat roots T es → Reached T flat (flatWalk T (firstEntry roots) (goalsAt flat 3 roots) es) (firstEntry roots) 0 (pendingIn table flat roots w allRoots)
-  reached-first g = record {
+  pub reached-first : Given table rules flat roots T es → RuleSet w rulesPlace [] → Reached T flat w es (flatWalk T (firstEntry roots) (goalsAt flat 3 roots) es) (firstEntry roots) 0 (pendingIn table flat roots w allRoots)
+  reached-first g empty = record {
     rest = es;
     stand = g .entries-stand;
     same = ap (λ (h : List Goal). flatWalk T (firstEntry roots) h es) roots-pending;
     used = 0;
     few = omega (arith, g .few-uses);
     bound = omega arith;
+    so-far = used-first T es w empty;
   }
 
 -- where a walk stops
@@ -115,7 +128,7 @@ open-counts : (es fs : List Entry) (γ : Goal) → es ≡ openEntry γ ∷ fs �
 unfolding usesIn
 open-counts es fs γ e = ap usesIn e
 
-module _ (T : Table) (flat : List ℕ) (whole : Result (List Goal)) (at lists : ℕ) (pending : List Goal) (r : Reached T flat whole at lists pending) where
+module _ (T : Table) (flat w : List ℕ) (all : List Entry) (whole : Result (List Goal)) (at lists : ℕ) (pending : List Goal) (r : Reached T flat w all whole at lists pending) where
   pub here-inside : at ≤ length flat
   here-inside = entries-within (r .rest) (r .stand)
     where
@@ -133,6 +146,10 @@ module _ (T : Table) (flat : List ℕ) (whole : Result (List Goal)) (at lists : 
   pub at-end : length flat ≤ at → StopsAt flat whole at pending
   unfolding walked flatWalk
   at-end l = r .same ∙ rw (none-left flat at (length flat) (r .rest) (r .stand) l, le-ltb at (length flat) l)
+
+  -- and the set has the rule of every use
+  pub all-used : length flat ≤ at → RuleSet w rulesPlace (flatRules T all)
+  all-used l = used-all T all w (r .rest) (none-left flat at (length flat) (r .rest) (r .stand) l) (r .so-far)
 
   -- an entry stands here
   module _ (l : at < length flat) where
@@ -152,8 +169,8 @@ module _ (T : Table) (flat : List ℕ) (whole : Result (List Goal)) (at lists : 
     -- it carries the first pending goal
     module _ (carried : carriesFirst (carriedGoal flat at) pending ≡ true) where
       -- an open
-      pub goes-open : (getD flat at 0 ≡ 32 → ⊥) → (lists′ : ℕ) (others : List Goal) → lists′ ≤ lists → others ≡ drop 1 pending → Reached T flat whole (at + 5) lists′ others
-      goes-open t lists′ others few passed =
+      pub goes-open : (getD flat at 0 ≡ 32 → ⊥) → (w′ : List ℕ) (lists′ : ℕ) (others : List Goal) → lists′ ≤ lists → others ≡ drop 1 pending → Used T w′ all (r .rest) → Reached T flat w′ all whole (at + 5) lists′ others
+      goes-open t w′ lists′ others few passed u =
           let f = first-open flat at (length flat) (r .rest) (r .stand) l t in
           record {
             rest = f .others;
@@ -166,6 +183,7 @@ module _ (T : Table) (flat : List ℕ) (whole : Result (List Goal)) (at lists : 
             used = r .used;
             few = omega (arith, r .few, open-counts (r .rest) (f .others) (goal (word flat (at + 3))) (f .all-are));
             bound = omega (arith, r .bound);
+            so-far = used-open T all w′ (r .rest) (f .others) u (goal (word flat (at + 3))) (f .all-are);
           }
 
       -- a use
@@ -189,16 +207,18 @@ module _ (T : Table) (flat : List ℕ) (whole : Result (List Goal)) (at lists : 
         pub room-for : lists < mostUses
         room-for = omega (arith, r .few, r .bound, use-counts (r .rest) (first .others) name on (first .all-are))
 
-        pub goes-use : (h others all : List Goal) (lists′ : ℕ) → findRule T name on ≡ some (foundRule h) → others ≡ drop 1 pending → all ≡ h ++ others → lists′ ≤ lists + 1 → Reached T flat whole (at + 7) lists′ all
-        goes-use h others all lists′ f passed pushed few = record {
+        pub goes-use : (n : ℕ) (h others goals : List Goal) (w′ w″ : List ℕ) (lists′ : ℕ) → findRule T name on ≡ some (foundRule n h) → others ≡ drop 1 pending → goals ≡ h ++ others → lists′ ≤ lists + 1
+            → Used T w′ all (r .rest) → ((ns : List ℕ) → RuleSet w′ rulesPlace ns → RuleSet w″ rulesPlace (n ∷ ns)) → Reached T flat w″ all whole (at + 7) lists′ goals
+        goes-use n h others goals w′ w″ lists′ f passed pushed few u put = record {
           rest = first .others;
           stand = first .others-stand;
           same =
               r .same
               ∙ ap (flatWalk T at pending) (first .all-are)
-              ∙ steps-use T at pending name on h (first .others) on-first f
+              ∙ steps-use T at pending name on n h (first .others) on-first f
               ∙ ap (λ (g : List Goal). flatWalk T (at + 7) g (first .others)) (sym (pushed ∙ ap (λ (g : List Goal). h ++ g) passed));
           used = r .used + 1;
           few = omega (arith, r .few, use-counts (r .rest) (first .others) name on (first .all-are));
           bound = omega (arith, r .bound);
+          so-far = used-use T all w′ (r .rest) (first .others) u w″ name on n h (first .all-are) f put;
         }

@@ -19,4 +19,4 @@ pub record DerivationAt (flat : List ℕ) (parts : FlatParts) (d : Derivation) :
 
 -- the answer for a derivation in a file that ends at `end`
 unfoldable pub checkedEntries : Table → Derivation → (end : ℕ) → Answer
-checkedEntries T d end = countedAnswer (inFile otherFile (right T d end (flatCounts d)) done)
+checkedEntries T d end = countedAnswer (inFile otherFile (right T d end (flatCounts T d)) done)

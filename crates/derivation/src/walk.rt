@@ -7,6 +7,7 @@ ghost use Rattle.index.specs.Keys.{isKey, digits};
 ghost use Rattle.derivation.specs.Walks.{EntryInside, carriedGoal, Ready, Walks};
 use crate::layout::INDEX;
 use crate::layout::NODES;
+use crate::layout::RULES;
 use crate::pending::Pending;
 use crate::pending::Taken;
 use crate::pending::push;
@@ -19,6 +20,7 @@ use index::layout::HEADS;
 use index::node::head_of;
 use index::node::link;
 use index::seek::digits_of;
+use rule_set::put;
 use tables::lookup::carries;
 use words::load16;
 
@@ -57,7 +59,7 @@ fn is_rule_of(table: &[u8], rule: usize, flat: &[u8], at: usize) -> bool
     carries(table, rule, name, on)
 }
 
-// Walks over the entries of a flat file, behind its roots. The place is that of the first entry that does not apply, or the file's length. The rule of a use is looked up by the index.
+// Walks over the entries of a flat file, behind its roots. The place is that of the first entry that does not apply, or the file's length. The rule of a use is looked up by the index; its node has the rule's number, which is put into the set of the rules used.
 pub fn walk(table: &[u8], rules: usize, flat: &[u8], roots: usize, work: &mut [u8]) -> Stop
     requires { ⌜ Ready (now table) rules (now flat) roots (now work) ⌝ }
     ensures { λ r. ⌜ Walks (now (table .entry)) rules (now (flat .entry)) roots (now (work .entry)) (now (work .exit)) r ⌝ }
@@ -95,6 +97,7 @@ pub fn walk(table: &[u8], rules: usize, flat: &[u8], roots: usize, work: &mut [u
             }
             rest = rest / 2;
         };
+        put(work, RULES, node);
         pending = push(table, rule, work, pending);
         at += 7;
     };

@@ -1,4 +1,4 @@
--- `walk::walk` meets its contract. The invariant: the walk from the first entry on is the walk from here on over the pending goals, of which there are at most as many lists as uses so far; outside the cursors the work space is as it was.
+-- `walk::walk` meets its contract. The invariant: the walk from the first entry on is the walk from here on over the pending goals, of which there are at most as many lists as uses so far; the set has the rules of these; outside the cursors and the set the work space is as it was.
 -- The inner loop's: the search for the use's name and goal comes to this node.
 -- Assumes nothing.
 use mathlib.Core.Path.{_≡_, sym, subst, _∙_}
@@ -13,6 +13,7 @@ use Rattle.words.specs.Word.{word}
 use Rattle.format.specs.declared.values.Goal.{Goal}
 use Rattle.format.specs.Limits.{mostRules, mostUses}
 use Rattle.format.specs.Goals.{goalsAt}
+use Rattle.rule_set.proofs.SetKept.{set-before}
 use Rattle.tables.specs.Tables.{Table}
 use Rattle.index.specs.Keys.{isKey}
 use Rattle.index.specs.Build.{RulesIndexed}
@@ -23,8 +24,10 @@ use Rattle.derivation.specs.declared.pending.Pending.{Pending}
 use Rattle.derivation.specs.Layout.{indexPlace, nodesPlace}
 use Rattle.derivation.specs.Pending.{firstEntry, pendingIn, carriesFirst, Passes, Takes, RuleInside}
 use Rattle.derivation.specs.Walks.{EntryInside, carriedGoal, Given, Ready}
+use Rattle.derivation.proofs.PendingLaws.{pending-kept}
 use Rattle.derivation.proofs.RuleLaws.{indexed-still, Descends, at-first, none-headed, AtNode, node-few, node-inside, rule-here, rule-inside, rule-found, none-found, goes-down, higher}
-use Rattle.derivation.proofs.WalkLaws.{other-told, left-told, Keeps, keeps-first, keeps-passed, keeps-pushed, Reached, reached-first, here-inside, lists-few, at-end, entry-inside, not-first, goes-open, no-rule, room-for, goes-use}
+use Rattle.derivation.proofs.UsedLaws.{Used, used-kept}
+use Rattle.derivation.proofs.WalkLaws.{other-told, left-told, Keeps, keeps-first, keeps-passed, keeps-pushed, keeps-put, Reached, reached-first, here-inside, lists-few, at-end, all-used, entry-inside, not-first, goes-open, no-rule, room-for, goes-use}
 use Rattle.derivation.proofs.walk.walk.Statement.{statement}
 use Rattle.derivation.proofs.walk.walk.Tie as tie
 
@@ -37,12 +40,12 @@ abbrev μ-loop : tie.MeasureT-loop
 abbrev Inv-walk : tie.InvT-walk
 Inv-walk table rules flat roots work₀ at₀ pending₀ work at pending =
     Keeps table flat roots work₀ work pending
-    × ((T : Table) (es : List Entry) → Given table rules flat roots T es → Reached T flat (flatWalk T (firstEntry roots) (goalsAt flat 3 roots) es) at (pending .lists) (pendingIn table flat roots work pending))
+    × ((T : Table) (es : List Entry) → Given table rules flat roots T es → Reached T flat work es (flatWalk T (firstEntry roots) (goalsAt flat 3 roots) es) at (pending .lists) (pendingIn table flat roots work pending))
 
 abbrev μ-walk : tie.MeasureT-walk
 μ-walk table rules flat roots work₀ at₀ pending₀ work at pending = length flat - at
 
--- the places that the answers go back to: the call, the head of the walk's loop, an entry there, what `take` made of its goal, an entry whose goal is not the first pending one, one whose goal was taken, a node on the way to the rule of a use, the rule at that node, and whether it is the one
+-- the places that the answers go back to: the call, the head of the walk's loop, an entry there, what `take` made of its goal, an entry whose goal is not the first pending one, one whose goal was taken, a node on the way to the rule of a use, the rule at that node, whether it is the one, and that its number was put into the set
 abbrev Begun : Type 0
 Begun = tie.Start Inv-loop μ-loop Inv-walk μ-walk
 
@@ -73,12 +76,15 @@ Hit = tie.Then4 Inv-loop μ-loop Inv-walk μ-walk
 abbrev Missed : Type 0
 Missed = tie.Else4 Inv-loop μ-loop Inv-walk μ-walk
 
+abbrev Noted : Type 0
+Noted = tie.After-put Inv-loop μ-loop Inv-walk μ-walk
+
 module _ (w : Head) where
   abbrev table : List ℕ
   table = now (w .before .before .before .before .args .table)
 
-  abbrev rulesEnd : ℕ
-  rulesEnd = w .before .before .before .before .args .rules
+  abbrev rules : ℕ
+  rules = w .before .before .before .before .args .rules
 
   abbrev flat : List ℕ
   flat = now (w .before .before .before .before .args .flat)
@@ -89,7 +95,7 @@ module _ (w : Head) where
   abbrev begun : List ℕ
   begun = now (w .before .before .before .before .args .work)
 
-  abbrev pre : Ready table rulesEnd flat roots begun
+  abbrev pre : Ready table rules flat roots begun
   pre = w .before .before .before .before .pre
 
   abbrev at : ℕ
@@ -99,13 +105,13 @@ module _ (w : Head) where
   pending = pendingIn table flat roots (w .walk .work) (w .walk .pending)
 
   abbrev Holds : Table → List Entry → Type 0
-  Holds T es = Reached T flat (flatWalk T (firstEntry roots) (goalsAt flat 3 roots) es) at (w .walk .pending .lists) pending
+  Holds T es = Reached T flat (w .walk .work) es (flatWalk T (firstEntry roots) (goalsAt flat 3 roots) es) at (w .walk .pending .lists) pending
 
   abbrev reached : Holds (pre .the-table) (pre .the-entries)
   reached = w .walk .inv .1 (pre .the-table) (pre .the-entries) (pre .given)
 
   within : at ≤ length flat
-  within = here-inside _ _ _ _ _ _ reached
+  within = here-inside _ _ _ _ _ _ _ _ reached
 
 -- an entry
 module _ (c : Here) where
@@ -116,7 +122,7 @@ module _ (c : Here) where
   more = c .if1 .left
 
   inside : EntryInside (flat head) (at head)
-  inside = entry-inside _ _ _ _ _ _ (reached head) more
+  inside = entry-inside _ _ _ _ _ _ _ _ (reached head) more
 
 module _ (c : Tried) where
   abbrev entry : Here
@@ -146,10 +152,13 @@ module _ (c : Passed) where
   told = left-told _ _ _ _ _ _ _ _ (takes tried) _ (c .before .before .others .given .1)
 
   keeps : Keeps (table start) (flat start) (roots start) (begun start) (space tried) left
-  keeps = keeps-passed _ _ _ _ _ _ _ _ (start .walk .inv .0) (tried .take .kept .1 .1 .1 .0) (lists-few _ _ _ _ _ _ (reached start)) (told .1)
+  keeps = keeps-passed _ _ _ _ _ _ _ (start .walk .inv .0) (tried .take .kept .1 .1 .1 .0) _ (lists-few _ _ _ _ _ _ _ _ (reached start)) (told .1)
 
-  indexed : RulesIndexed (table start) (rulesEnd start) (space tried) indexPlace
+  indexed : RulesIndexed (table start) (rules start) (space tried) indexPlace
   indexed = indexed-still _ _ _ _ (keeps .size) (keeps .kept) (pre start .indexed)
+
+  used : (T : Table) (es : List Entry) (g : Given (table start) (rules start) (flat start) (roots start) T es) → Used T (space tried) es (start .walk .inv .1 T es g .rest)
+  used T es g = used-kept _ _ _ _ _ _ _ (tried .take .kept .1 .1 .1 .0) (told .1 .kept) (omega (arith, lists-few _ _ _ _ _ _ _ _ (reached start))) (start .walk .inv .1 T es g .so-far)
 
 -- the roots lie within the flat file
 roots-inside : (i : Begun) → firstEntry (i .args .roots) ≤ length (now (i .args .flat))
@@ -162,7 +171,7 @@ add-at : tie.Need-add-at Inv-loop μ-loop Inv-walk μ-walk
 add-at c = omega (arith, roots-inside (c .before .before .before), c .before .before .before .good)
 
 walk-holds : tie.Need-walk-holds Inv-loop μ-loop Inv-walk μ-walk
-walk-holds c = let i = c .before .before .before in (keeps-first _ _ _ _ (roots-inside i) (i .pre .room), λ T es g. reached-first _ _ _ _ _ T es g)
+walk-holds c = let i = c .before .before .before in (keeps-first _ _ _ _ (roots-inside i), λ T es g. reached-first _ _ _ _ _ T es g (i .pre .none-used))
 
 carried-goal-requires : tie.Need-carried-goal-requires Inv-loop μ-loop Inv-walk μ-walk
 carried-goal-requires c κs = inside c
@@ -189,7 +198,7 @@ walk-again : tie.Need-walk-again Inv-loop μ-loop Inv-walk μ-walk
 walk-again c =
     let p = c .before in
     let t = told p in
-    (keeps p, λ T es g. goes-open _ _ _ _ _ _ (start p .walk .inv .1 T es g) (more (first p)) (t .0) (c .if2 .taken) _ _ (t .1 .few) (t .1 .others))
+    (keeps p, λ T es g. goes-open _ _ _ _ _ _ _ _ (start p .walk .inv .1 T es g) (more (first p)) (t .0) (c .if2 .taken) _ _ _ (t .1 .few) (t .1 .others) (used p T es g))
 
 digits-at-requires : tie.Need-digits-at-requires Inv-loop μ-loop Inv-walk μ-walk
 digits-at-requires c κs = inside (first (c .before)) .some-use (c .if2 .left)
@@ -220,7 +229,7 @@ module _ (c : Node) where
   is-use : getD (flat begin) (at begin) 0 ≡ 32
   is-use = c .before .before .before .before .before .if2 .left
 
-  at-node : AtNode (table begin) (rulesEnd begin) (space (tried the-use)) name on (c .loop .rest) (c .loop .node)
+  at-node : AtNode (table begin) (rules begin) (space (tried the-use)) name on (c .loop .rest) (c .loop .node)
   at-node = record { indexed = indexed the-use; the-table = pre begin .the-table; stands = pre begin .given .rules-stand; way = c .loop .inv }
 
 mul-load16 : tie.Need-mul-load16 Inv-loop μ-loop Inv-walk μ-walk
@@ -296,32 +305,56 @@ module _ (c : Hit) where
   rule-fits = rule-inside (at-node (node hit)) (place hit) (read hit) is-key
 
   one-more : left applied .lists < mostUses
-  one-more = omega (arith, told applied .1 .few, room-for _ _ _ _ _ _ (reached origin) (more (first applied)) (told applied .0) (is-use (node hit)))
+  one-more = omega (arith, told applied .1 .few, room-for _ _ _ _ _ _ _ _ (reached origin) (more (first applied)) (told applied .0) (is-use (node hit)))
+
+  used-here : Used (pre origin .the-table) (space (tried applied)) (pre origin .the-entries) (reached origin .rest)
+  used-here = used applied (pre origin .the-table) (pre origin .the-entries) (pre origin .given)
+
+put-requires : tie.Need-put-requires Inv-loop μ-loop Inv-walk μ-walk
+put-requires c κs = let h = c .before in ((used-here h .numbers, used-here h .in-set), omega (arith, node-few (at-node (node (hit h)))))
+
+-- its number was put into the set
+module _ (c : Noted) where
+  abbrev noted : Hit
+  noted = c .before .before
+
+  abbrev counted : List ℕ
+  counted = c .put .last .0
+
+  still : Keeps (table (origin noted)) (flat (origin noted)) (roots (origin noted)) (begun (origin noted)) counted (left (applied noted))
+  still = keeps-put _ _ _ _ _ _ _ (keeps (applied noted)) (c .put .kept .0) (omega (arith, one-more noted)) (c .put .ensures .1)
+
+  same-pending : pendingIn (table (origin noted)) (flat (origin noted)) (roots (origin noted)) counted (left (applied noted))
+      ≡ pendingIn (table (origin noted)) (flat (origin noted)) (roots (origin noted)) (space (tried (applied noted))) (left (applied noted))
+  same-pending = pending-kept _ _ _ _ _ _ _ _ (c .put .ensures .1) (omega (arith, one-more noted))
 
 push-requires : tie.Need-push-requires Inv-loop μ-loop Inv-walk μ-walk
 push-requires c κs =
-    let h = c .before in
+    let e = c .before .before .before in
+    let h = noted e in
     let s = origin h in
-    (rule-fits h, pre s .short, omega (arith, one-more h, pre s .room, keeps (applied h) .size))
+    (rule-fits h, pre s .short, omega (arith, one-more h, pre s .none-used .room, still e .size))
 
 add-at-3 : tie.Need-add-at-3 Inv-loop μ-loop Inv-walk μ-walk
 add-at-3 c =
-    let h = c .before .before .before .before in
-    omega (arith, inside (first (applied h)) .some-use (is-use (node (hit h))), c .before .before .before .before .before .before .before .before .before .before .before .before .before .before .before .before .before .before .before .before .before .before .before .before .before .before .before .before .good)
+    let h = noted (c .before .before .before .before .before .before) in
+    omega (arith, inside (first (applied h)) .some-use (is-use (node (hit h))), c .before .before .before .before .before .before .before .before .before .before .before .before .before .before .before .before .before .before .before .before .before .before .before .before .before .before .before .before .before .before .before .before .good)
 
 walk-less-2 : tie.Need-walk-less-2 Inv-loop μ-loop Inv-walk μ-walk
-walk-less-2 c = omega (arith, more (first (applied (c .before .before .before .before))))
+walk-less-2 c = omega (arith, more (first (applied (noted (c .before .before .before .before .before .before)))))
 
 walk-again-2 : tie.Need-walk-again-2 Inv-loop μ-loop Inv-walk μ-walk
 walk-again-2 c =
-    let h = c .before .before .before .before in
+    let e = c .before .before .before .before .before .before in
+    let h = noted e in
     let p = applied h in
     let t = told p in
     let push = c .before .before .push in
-    let pushes = push .ensures _ _ (keeps p .pends) in (
-      keeps-pushed _ _ _ _ _ _ _ _ (keeps p) (push .kept .1 .1 .0) _ (one-more h) pushes,
-      λ T es g. goes-use _ _ _ _ _ _ (origin h .walk .inv .1 T es g) (more (first p)) (t .0) (is-use (node (hit h))) _ _ _ _
-          (rule-found (at-node (node (hit h))) (place (hit h)) (read (hit h)) (is-key h) T (g .rules-stand)) (t .1 .others) (pushes .in-front) (omega (arith, pushes .few, t .1 .few)),
+    let pushes = push .ensures _ _ (still e .pends) in (
+      keeps-pushed _ _ _ _ _ _ _ (still e) (push .kept .1 .1 .0) _ _ (one-more h) pushes,
+      λ T es g. goes-use _ _ _ _ _ _ _ _ (origin h .walk .inv .1 T es g) (more (first p)) (t .0) (is-use (node (hit h))) _ _ _ _ _ _ _
+          (rule-found (at-node (node (hit h))) (place (hit h)) (read (hit h)) (is-key h) T (g .rules-stand)) (same-pending e ∙ t .1 .others) (pushes .in-front) (omega (arith, pushes .few, t .1 .few))
+          (used p T es g) (λ ns s. set-before _ _ _ _ _ _ (push .kept .1 .1 .0) (pushes .kept) (omega (arith, one-more h)) (e .put .ensures .0 ns s)),
     )
 
 same-length : tie.Need-same-length Inv-loop μ-loop Inv-walk μ-walk
@@ -330,7 +363,13 @@ same-length c = c .before .walk .inv .0 .size
 returns : tie.Need-returns Inv-loop μ-loop Inv-walk μ-walk
 returns c =
     let w = c .before in
-    record { result = λ T es g. at-end _ _ _ _ _ _ (w .walk .inv .1 T es g) (c .if1 .taken); inside = within w; pends = w .walk .inv .0 .pends; kept = w .walk .inv .0 .kept }
+    record {
+      result = λ T es g. at-end _ _ _ _ _ _ _ _ (w .walk .inv .1 T es g) (c .if1 .taken);
+      inside = within w;
+      pends = w .walk .inv .0 .pends;
+      rules-used = λ T es g. all-used _ _ _ _ _ _ _ _ (w .walk .inv .1 T es g);
+      kept = w .walk .inv .0 .kept;
+    }
 
 -- another goal is the first, or none is pending: the work space is as it was
 module _ (c : Refused) where
@@ -352,7 +391,13 @@ same-length-2 c = kept-all c .size
 returns-2 : tie.Need-returns-2 Inv-loop μ-loop Inv-walk μ-walk
 returns-2 c =
     let w = stopped c in
-    record { result = λ T es g. not-first _ _ _ _ _ _ (w .walk .inv .1 T es g) (more (entry (refused c))) (other c .0) _; inside = within w; pends = kept-all c .pends; kept = kept-all c .kept }
+    record {
+      result = λ T es g. not-first _ _ _ _ _ _ _ _ (w .walk .inv .1 T es g) (more (entry (refused c))) (other c .0) _;
+      inside = within w;
+      pends = kept-all c .pends;
+      rules-used = λ T es g l. absurd (omega (arith, more (entry (refused c))));
+      kept = kept-all c .kept;
+    }
 
 same-length-3 : tie.Need-same-length-3 Inv-loop μ-loop Inv-walk μ-walk
 same-length-3 c = keeps (c .before .before .before .before .before) .size
@@ -362,10 +407,11 @@ returns-3 c =
     let p = c .before .before .before .before .before in
     let w = start p in
     record {
-      result = λ T es g. no-rule _ _ _ _ _ _ (w .walk .inv .1 T es g) (more (first p)) (told p .0) (c .before .before .before .before .if2 .left)
+      result = λ T es g. no-rule _ _ _ _ _ _ _ _ (w .walk .inv .1 T es g) (more (first p)) (told p .0) (c .before .before .before .before .if2 .left)
           (none-headed _ _ _ _ _ _ (c .before .before .before .digits-at .ensures) (c .before .head-of .ensures) _ (indexed p) (c .if3 .taken) T (g .rules-stand)) _;
       inside = within w;
       pends = keeps p .pends;
+      rules-used = λ T es g l. absurd (omega (arith, more (first p)));
       kept = keeps p .kept;
     }
 
@@ -379,10 +425,11 @@ returns-4 c =
     let p = the-use n in
     let w = start p in
     record {
-      result = λ T es g. no-rule _ _ _ _ _ _ (w .walk .inv .1 T es g) (more (first p)) (told p .0) (is-use n)
+      result = λ T es g. no-rule _ _ _ _ _ _ _ _ (w .walk .inv .1 T es g) (more (first p)) (told p .0) (is-use n)
           (none-found (at-node n) (place (missed m)) (read (missed m)) (other-key m) _ (c .before .link .ensures) (c .if5 .taken) T (g .rules-stand)) _;
       inside = within w;
       pends = keeps p .pends;
+      rules-used = λ T es g l. absurd (omega (arith, more (first p)));
       kept = keeps p .kept;
     }
 
@@ -419,6 +466,7 @@ walk-spec =
     link-requires
     loop-less
     loop-again
+    put-requires
     push-requires
     add-at-3
     walk-less-2
