@@ -54,7 +54,7 @@ module _ (T : Table) (d : Derivation) (end : ℕ) (out : List ℕ) where
     unfolding checkedEntries right andThen nonePending number
     none-left z = go walked checked
       where
-        go : (w : Result (List Goal)) → r ≡ countedAnswer (inFile otherFile (andThen w (nonePending end (flatCounts d))) done) → w ≡ gives []
+        go : (w : Result (List Goal)) → r ≡ countedAnswer (inFile otherFile (andThen w (nonePending end (flatCounts T d))) done) → w ≡ gives []
         go (gives []) e = refl
         go (gives (γ ∷ g)) e = absurd (omega (arith, z, ap (λ (x : Answer). x .number) e))
         go (refused c p) e = absurd (omega (arith, z, ap (λ (x : Answer). x .number) e, number-positive c))
@@ -64,7 +64,7 @@ module _ (T : Table) (d : Derivation) (end : ℕ) (out : List ℕ) where
     unfolding checkedEntries right andThen nonePending writeOut
     wrong z h = go walked checked ∙ few-enough h
       where
-        go : (w : Result (List Goal)) → r ≡ countedAnswer (inFile otherFile (andThen w (nonePending end (flatCounts d))) done) → kept r out ≡ leftIn out (inFile otherFile (andThen w (nonePending end proof)) done)
+        go : (w : Result (List Goal)) → r ≡ countedAnswer (inFile otherFile (andThen w (nonePending end (flatCounts T d))) done) → kept r out ≡ leftIn out (inFile otherFile (andThen w (nonePending end proof)) done)
         go (gives []) e = absurd (z (ap (λ (x : Answer). x .number) e))
         go (gives (γ ∷ g)) e = ap (λ (x : Answer). kept x out) e
         go (refused c p) e = ap (λ (x : Answer). kept x out) e

@@ -43,7 +43,7 @@ last-open : (T : Table) (p : List ℕ) (at : ℕ) (γ : Goal) (es : List Entry) 
 last-open T p at γ es e m = subst (λ (r : List Entry). OneTree T p at (openEntry γ ∷ r)) (sym e) (open-tree m)
 
 premises-count : (T : Table) (a : RuleName) (γ : Goal) (h : List Goal) → Finds T a γ h → length (premisesOf T a γ) ≡ length h
-premises-count T a γ h e = rw e
+premises-count T a γ h e = rw (e .1)
 
 one-tree : (T : Table) (p : List ℕ) (at : ℕ) {g : List Goal} {es : List Entry} → Planned T p at es → Derives (Finds T) g es [] → length g ≡ 1 → OneTree T p at es
 unfolding Planned
@@ -62,7 +62,7 @@ unfolding written treeTerms
 written-use T a γ h es e d =
     let n : length (treeTerms T es) ≡ length h = treeTerms-length T d in
     let r : drop (length h) (treeTerms T es) ≡ [] = none (drop (length h) (treeTerms T es)) (omega (arith, length-drop (length h) (treeTerms T es))) in
-    rw (e, r, take-all (length h) (treeTerms T es) (omega arith))
+    rw (e .1, r, take-all (length h) (treeTerms T es) (omega arith))
 
 use-none : (T : Table) (a : RuleName) (es : List Entry) → es ≡ [] → useTerm a (treeTerms T es) ≡ atomic a
 unfolding treeTerms
