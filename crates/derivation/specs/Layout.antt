@@ -13,11 +13,11 @@ abbrev pub cursorsEnd : ℕ
 cursorsEnd = cursorsPlace + 4 * mostUses
 
 -- the set of the rules used stands behind the cursors
-abbrev pub rulesPlace : ℕ
-rulesPlace = cursorsEnd
+abbrev pub usedPlace : ℕ
+usedPlace = cursorsEnd
 
-abbrev pub rulesEnd : ℕ
-rulesEnd = rulesPlace + setRoom
+abbrev pub usedEnd : ℕ
+usedEnd = usedPlace + setRoom
 
 abbrev pub indexPlace : ℕ
 indexPlace = readingScratch

@@ -10,10 +10,10 @@ ghost use Rattle.index.specs.Build.{RulesIndexed};
 ghost use Rattle.files.specs.Derivations.{Derivation};
 ghost use Rattle.entries.specs.CheckFlat.{checkFlatWork, checkFlatOutcome, checkFlat};
 ghost use Rattle.entries.specs.LentSpace.{countedAnswer};
-ghost use Rattle.derivation.specs.Layout.{indexPlace, cursorsPlace, rulesEnd};
+ghost use Rattle.derivation.specs.Layout.{indexPlace, cursorsPlace, usedEnd};
 ghost use Rattle.derivation.specs.CheckedEntries.{DerivationAt, checkedEntries};
 use crate::layout::INDEX;
-use crate::layout::RULES;
+use crate::layout::USED;
 use crate::pending::some_pending;
 use crate::walk::walk;
 use answers::Answer;
@@ -41,12 +41,12 @@ pub fn check_entries(
 ) -> Answer
     requires { ⌜ ((T : Table) × TableStands (now table) rules T) ⌝ }
     requires { ⌜ ((d : Derivation) × DerivationAt (now flat) parts d) ⌝ }
-    requires { ⌜ (length (now table) ≤ mostBytes) × (rulesEnd ≤ length (now work)) ⌝ }
+    requires { ⌜ (length (now table) ≤ mostBytes) × (usedEnd ≤ length (now work)) ⌝ }
     requires { ⌜ RulesIndexed (now table) rules (now work) indexPlace ⌝ }
     ensures { λ r. ⌜ ((T : Table) (d : Derivation) → TableStands (now (table .entry)) rules T → DerivationAt (now (flat .entry)) parts d → r ≡ checkedEntries T d (length (now (flat .entry)))) ⌝ }
-    ensures kept { λ _. ⌜ Kept (now (work .entry)) (now (work .exit)) cursorsPlace rulesEnd ⌝ }
+    ensures kept { λ _. ⌜ Kept (now (work .entry)) (now (work .exit)) cursorsPlace usedEnd ⌝ }
 {
-    make_empty(work, RULES);
+    make_empty(work, USED);
     let stop = walk(table, rules, flat, parts.roots, work);
     if stop.place < flat.len() {
         return refusal(27, 2, stop.place, 0);
@@ -55,7 +55,7 @@ pub fn check_entries(
     if some_pending(pending) {
         return refusal(27, 2, flat.len(), 0);
     }
-    let used = size_of(work, RULES);
+    let used = size_of(work, USED);
     counted(0, parts.uses, parts.opens, used)
 }
 
