@@ -22,6 +22,7 @@ pub mod EntryCounts
 pub mod FlatBounds
 pub mod WrittenRules
 pub mod ForestRules
+pub mod UsedRuleLaws
 pub mod ArityDerived
 pub mod UnfoldingLaws
 pub mod ArityMeaning
