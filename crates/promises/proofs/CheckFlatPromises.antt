@@ -9,6 +9,7 @@ use Rattle.format.specs.declared.values.Goal.{Goal}
 use Rattle.format.specs.Refusals.{Cause, number, entryWrong, goalsPending}
 use Rattle.format.specs.Results.{Result, gives, refused, andThen}
 use Rattle.format.proofs.ResultLaws.{number-positive, same-place, same-cause, never-gives}
+use Rattle.rule_set.specs.Different.{different}
 use Rattle.tables.specs.Tables.{Table, HasRule, UniqueRules}
 use Rattle.tables.specs.ReadTables.{readTable}
 use Rattle.tables.proofs.ReadsTable.{reads-unique-rules}
@@ -21,6 +22,7 @@ use Rattle.hitac.specs.Derives.{Derives}
 use Rattle.hitac.specs.FirstWrong.{entriesSize, FirstWrong}
 use Rattle.hitac.specs.FlatWalk.{flatWalk}
 use Rattle.hitac.specs.Forest.{leaves}
+use Rattle.hitac.specs.UsedRules.{flatRules}
 use Rattle.hitac.proofs.FlatWalks.{flatWalk↔derives, flatWalk↔firstWrong, flatWalk-cause}
 use Rattle.hitac.proofs.StopPlaces.{flatWalk-place}
 use Rattle.answers.specs.declared.Answer.{Answer}
@@ -29,6 +31,7 @@ use Rattle.entries.specs.LentSpace.{countedAnswer}
 use Rattle.entries.specs.CheckFlat.{nonePending, right, flatCounts, checkFlatOutcome, checkFlatWork, checkFlat}
 use Rattle.promises.specs.Right.{Right}
 use Rattle.promises.specs.CheckFlatPromises.{CheckFlat-right, CheckFlat-counts, RefusesFlat, CheckFlat-refuses, CheckFlatRefuses, CheckFlat-ends}
+use Rattle.promises.proofs.Used.{flat-set}
 use Rattle.promises.proofs.LentLaws as lent
 use Rattle.promises.proofs.LentLaws.{ends-checked}
 use Rattle.promises.proofs.OutcomeLaws.{comes, counted-ends}
@@ -62,7 +65,7 @@ module _ (t f : List ℕ) (T : Table) (d : Derivation) (e : readTable t ≡ give
   unfolding number
   wrong-at x = walk-refuses x
 
-  none-left : walked ≡ gives [] → A t f ≡ answer.counted 0 (uses everyUse (d .entries)) (length (leaves (d .entries)))
+  none-left : walked ≡ gives [] → A t f ≡ answer.counted 0 (uses everyUse (d .entries)) (length (leaves (d .entries))) (different (flatRules T (d .entries)))
   unfolding checkFlatOutcome right andThen nonePending flatCounts
   none-left x = rw (e, g, x)
 
@@ -110,7 +113,8 @@ module _ (t f : List ℕ) where
   table-case (gives T) e z = flat-case T e (readFlat f) refl z
   table-case (refused c q) e z = absurd (positive c 1 q 0 (A t f) (table-refuses t f e) z)
 
-  right-answer : (r : Right t f) → A t f ≡ answer.counted 0 (uses everyUse (r .the-derivation .entries)) (length (leaves (r .the-derivation .entries)))
+  right-answer : (r : Right t f)
+      → A t f ≡ answer.counted 0 (uses everyUse (r .the-derivation .entries)) (length (leaves (r .the-derivation .entries))) (different (flatRules (r .the-table) (r .the-derivation .entries)))
   right-answer r =
       let T = r .the-table in
       let d = r .the-derivation in
@@ -123,8 +127,14 @@ checkFlat-right t f w h = (
   (λ r. ap (λ (b : Answer). b .number) (answered t f w h ∙ right-answer t f r)),
 )
 
+-- the same of the entry
+pub checkFlat-answers : (t f w : List ℕ) → checkFlatWork ≤ length w → (r : Right t f)
+    → checkFlat t f w .answer ≡ answer.counted 0 (uses everyUse (r .the-derivation .entries)) (length (leaves (r .the-derivation .entries))) (different (flatRules (r .the-table) (r .the-derivation .entries)))
+checkFlat-answers t f w h r = answered t f w h ∙ right-answer t f r
+
 pub checkFlat-counts : CheckFlat-counts
-checkFlat-counts t f w h r = answered t f w h ∙ right-answer t f r
+checkFlat-counts t f w h r =
+    (different (flatRules (r .the-table) (r .the-derivation .entries)), flat-set t (r .the-table) (r .table-reads) (r .the-derivation), checkFlat-answers t f w h r)
 
 -- the entries' fields fill the file
 entries-fill : (s : List ℕ) (es : List Entry) (at end : ℕ) → EntriesStand s at end es → at + entriesSize es ≡ end
@@ -168,5 +178,5 @@ unfolding checkFlat checkFlatOutcome
 checkFlat-ends t f w =
     ends-checked checkFlatWork w (checkFlatOutcome t f) t f (CheckFlatRefuses f)
     (counted-ends
-    (comes t f (CheckFlatRefuses f) (readFlat f) (λ T d. right T d (length f) (flatCounts d)) (λ c q e. Flat-refused f c q e)
-    (λ T d e g c q h. right-refuses f T d g (flatCounts d) (flatWalk T (entriesPlace d) (d .roots) (d .entries)) refl c q h)))
+    (comes t f (CheckFlatRefuses f) (readFlat f) (λ T d. right T d (length f) (flatCounts T d)) (λ c q e. Flat-refused f c q e)
+    (λ T d e g c q h. right-refuses f T d g (flatCounts T d) (flatWalk T (entriesPlace d) (d .roots) (d .entries)) refl c q h)))

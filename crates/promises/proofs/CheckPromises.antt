@@ -12,6 +12,7 @@ use Rattle.format.specs.Refusals.{Cause, number, remainingDiffer}
 use Rattle.format.specs.Results.{Result, gives, refused, andThen}
 use Rattle.format.specs.Terms.{size, fields, Hiproof}
 use Rattle.format.proofs.ResultLaws.{number-positive, same-value, same-place, same-cause, never-gives}
+use Rattle.rule_set.specs.Different.{different}
 use Rattle.tables.specs.Tables.{Table, HasRule, UniqueRules}
 use Rattle.tables.specs.ReadTables.{readTable}
 use Rattle.tables.proofs.ReadsTable.{reads-unique-rules}
@@ -24,6 +25,7 @@ use Rattle.hitac.specs.Hiproofs.{atomics}
 use Rattle.hitac.specs.Validates.{AtMost256, Validates}
 use Rattle.hitac.specs.Stops.{Stops, StopNumber}
 use Rattle.hitac.specs.Walk.{onNoGoal, walk}
+use Rattle.hitac.specs.UsedRules.{walkedRules}
 use Rattle.hitac.proofs.WalkValidates.{walk↔validates}
 use Rattle.hitac.proofs.WalkStops.{walk↔stops}
 use Rattle.hitac.proofs.StopReasons.{reached-stops, stops-reached}
@@ -35,6 +37,7 @@ use Rattle.entries.specs.Check.{sameGoals, remainingAre, checked, onProof, proo
 use Rattle.entries.proofs.SameGoals.{same-equal, equal-same}
 use Rattle.promises.specs.Accepted.{Accepted}
 use Rattle.promises.specs.CheckPromises.{Check-accepts, Check-counts, Refuses, Check-refuses, CheckRefuses, Check-ends}
+use Rattle.promises.proofs.Used.{used-set}
 use Rattle.promises.proofs.LentLaws as lent
 use Rattle.promises.proofs.LentLaws.{ends-checked}
 use Rattle.promises.proofs.OutcomeLaws.{Comes, comes, counted-ends}
@@ -61,7 +64,7 @@ module _ (t p : List ℕ) (T : Table) (x : Proof) (e : readTable t ≡ gives T) 
   unfolding onProof checked andThen
   walk-refuses g = rw (e, f, g)
 
-  accepts : (h : List Goal) → walked ≡ gives h → sameGoals h (x .remaining) ≡ true → countedAnswer (onProof proofCounts t p) ≡ answer.counted (fields (x .term)) (atomics (x .term)) (length (x .remaining))
+  accepts : (h : List Goal) → walked ≡ gives h → sameGoals h (x .remaining) ≡ true → countedAnswer (onProof proofCounts t p) ≡ answer.counted (fields (x .term)) (atomics (x .term)) (length (x .remaining)) (different (walkedRules T (x .term) (x .goals)))
   unfolding onProof checked andThen remainingAre proofCounts
   accepts h g s = rw (e, f, g, s)
 
@@ -111,7 +114,8 @@ module _ (t p : List ℕ) where
   table-case (gives T) e z = proof-case T e (readProof p) refl z
   table-case (refused c q) e z = absurd (positive c 1 q 0 A (table-refuses t p e) z)
 
-  accepted-answer : (a : Accepted t p) → A ≡ answer.counted (fields (a .the-proof .term)) (atomics (a .the-proof .term)) (length (a .the-proof .remaining))
+  accepted-answer : (a : Accepted t p)
+      → A ≡ answer.counted (fields (a .the-proof .term)) (atomics (a .the-proof .term)) (length (a .the-proof .remaining)) (different (walkedRules (a .the-table) (a .the-proof .term) (a .the-proof .goals)))
   accepted-answer a =
       let x = a .the-proof in
       accepts t p (a .the-table) x (a .table-reads) (a .proof-reads) (x .remaining) (validated t p (a .the-table) x (a .table-reads) (a .proof-reads) (x .remaining) .1 (a .validates)) (equal-same (x .remaining))
@@ -122,8 +126,15 @@ check-accepts t p w h = (
   (λ a. ap (λ (b : Answer). b .number) (answered t p w h ∙ accepted-answer t p a)),
 )
 
+-- the same of the entry
+pub check-answers : (t p w : List ℕ) → checkWork ≤ length w → (a : Accepted t p)
+    → check t p w .answer ≡ answer.counted (fields (a .the-proof .term)) (atomics (a .the-proof .term)) (length (a .the-proof .remaining)) (different (walkedRules (a .the-table) (a .the-proof .term) (a .the-proof .goals)))
+check-answers t p w h a = answered t p w h ∙ accepted-answer t p a
+
 pub check-counts : Check-counts
-check-counts t p w h a = answered t p w h ∙ accepted-answer t p a
+check-counts t p w h a =
+    let x = a .the-proof in
+    (different (walkedRules (a .the-table) (x .term) (x .goals)), used-set t (a .the-table) (a .table-reads) x (x .remaining) (a .validates), check-answers t p w h a)
 
 -- 20, 22, 34 and 35, and 21
 module _ (t p w : List ℕ) (T : Table) (x : Proof) (h : checkWork ≤ length w) (e : readTable t ≡ gives T) (f : readProof p ≡ gives x) where

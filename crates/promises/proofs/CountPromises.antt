@@ -30,5 +30,5 @@ pub check-fields : Check-fields
 unfolding remainingPlace
 check-fields t p w h a n =
     let x = a .the-proof in
-    let e = ap (λ (r : Answer). r .fields) (check-counts t p w h a) in
+    let e = ap (λ (r : Answer). r .fields) (check-counts t p w h a .2) in
     subst (λ (m : ℕ). Counted (orEmptyProof p) (termPlace x) (remainingPlace x) n ↔ (n ≡ m)) (sym e) (exactly (orEmptyProof p) (termPlace x) (remainingPlace x) (x .term) (read-stands p x (a .proof-reads) .term-stands) refl n)

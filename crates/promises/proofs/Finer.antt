@@ -138,7 +138,7 @@ twenty c q k = refined (number c) q k
 
 -- an entry that writes nothing, with any work space
 counted-finer : {o o′ : Outcome Counts} → FinerOutcome o o′ → Finer (countedAnswer o) (countedAnswer o′)
-counted-finer (same-success c) = unchanged (answer.counted (c .fields) (c .uses) (c .remaining)) (kept 0 (omega arith) (λ z. omega arith))
+counted-finer (same-success c) = unchanged (answer.counted (c .fields) (c .uses) (c .remaining) (c .rules)) (kept 0 (omega arith) (λ z. omega arith))
 counted-finer (same-outcome c f q k) = same-answer (number c) f q 0 k
 counted-finer (finer-outcome c q k) = twenty c q k
 

@@ -64,7 +64,7 @@ module _ (t p : List ℕ) (a : Accepted t p) where
   pub accepted-walk : (q : ℕ) → walk T₀ (x₀ .term) q (x₀ .goals) ≡ gives (x₀ .remaining)
   accepted-walk q = walk↔validates T₀ (reads-unique-rules t T₀ (a .table-reads)) (x₀ .term) q (x₀ .goals) (x₀ .remaining) .1 (a .validates)
 
-  outcome : onProof forestFile t p ≡ done (forestFile T₀ x₀)
+  pub outcome : onProof forestFile t p ≡ done (forestFile T₀ x₀)
   unfolding onProof checked andThen remainingAre
   outcome = rw (a .table-reads, a .proof-reads, accepted-walk (termPlace x₀), equal-same (x₀ .remaining))
 
@@ -87,7 +87,7 @@ module _ (t p : List ℕ) (table-bytes : Bytes t) (proof-bytes : Bytes p) (a : A
   abbrev trees : List Tree
   trees = forest T (x .term) (x .goals)
 
-  abbrev d : Derivation
+  abbrev pub d : Derivation
   d = derivationOf x trees
 
   unique : UniqueRules T
@@ -99,7 +99,7 @@ module _ (t p : List ℕ) (table-bytes : Bytes t) (proof-bytes : Bytes p) (a : A
   walked : walk T (x .term) 0 (x .goals) ≡ gives (x .remaining)
   walked = accepted-walk t p a 0
 
-  derives : Derives (HasRule T) (x .goals) (entries trees) []
+  pub derives : Derives (HasRule T) (x .goals) (entries trees) []
   derives = flatWalk↔derives T unique 0 (x .goals) (entries trees) [] .0 (forest-right T (x .term) 0 (x .goals) (x .remaining) walked 0)
 
   open-leaves : leaves (entries trees) ≡ x .remaining
@@ -114,7 +114,7 @@ module _ (t p : List ℕ) (table-bytes : Bytes t) (proof-bytes : Bytes p) (a : A
     entry-values = derived-values T (reads-table t T table-bytes .0 (a .table-reads) .1 .rules-within) derives (proof-within .goal-values);
   }
 
-  reads : readFlat (flatBytes d) ≡ gives d
+  pub reads : readFlat (flatBytes d) ≡ gives d
   reads = flat-back d within
 
   -- without labels
@@ -152,7 +152,7 @@ module _ (t p : List ℕ) (table-bytes : Bytes t) (proof-bytes : Bytes p) (a : A
   abbrev plain-accepted : Accepted t (plainFile p x)
   plain-accepted = record { the-table = T; the-proof = plain x; table-reads = a .table-reads; proof-reads = plain-reads; validates = unlabelled (a .validates) }
 
-  file : forestFile T x ≡ flatBytes d
+  pub file : forestFile T x ≡ flatBytes d
   unfolding forestFile
   file = refl
 

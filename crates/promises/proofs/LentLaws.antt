@@ -5,7 +5,8 @@ use native.Mathlib.Omega.{arith}
 use native.Mathlib.Decide.{decLt}
 use mathlib.Core.Path.{_≡_, refl, sym, subst, ap, _∙_}
 use mathlib.Core.List.{List, _++_}
-use lib.ListN.{length, drop, replicate}
+use lib.ListN.{length, take, drop, replicate}
+use lib.Seq.{take-at}
 use borrow.Author.Tests.{lt-ltb, le-ltb}
 use Rattle.format.specs.Refusals.{Cause, number, outputTooShort}
 use Rattle.format.specs.Results.{Result, gives, refused}
@@ -17,6 +18,7 @@ use Rattle.entries.proofs.LeftLaws.{no-room, enough-room, too-short, long-enoug
 use Rattle.entries.specs.LentSpace.{Counts, countedAnswer, checkIn, Written, writeOut, writeIn}
 use Rattle.promises.specs.Ended as ended
 use Rattle.promises.specs.Ended.{Ended, ended-unstarted, EndsChecked, EndedWriting, ended-wrote, ended-output, EndsWritten}
+use Rattle.promises.specs.WriteProofPromises.{wrote}
 
 module _ (size : ℕ) (work : List ℕ) (o : Outcome Counts) where
   -- the answer, once the work space is long enough
@@ -114,6 +116,32 @@ module _ (table other work out : List ℕ) (Own : (number file place steps : ℕ
         by-space : Dec (length work < size) → E (writeIn size work out o)
         by-space (yes h) = subst E (sym (short h)) (record { answers = unstarted; refused = λ z. (refl, refl); succeeded = λ z. absurd (omega (arith, z)) })
         by-space (no h) = subst E (sym (long (omega arith))) (by-outcome o e)
+
+-- a call that wrote these bytes was begun, came to no refusal, and came to these bytes
+module _ (size : ℕ) (work out f : List ℕ) where
+  wrote-begun : (o : Outcome (List ℕ)) → writeIn size work out o ≡ wrote f work out → leftIn out o ≡ record { answer = answer.wrote (length f) 0; work = leftIn out o .work; out = f ++ drop (length f) out }
+  wrote-begun o e = by-work (decLt (length work) size)
+    where
+      by-work : Dec (length work < size) → leftIn out o ≡ record { answer = answer.wrote (length f) 0; work = leftIn out o .work; out = f ++ drop (length f) out }
+      by-work (yes h) = absurd (let z = ap (λ (c : Written). c .answer .number) (sym (too-short size work out o h) ∙ e) in omega (arith, z))
+      by-work (no h) =
+          let q = sym (long-enough size work out o (omega arith)) ∙ e in
+          λ i. record { answer = q i .answer; work = leftIn out o .work; out = q i .out }
+
+  pub never-wrote : (c : Cause) (file q k : ℕ) → writeIn size work out (refusal c file q k) ≡ wrote f work out → ⊥
+  unfolding writeOut
+  never-wrote c file q k e = let z = ap (λ (x : Written). x .answer .number) (wrote-begun (refusal c file q k) e) in omega (arith, z, number-positive c)
+
+  pub wrote-bytes : (b : List ℕ) → writeIn size work out (done b) ≡ wrote f work out → b ≡ f
+  wrote-bytes b e = by-room (decLt (length out) (length b)) (wrote-begun (done b) e)
+    where
+      by-room : Dec (length out < length b) → leftIn out (done b) ≡ record { answer = answer.wrote (length f) 0; work = leftIn out (done b) .work; out = f ++ drop (length f) out } → b ≡ f
+      by-room (yes h) q = absurd (let z = ap (λ (c : Written). c .answer .number) (no-room b 0 out h ∙ q) in omega (arith, z))
+      by-room (no h) q =
+          let r = enough-room b 0 out (omega arith) ∙ q in
+          sym (take-at b (drop (length b) out) (length b) refl)
+          ∙ ap (λ (c : Written). take (length b) (c .out)) r
+          ∙ take-at f (drop (length f) out) (length b) (sym (ap (λ (c : Written). c .answer .length) r))
 
 -- what is written from another file alone has no answer about a table
 pub other-file : {A : Type 0} (size : ℕ) (work out : List ℕ) (r : Result A) (bytes : A → List ℕ) → writeIn size work out (inFile otherFile r (λ a. done (bytes a))) .answer .file ≡ 1 → ⊥

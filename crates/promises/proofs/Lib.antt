@@ -1,3 +1,4 @@
+pub mod Used
 pub mod LentLaws
 pub mod OutcomeLaws
 pub mod CheckPromises
@@ -8,6 +9,7 @@ pub mod WrittenWithin
 pub mod WriteProofPromises
 pub mod FlattenedWithin
 pub mod FlattenPromises
+pub mod RulesPromises
 pub mod NoBytesPromises
 pub mod RunWithin
 pub mod RunPromises

@@ -13,6 +13,7 @@ use Rattle.format.specs.Refusals.{Cause, number}
 use Rattle.format.specs.Results.{gives, refused, andThen}
 use Rattle.format.specs.Terms.{fields}
 use Rattle.format.specs.Encoding.{GoalValues, goalBytes, termBytes}
+use Rattle.rule_set.specs.Different.{different}
 use Rattle.tables.specs.Tables.{Table}
 use Rattle.tables.specs.ReadTables.{readTable}
 use Rattle.files.specs.Proofs.{Proof, proofBytes, emptyProof, readProof}
@@ -26,6 +27,7 @@ use Rattle.files.proofs.ShortFiles.{proof-short, job-short, flat-short, term-fi
 use Rattle.hitac.specs.Hiproofs.{atomics}
 use Rattle.hitac.specs.Forest.{entries, leaves, forest}
 use Rattle.hitac.specs.FlatWalk.{flatWalk}
+use Rattle.hitac.specs.UsedRules.{walkedRules}
 use Rattle.hitac.specs.Write.{treeTerms, written}
 use Rattle.answers.specs.declared.Answer.{Answer}
 use Rattle.answers.specs.Answers as answer
@@ -63,8 +65,8 @@ module _ (t : List ℕ) (T : Table) (e : readTable t ≡ gives T) where
   unfolding onProof
   on-empty value p f = rw (e, f, empty-checked T (value T emptyProof))
 
-  counted : onProof proofCounts t [] ≡ done (record { fields = 1; uses = 0; remaining = 0 })
-  unfolding proofCounts fields atomics emptyProof
+  counted : onProof proofCounts t [] ≡ done (record { fields = 1; uses = 0; remaining = 0; rules = 0 })
+  unfolding proofCounts fields atomics emptyProof walkedRules different
   counted = on-empty proofCounts [] reads-none
 
   nine-read : readProof noGoalsProof ≡ gives emptyProof

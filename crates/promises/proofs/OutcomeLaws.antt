@@ -45,7 +45,7 @@ module _ {A B : Type 0} (t p : List ℕ) (Own : (number place : ℕ) → Type 0)
       by-table (refused c q) e = let b = table-place t c q e in rw e (comes-table c q (b .least) (b .most) (b .within))
 
 pub counted-ends : {t p : List ℕ} {Own : (number place : ℕ) → Type 0} {o : Outcome Counts} → Comes t p Own o → Ended t p Own (countedAnswer o)
-counted-ends (comes-done a) = ended-counted _ _ _
+counted-ends (comes-done a) = ended-counted _ _ _ _
 counted-ends (comes-table c q l m w) = ended.Ended.ended-table (number c) q l m w
 counted-ends (comes-other c q l m w) = ended.Ended.ended-other (number c) q l m w
 counted-ends (comes-own c q x) = ended.Ended.ended-own (number c) q x

@@ -61,7 +61,7 @@ module _ (t f : List ℕ) (bytes : Bytes f) (r : Right t f) (few : length (r .th
   abbrev u : Term
   u = written T (d .entries)
 
-  abbrev p : Proof
+  abbrev pub p : Proof
   p = proofOf d u
 
   unique : UniqueRules T
@@ -71,10 +71,10 @@ module _ (t f : List ℕ) (bytes : Bytes f) (r : Right t f) (few : length (r .th
   stands : (f ≡ flatBytes d) × FlatWithin d
   stands = reads-flat f d bytes .0 (r .flat-reads)
 
-  few-leaves : length (leaves (d .entries)) ≤ 256
+  pub few-leaves : length (leaves (d .entries)) ≤ 256
   few-leaves = omega (arith, opens-counted (d .entries), stands .1 .few-opens)
 
-  walks : flatWalk T (entriesPlace d) (d .roots) (d .entries) ≡ gives []
+  pub walks : flatWalk T (entriesPlace d) (d .roots) (d .entries) ≡ gives []
   walks = flatWalk↔derives T unique (entriesPlace d) (d .roots) (d .entries) [] .1 (r .derives)
 
   by-rules : Writes (HasRule T) (d .roots) (d .entries) u
@@ -83,7 +83,7 @@ module _ (t f : List ℕ) (bytes : Bytes f) (r : Right t f) (few : length (r .th
   takes : (q : ℕ) → walk T u q (d .roots) ≡ gives (leaves (d .entries))
   takes = written-walk T (entriesPlace d) (d .roots) (d .entries) walks few-leaves
 
-  validates : Validates (HasRule T) AtMost256 u (d .roots) (leaves (d .entries))
+  pub validates : Validates (HasRule T) AtMost256 u (d .roots) (leaves (d .entries))
   validates = walk↔validates T unique u 0 (d .roots) (leaves (d .entries)) .0 (takes 0)
 
   -- "One or more entries e make 2e − 1 term fields", and no entries make one
@@ -106,11 +106,11 @@ module _ (t f : List ℕ) (bytes : Bytes f) (r : Right t f) (few : length (r .th
     remaining-values = leaf-values (d .entries) (stands .1 .entry-values);
   }
 
-  reads : readProof (proofBytes p) ≡ gives p
+  pub reads : readProof (proofBytes p) ≡ gives p
   reads = proof-back p within
 
   -- the call
-  outcome : writeOutcome t f ≡ done (proofBytes p)
+  pub outcome : writeOutcome t f ≡ done (proofBytes p)
   unfolding writeOutcome writtenFile right andThen nonePending writtenProof
   outcome = rw (r .table-reads, r .flat-reads, le-ltb mostEntries (length (d .entries)) few, walks)
 
@@ -147,7 +147,7 @@ writes-back t f bytes r few = back t f bytes r few
 
 -- demand 1
 module _ (t f : List ℕ) (T : Table) (d : Derivation) (g : readFlat f ≡ gives d) where
-  too-many : mostEntries < length (d .entries) → writtenFile T d (length f) ≡ refused entriesTooMany 0
+  pub too-many : mostEntries < length (d .entries) → writtenFile T d (length f) ≡ refused entriesTooMany 0
   unfolding writtenFile
   too-many h = rw (lt-ltb mostEntries (length (d .entries)) h)
 

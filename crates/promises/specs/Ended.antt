@@ -10,7 +10,7 @@ use Rattle.entries.specs.LentSpace.{Checked, Written}
 -- The answer of an entry that writes nothing, called with a table and another file: its counts; a refusal of the table or of the other file, with a place in it;
 -- one of the entry's own refusals, with its place; or 29.
 pub data Ended (table other : List ℕ) (Own : (number place : ℕ) → Type 0) : Answer → Type 0 where
-  ended-counted : (f u r : ℕ) → Ended table other Own (answer.counted f u r)
+  ended-counted : (f u r d : ℕ) → Ended table other Own (answer.counted f u r d)
   ended-table : (n q : ℕ) → 1 ≤ n → n ≤ 9 → q ≤ length table → Ended table other Own (answer.refusal n 1 q 0)
   ended-other : (n q : ℕ) → 1 ≤ n → n ≤ 5 → q ≤ length other → Ended table other Own (answer.refusal n 2 q 0)
   ended-own : (n q : ℕ) → Own n q → Ended table other Own (answer.refusal n 2 q 0)

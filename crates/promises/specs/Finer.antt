@@ -1,4 +1,5 @@
--- Document 02, P5: what the finer reasons change in the answers of check and flatten, and that nothing else changes. The entries as they stood before are kept here, over document 01's walk.
+-- Document 02, P5: what the finer reasons change in the answers of check and flatten, and that nothing else changes. The entries as they stood before are kept here, over document 01's walk
+-- and with the counts of now, so that P6's rules are among them.
 use Prim.Native.Nat.{ℕ, _+_}
 use mathlib.Core.Path.{_≡_}
 use mathlib.Core.Bool.{cond}

@@ -1,5 +1,6 @@
 pub mod Accepted
 pub mod Right
+pub mod Used
 pub mod Ended
 pub mod Results
 pub mod CheckPromises
@@ -8,6 +9,7 @@ pub mod Finer
 pub mod CheckFlatPromises
 pub mod WriteProofPromises
 pub mod FlattenPromises
+pub mod RulesPromises
 pub mod NoBytesPromises
 pub mod RunPromises
 pub mod RunMeaning

@@ -39,8 +39,8 @@ NoBytes-read = (s : List ℕ) → Bytes s → (readProof s ≡ gives noGoals) �
 
 -- with a table that reads
 pub record NoBytesAccepted (t : List ℕ) : Type 0 where
-  -- "accepted, with one term field and no use"
-  pub checks : (w : List ℕ) → checkWork ≤ length w → check t [] w ≡ record { answer = answer.counted 1 0 0; work = replicate (length w) 0 }
+  -- "accepted, with one term field and no use", and so with no rule
+  pub checks : (w : List ℕ) → checkWork ≤ length w → check t [] w ≡ record { answer = answer.counted 1 0 0 0; work = replicate (length w) 0 }
   -- "Flattening it writes an empty goal list", given the space; and so does flattening the nine bytes
   pub flattens : (w o : List ℕ) → flattenWork ≤ length w → 3 ≤ length o → flatten t [] w o ≡ wrote emptyList w o
   pub flattens-nine : (w o : List ℕ) → flattenWork ≤ length w → 3 ≤ length o → flatten t noGoalsProof w o ≡ wrote emptyList w o
@@ -56,7 +56,7 @@ abbrev pub NoBytes-short : Type 0
 NoBytes-short = (t p w v o : List ℕ) (T : Table) → readTable t ≡ gives T → 0 < length p → length p < 3 → checkWork ≤ length w → flattenWork ≤ length v
     → (check t p w .answer ≡ answer.refusal 2 2 0 0) × (flatten t p v o .answer ≡ answer.refusal 2 2 0 0)
 
--- check and flatten as they stood before P7: the three fields are read of every proof file
+-- check and flatten as they stood before P7, but for the counts, which are those of now: the three fields are read of every proof file
 unfoldable pub onFields : {A : Type 0} → (Table → Proof → A) → (table proof : List ℕ) → Outcome A
 onFields value table proof =
     inFile tableFile (readTable table) (λ T.
