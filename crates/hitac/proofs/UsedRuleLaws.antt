@@ -14,7 +14,7 @@ use lib.Seq.{take-at, drop-at}
 use borrow.Author.Tests.{lt-ltb}
 use Rattle.format.specs.declared.values.RuleName.{RuleName}
 use Rattle.format.specs.declared.values.Goal.{Goal}
-use Rattle.format.specs.Results.{gives}
+use Rattle.format.specs.Results.{Result, gives}
 use Rattle.format.specs.Terms.{Term, atomic, id, label, sequence, tensor, empty, alternation, assert, defined, size}
 use Rattle.rule_set.specs.Different.{among, different}
 use Rattle.rule_set.proofs.AmongLaws.{both, among-none, among-head, among-cases, among-append}
@@ -88,95 +88,24 @@ module _ (n : ℕ) (ms ns : List ℕ) where
       go true e x = inl e
       go false e x = inr x
 
--- ---- bounds
+-- ---- which rules: by the terms that the walk comes to, and by the uses
 
 module _ (T : Table) where
   -- the goals that a sequence's right term takes
   abbrev between : Term → List Goal → List Goal
   between s g = givenGoals (walk T s 0 g)
 
-  below-looked-up : (n : ℕ) (a : RuleName) (g : List Goal) → among n (lookedUp T a g) ≡ true → n < length (T .rules)
-  unfolding lookedUp
-  below-looked-up n a [] m = none-among n m
-  below-looked-up n a (γ ∷ []) m = found-below T n a γ m
-  below-looked-up n a (γ ∷ δ ∷ g) m = none-among n m
-
-  -- Every number is that of a rule of the table, also where the walk is refused.
-  pub walked-below : (s : Term) (g : List Goal) (n : ℕ) → among n (walkedRules T s g) ≡ true → n < length (T .rules)
-  unfolding walkedRules
-  walked-below (atomic a) g n m = below-looked-up n a g m
-  walked-below id g n m = none-among n m
-  walked-below (label l s) g n m = walked-below s g n m
-  walked-below (sequence s t) g n m =
-      ⊎-elim (walked-below s g n) (walked-below t (between s g) n) (among-either n (walkedRules T s g) (walkedRules T t (between s g)) m)
-  walked-below (tensor s t) g n m =
-      ⊎-elim
-      (walked-below s (take (inputArity s) g) n)
-      (walked-below t (drop (inputArity s) g) n)
-      (among-either n (walkedRules T s (take (inputArity s) g)) (walkedRules T t (drop (inputArity s) g)) m)
-  walked-below empty g n m = none-among n m
-  walked-below (alternation s t) g n m = none-among n m
-  walked-below (assert γ) g n m = none-among n m
-  walked-below (defined k) g n m = none-among n m
-
-  pub flat-below : (es : List Entry) (n : ℕ) → among n (flatRules T es) ≡ true → n < length (T .rules)
-  unfolding flatRules
-  flat-below [] n m = none-among n m
-  flat-below (useEntry a γ ∷ es) n m = ⊎-elim (found-below T n a γ) (flat-below es n) (among-either n (foundNumber (findRule T a γ)) (flatRules T es) m)
-  flat-below (openEntry γ ∷ es) n m = flat-below es n m
-
-  few-looked-up : (a : RuleName) (g : List Goal) → length (lookedUp T a g) ≤ 1
-  unfolding lookedUp
-  few-looked-up a [] = omega arith
-  few-looked-up a (γ ∷ []) = found-one (findRule T a γ)
-  few-looked-up a (γ ∷ δ ∷ g) = omega arith
-
-  -- At most one for each atomic, and one for each use.
-  pub walked-few : (s : Term) (g : List Goal) → length (walkedRules T s g) ≤ atomics s
-  unfolding walkedRules atomics
-  walked-few (atomic a) g = few-looked-up a g
-  walked-few id g = omega arith
-  walked-few (label l s) g = walked-few s g
-  walked-few (sequence s t) g =
-      omega (arith, length-append (walkedRules T s g) (walkedRules T t (between s g)), walked-few s g, walked-few t (between s g))
-  walked-few (tensor s t) g =
-      let l = take (inputArity s) g in
-      let r = drop (inputArity s) g in
-      omega (arith, length-append (walkedRules T s l) (walkedRules T t r), walked-few s l, walked-few t r)
-  walked-few empty g = omega arith
-  walked-few (alternation s t) g = omega arith
-  walked-few (assert γ) g = omega arith
-  walked-few (defined n) g = omega arith
-
-  pub flat-few : (es : List Entry) → length (flatRules T es) ≤ uses everyUse es
-  unfolding flatRules
-  flat-few [] = omega arith
-  flat-few (useEntry a γ ∷ es) =
-      omega (arith, length-append (foundNumber (findRule T a γ)) (flatRules T es), found-one (findRule T a γ), flat-few es)
-  flat-few (openEntry γ ∷ es) = flat-few es
-
-  -- the numbers of a sequence and of a tensor whose left term validates
+  -- the numbers of a sequence whose left term validates, and of a tensor on the goals of both its terms
   sequence-rules : {s : Term} (t : Term) {g h : List Goal} → Takes T s g h → walkedRules T (sequence s t) g ≡ walkedRules T s g ++ walkedRules T t h
   unfolding walkedRules
-  sequence-rules t v = rw (validates→walk T (Finds T) (finds-agrees T) v 0)
+  sequence-rules {s} t {g} v = ap (λ (r : Result (List Goal)). walkedRules T s g ++ walkedRules T t (givenGoals r)) (validates→walk T (Finds T) (finds-agrees T) v 0)
 
   tensor-rules : (s t : Term) (g₁ g₂ : List Goal) → length g₁ ≡ inputArity s → walkedRules T (tensor s t) (g₁ ++ g₂) ≡ walkedRules T s g₁ ++ walkedRules T t g₂
   unfolding walkedRules
-  tensor-rules s t g₁ g₂ n = rw (take-at g₁ g₂ (inputArity s) n, drop-at g₁ g₂ (inputArity s) n)
-
-  -- EVERY ATOMIC: where the walk gives goals, one number for each atomic.
-  pub walked-all : {s : Term} {g h : List Goal} → Takes T s g h → length (walkedRules T s g) ≡ atomics s
-  unfolding walkedRules lookedUp foundNumber atomics
-  walked-all (V-Atomic e) = rw (e .1)
-  walked-all V-Identity = refl
-  walked-all (V-Label v) = walked-all v
-  walked-all (V-Sequence {s = s} {t = t} {g = g} {h = h} v w) =
-      ap length (sequence-rules t v) ∙ length-append (walkedRules T s g) (walkedRules T t h) ∙ rw (walked-all v, walked-all w)
-  walked-all (V-Tensor {s = s} {t = t} {g₁ = g₁} {g₂ = g₂} v w f) =
-      ap length (tensor-rules s t g₁ g₂ (arity-of v)) ∙ length-append (walkedRules T s g₁) (walkedRules T t g₂) ∙ rw (walked-all v, walked-all w)
-  walked-all V-Empty = refl
-
--- ---- which rules: by the terms that the walk comes to, and by the uses
+  tensor-rules s t g₁ g₂ n =
+      let left : take (inputArity s) (g₁ ++ g₂) ≡ g₁ = take-at g₁ g₂ (inputArity s) n in
+      let right : drop (inputArity s) (g₁ ++ g₂) ≡ g₂ = drop-at g₁ g₂ (inputArity s) n in
+      λ i. walkedRules T s (left i) ++ walkedRules T t (right i)
 
 -- A term that is reached in a system is reached in any that has its rules.
 pub map-reaches : {S R : System} → ((a : RuleName) (γ : Goal) (h : List Goal) → S a γ h → R a γ h)
@@ -348,3 +277,78 @@ module _ (T : Table) (s : Term) (p : ℕ) (g h : List Goal) (walked : walk T s p
 
   pub forest-different : different (flatRules T (entries (forest T s g))) ≡ different (walkedRules T s g)
   forest-different = different-same (flatRules T (entries (forest T s g))) (walkedRules T s g) forest-rules
+
+-- ---- bounds
+
+module _ (T : Table) where
+  below-looked-up : (n : ℕ) (a : RuleName) (g : List Goal) → among n (lookedUp T a g) ≡ true → n < length (T .rules)
+  unfolding lookedUp
+  below-looked-up n a [] m = none-among n m
+  below-looked-up n a (γ ∷ []) m = found-below T n a γ m
+  below-looked-up n a (γ ∷ δ ∷ g) m = none-among n m
+
+  -- Every number is that of a rule of the table, also where the walk is refused.
+  pub walked-below : (s : Term) (g : List Goal) (n : ℕ) → among n (walkedRules T s g) ≡ true → n < length (T .rules)
+  unfolding walkedRules
+  walked-below (atomic a) g n m = below-looked-up n a g m
+  walked-below id g n m = none-among n m
+  walked-below (label l s) g n m = walked-below s g n m
+  walked-below (sequence s t) g n m =
+      ⊎-elim (walked-below s g n) (walked-below t (between T s g) n) (among-either n (walkedRules T s g) (walkedRules T t (between T s g)) m)
+  walked-below (tensor s t) g n m =
+      ⊎-elim
+      (walked-below s (take (inputArity s) g) n)
+      (walked-below t (drop (inputArity s) g) n)
+      (among-either n (walkedRules T s (take (inputArity s) g)) (walkedRules T t (drop (inputArity s) g)) m)
+  walked-below empty g n m = none-among n m
+  walked-below (alternation s t) g n m = none-among n m
+  walked-below (assert γ) g n m = none-among n m
+  walked-below (defined k) g n m = none-among n m
+
+  pub flat-below : (es : List Entry) (n : ℕ) → among n (flatRules T es) ≡ true → n < length (T .rules)
+  unfolding flatRules
+  flat-below [] n m = none-among n m
+  flat-below (useEntry a γ ∷ es) n m = ⊎-elim (found-below T n a γ) (flat-below es n) (among-either n (foundNumber (findRule T a γ)) (flatRules T es) m)
+  flat-below (openEntry γ ∷ es) n m = flat-below es n m
+
+  few-looked-up : (a : RuleName) (g : List Goal) → length (lookedUp T a g) ≤ 1
+  unfolding lookedUp
+  few-looked-up a [] = omega arith
+  few-looked-up a (γ ∷ []) = found-one (findRule T a γ)
+  few-looked-up a (γ ∷ δ ∷ g) = omega arith
+
+  -- At most one for each atomic, and one for each use.
+  pub walked-few : (s : Term) (g : List Goal) → length (walkedRules T s g) ≤ atomics s
+  unfolding walkedRules atomics
+  walked-few (atomic a) g = few-looked-up a g
+  walked-few id g = omega arith
+  walked-few (label l s) g = walked-few s g
+  walked-few (sequence s t) g =
+      omega (arith, length-append (walkedRules T s g) (walkedRules T t (between T s g)), walked-few s g, walked-few t (between T s g))
+  walked-few (tensor s t) g =
+      let l = take (inputArity s) g in
+      let r = drop (inputArity s) g in
+      omega (arith, length-append (walkedRules T s l) (walkedRules T t r), walked-few s l, walked-few t r)
+  walked-few empty g = omega arith
+  walked-few (alternation s t) g = omega arith
+  walked-few (assert γ) g = omega arith
+  walked-few (defined n) g = omega arith
+
+  pub flat-few : (es : List Entry) → length (flatRules T es) ≤ uses everyUse es
+  unfolding flatRules
+  flat-few [] = omega arith
+  flat-few (useEntry a γ ∷ es) =
+      omega (arith, length-append (foundNumber (findRule T a γ)) (flatRules T es), found-one (findRule T a γ), flat-few es)
+  flat-few (openEntry γ ∷ es) = flat-few es
+
+  -- EVERY ATOMIC: where the walk gives goals, one number for each atomic.
+  pub walked-all : {s : Term} {g h : List Goal} → Takes T s g h → length (walkedRules T s g) ≡ atomics s
+  unfolding walkedRules lookedUp foundNumber atomics
+  walked-all (V-Atomic e) = rw (e .1)
+  walked-all V-Identity = refl
+  walked-all (V-Label v) = walked-all v
+  walked-all (V-Sequence {s = s} {t = t} {g = g} {h = h} v w) =
+      ap length (sequence-rules T t v) ∙ length-append (walkedRules T s g) (walkedRules T t h) ∙ rw (walked-all v, walked-all w)
+  walked-all (V-Tensor {s = s} {t = t} {g₁ = g₁} {g₂ = g₂} v w f) =
+      ap length (tensor-rules T s t g₁ g₂ (arity-of v)) ∙ length-append (walkedRules T s g₁) (walkedRules T t g₂) ∙ rw (walked-all v, walked-all w)
+  walked-all V-Empty = refl
