@@ -23,7 +23,7 @@ use Rattle.tables.specs.Tables.{Table, HasRule, NumberedRule}
 use Rattle.tables.specs.Within.{Pairs}
 use Rattle.tables.specs.Lookup.{FoundRule, foundRule, findRule}
 use Rattle.tables.proofs.Clashes.{Six}
-use Rattle.tables.proofs.RuleLookup.{found-numbered, found↔numbered}
+use Rattle.tables.proofs.RuleLookup.{found-few, found↔numbered}
 use Rattle.tables.proofs.Unique.{unique-rules}
 use Rattle.files.specs.Derivations.{Entry, useEntry, openEntry}
 use Rattle.hitac.specs.Hiproofs.{inputArity, atomics}
@@ -59,10 +59,7 @@ among-found n (some r) m =
 
 -- and so one of the table
 found-below : (T : Table) (n : ℕ) (a : RuleName) (γ : Goal) → among n (foundNumber (findRule T a γ)) ≡ true → n < length (T .rules)
-found-below T n a γ m =
-    let (h, e) = among-found n (findRule T a γ) m in
-    let (before, after, k, q) = found-numbered T a γ n h e in
-    omega (arith, k, ap length q, length-append before (record { name = a; goal = γ; premises = h } ∷ after))
+found-below T n a γ m = let (h, e) = among-found n (findRule T a γ) m in found-few T a γ n h e
 
 found-one : (o : Option FoundRule) → length (foundNumber o) ≤ 1
 unfolding foundNumber
