@@ -64,3 +64,19 @@ module _ (n k : ℕ) (h : n < 4294967296) (f : Fewest 10 1 n k) (text : List ℕ
 
 pub number-ends : {w v : List ℕ} {i j : ℕ} (s : List ℕ) (n : ℕ) → Puts w i (s ++ decimal n) v j → j ≤ i + length s + 10
 number-ends s n p = omega (arith, p .behind, length-append s (decimal n), digits-length 10 n)
+
+-- where three numbers, each behind its text, end
+pub numbers-end : {w v : List ℕ} {i j : ℕ} (s : List ℕ) (a : ℕ) (t : List ℕ) (b : ℕ) (u : List ℕ) (c : ℕ) → Puts w i (s ++ decimal a ++ t ++ decimal b ++ u ++ decimal c) v j → j ≤ i + length s + length t + length u + 30
+numbers-end s a t b u c p =
+    let one = s ++ decimal a in
+    let two = one ++ t ++ decimal b in
+    omega (
+      arith,
+      number-ends (two ++ u) c p,
+      length-append two u,
+      length-append (one ++ t) (decimal b),
+      length-append one t,
+      length-append s (decimal a),
+      digits-length 10 a,
+      digits-length 10 b,
+    )

@@ -27,13 +27,13 @@ fn answer_for(table: &[u8], proof: &[u8], opened: bool, work: &mut [u8]) -> Answ
     check(table, &torn, work)
 }
 
-// Checks a proof in a table, if proof.hip was opened, and puts the line of the answer at the start of a lent space; gives the line's length. The longest line has 59 bytes.
+// Checks a proof in a table, if proof.hip was opened, and puts the line of the answer at the start of a lent space; gives the line's length. The longest line has 76 bytes.
 pub fn check_line(
     table: &[u8],
     proof: &[u8],
     opened: bool,
     work: &mut [u8],
-    line: &mut [u8; 64],
+    line: &mut [u8; 80],
 ) -> usize
     ensures { λ r. ⌜ Puts (now (line .entry)) 0 (printedLine (checkProgram (now (table .entry)) (now (proof .entry)) opened (now (work .entry)) .answer)) (now (line .exit)) r ⌝ }
     ensures { λ _. ⌜ now (work .exit) ≡ checkProgram (now (table .entry)) (now (proof .entry)) opened (now (work .entry)) .work ⌝ }
@@ -48,7 +48,7 @@ pub fn run() {
     let mut table = io::large_buffer();
     let mut proof = io::large_buffer();
     let mut work = io::large_buffer();
-    let mut line = [0u8; 64];
+    let mut line = [0u8; 80];
     let kit = load(b"table.kit", &mut table);
     let hip = load(b"proof.hip", &mut proof);
     let t = kit.count;

@@ -2,7 +2,7 @@
 ghost use mathlib.Core.List.{_++_};
 ghost use Prim.Native.Nat.{_+_, _≤_};
 ghost use lib.ListN.{length};
-ghost use Rattle.entries.specs.PrintedLine.{decimal, lineEnd, printedLine};
+ghost use Rattle.entries.specs.PrintedLine.{decimal, printedLine};
 ghost use Rattle.check_kit.specs.Line.{Puts};
 use answers::Answer;
 use words::copy_in;
@@ -35,7 +35,7 @@ fn put_number(line: &mut [u8], at: usize, text: &[u8], n: u32) -> usize
     put_decimal(line, next, n)
 }
 
-// A whole line: three numbers, each behind its text.
+// The start of a line: three numbers, each behind its text.
 fn put_numbers(
     line: &mut [u8],
     first: &[u8],
@@ -45,22 +45,21 @@ fn put_numbers(
     third: &[u8],
     c: u32,
 ) -> usize
-    requires { ⌜ length (now first) + length (now second) + length (now third) + 31 ≤ length (now line) ⌝ }
-    ensures { λ r. ⌜ Puts (now (line .entry)) 0 (now (first .entry) ++ decimal a ++ now (second .entry) ++ decimal b ++ now (third .entry) ++ decimal c ++ lineEnd) (now (line .exit)) r ⌝ }
+    requires { ⌜ length (now first) + length (now second) + length (now third) + 30 ≤ length (now line) ⌝ }
+    ensures { λ r. ⌜ Puts (now (line .entry)) 0 (now (first .entry) ++ decimal a ++ now (second .entry) ++ decimal b ++ now (third .entry) ++ decimal c) (now (line .exit)) r ⌝ }
 {
     let mut at = put_number(line, 0, first, a);
     at = put_number(line, at, second, b);
-    at = put_number(line, at, third, c);
-    put_text(line, at, b"\n")
+    put_number(line, at, third, c)
 }
 
-// The line of an answer: term fields, uses and remaining goals of an accepted proof; number, file and place of a refusal.
+// The line of an answer: term fields, uses, remaining goals and different rules used of an accepted proof; number, file and place of a refusal.
 pub fn put_line(line: &mut [u8], answer: Answer) -> usize
-    requires { ⌜ 64 ≤ length (now line) ⌝ }
+    requires { ⌜ 80 ≤ length (now line) ⌝ }
     ensures { λ r. ⌜ Puts (now (line .entry)) 0 (printedLine answer) (now (line .exit)) r ⌝ }
 {
     if answer.number == 0 {
-        return put_numbers(
+        let mut at = put_numbers(
             line,
             b"accepted fields ",
             answer.fields,
@@ -69,8 +68,10 @@ pub fn put_line(line: &mut [u8], answer: Answer) -> usize
             b" open ",
             answer.remaining,
         );
+        at = put_number(line, at, b" rules ", answer.rules);
+        return put_text(line, at, b"\n");
     }
-    put_numbers(
+    let at = put_numbers(
         line,
         b"refused ",
         answer.number,
@@ -78,5 +79,6 @@ pub fn put_line(line: &mut [u8], answer: Answer) -> usize
         answer.file,
         b" place ",
         answer.place,
-    )
+    );
+    put_text(line, at, b"\n")
 }

@@ -3,7 +3,7 @@
 use native.Mathlib.Omega.{arith}
 use borrow.Author.Needs.{needs}
 use Rattle.entries.specs.PrintedLine.{decimal}
-use Rattle.check_kit.proofs.LineLaws.{number-ends, puts-then, puts-more}
+use Rattle.check_kit.proofs.LineLaws.{number-ends, puts-more}
 use Rattle.check_kit.proofs.line.put_numbers.Statement.{statement}
 use Rattle.check_kit.proofs.line.put_numbers.Tie as tie
 
@@ -17,32 +17,18 @@ put-number-requires-2 c κs =
 
 put-number-requires-3 : tie.Need-put-number-requires-3
 put-number-requires-3 c κs =
-    let a = c .before .before .before .before .before .before .before .before .before .before .before .before .before .args in
-    omega (arith, c .before .before .before .before .before .before .before .before .before .before .before .before .before .pre, number-ends (a .first .now) (a .a) (c .before .before .before .before .before .before .before .put-number .ensures), number-ends (a .second .now) (a .b) (c .before .before .before .put-number2 .ensures))
-
-slice-aggregate-put-text : tie.Need-slice-aggregate-put-text
-slice-aggregate-put-text c = search needs
-
-put-text-requires : tie.Need-put-text-requires
-put-text-requires c κs =
-    let a = c .before .before .before .before .before .before .before .before .before .before .before .before .before .before .before .before .before .before .args in
-    omega (
-      arith,
-      c .before .before .before .before .before .before .before .before .before .before .before .before .before .before .before .before .before .before .pre,
-      number-ends (a .first .now) (a .a) (c .before .before .before .before .before .before .before .before .before .before .before .before .put-number .ensures),
-      number-ends (a .second .now) (a .b) (c .before .before .before .before .before .before .before .before .put-number2 .ensures),
-      number-ends (a .third .now) (a .c) (c .before .before .before .before .put-number3 .ensures),
-    )
+    let i = c .before .before .before .before .before .before .before .before .before .before .before .before .before in
+    let a = i .args in
+    omega (arith, i .pre, number-ends (a .first .now) (a .a) (c .before .before .before .before .before .before .before .put-number .ensures), number-ends (a .second .now) (a .b) (c .before .before .before .put-number2 .ensures))
 
 same-length : tie.Need-same-length
 same-length c = search needs
 
 returns : tie.Need-returns
 returns c =
-    let a = c .before .before .before .before .before .before .before .before .before .before .before .before .before .before .before .before .before .before .before .before .before .args in
-    let two = puts-more (a .second .now) (decimal (a .b)) (omega arith) (c .before .before .before .before .before .before .before .before .before .before .before .before .before .before .before .put-number .ensures) (c .before .before .before .before .before .before .before .before .before .before .before .put-number2 .ensures) in
-    let three = puts-more (a .third .now) (decimal (a .c)) (omega arith) two (c .before .before .before .before .before .before .before .put-number3 .ensures) in
-    puts-then (omega arith) three (c .before .before .put-text .ensures)
+    let a = c .before .before .before .before .before .before .before .before .before .before .before .before .before .before .before .before .args in
+    let two = puts-more (a .second .now) (decimal (a .b)) (omega arith) (c .before .before .before .before .before .before .before .before .before .before .put-number .ensures) (c .before .before .before .before .before .before .put-number2 .ensures) in
+    puts-more (a .third .now) (decimal (a .c)) (omega arith) two (c .before .before .put-number3 .ensures)
 
 pub put-numbers-spec : {M : Type 1} → statement M
 put-numbers-spec =
@@ -51,7 +37,5 @@ put-numbers-spec =
     put-number-requires
     put-number-requires-2
     put-number-requires-3
-    slice-aggregate-put-text
-    put-text-requires
     same-length
     returns)
