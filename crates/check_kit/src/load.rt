@@ -1,4 +1,6 @@
 // Loading a file into a lent space.
+ghost use mathlib.Core.Path.{_≡_};
+ghost use mathlib.Core.Bool.{false};
 ghost use Prim.Native.Nat.{_+_, _≤_};
 ghost use lib.ListN.{length};
 ghost use Rattle.io.specs.Counts.{Counts};
@@ -34,6 +36,7 @@ fn read_more(fd: i32, buf: &mut [u8], from: usize) -> Loaded
 // Reads until buf is full or the file ends. Where a read fails, what the file holds behind the bytes read so far is not known, so that they do not count either.
 fn read_all(fd: i32, buf: &mut [u8]) -> Loaded
     ensures { λ r. ⌜ Counts (r .count) (now (buf .exit)) ⌝ }
+    ensures { λ r. ⌜ (r .opened ≡ false → r .count ≡ 0) ⌝ }
 {
     let mut count: usize = 0;
     while count < buf.len() {
@@ -55,6 +58,7 @@ fn read_all(fd: i32, buf: &mut [u8]) -> Loaded
 // The file's bytes at the start of buf. A file that fills buf, of 65,536 bytes, is too long for the engine, whatever is behind.
 pub fn load(path: &[u8], buf: &mut [u8]) -> Loaded
     ensures { λ r. ⌜ Counts (r .count) (now (buf .exit)) ⌝ }
+    ensures { λ r. ⌜ (r .opened ≡ false → r .count ≡ 0) ⌝ }
 {
     let fd = os::open_read(path);
     if fd < 0 {

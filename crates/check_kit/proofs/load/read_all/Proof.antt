@@ -1,6 +1,7 @@
--- `load::read_all` meets its contract: the bytes read so far are never more than the space has.
+-- `load::read_all` meets its contract: the bytes read so far are never more than the space has, and none of them count where a read failed.
 -- Assumes nothing.
 use mathlib.Core.Path.{_≡_, refl, sym, _∙_}
+use mathlib.Core.Bool.{false≢true}
 use mathlib.Core.List.{List}
 use Prim.Native.Nat.{ℕ, _+_, _-_, _≤_}
 use native.Mathlib.Omega.{arith}
@@ -53,7 +54,7 @@ same-length : tie.Need-same-length Inv-loop μ-loop
 same-length c = as-long (failed c)
 
 returns : tie.Need-returns Inv-loop μ-loop
-returns c = (omega arith, refl)
+returns c = (counts _ (failed c .read-more .last .1 .0) (omega (arith, room (failed c))), λ _. refl)
 
 add-count : tie.Need-add-count Inv-loop μ-loop
 add-count c = let k = got-some c in omega (arith, room k, as-long k, begun k .fits)
@@ -68,13 +69,13 @@ same-length-2 : tie.Need-same-length-2 Inv-loop μ-loop
 same-length-2 c = c .before .loop .inv .1
 
 returns-2 : tie.Need-returns-2 Inv-loop μ-loop
-returns-2 c = counts _ _ (c .before .loop .inv .0)
+returns-2 c = (counts _ _ (c .before .loop .inv .0), λ e. absurd (false≢true (sym e)))
 
 same-length-3 : tie.Need-same-length-3 Inv-loop μ-loop
 same-length-3 c = as-long (got-none c)
 
 returns-3 : tie.Need-returns-3 Inv-loop μ-loop
-returns-3 c = counts _ _ (omega (arith, room (got-none c)))
+returns-3 c = (counts _ _ (omega (arith, room (got-none c))), λ e. absurd (false≢true (sym e)))
 
 pub read-all-spec : {M : Type 1} → statement M
 read-all-spec =
