@@ -1,10 +1,9 @@
 -- The bits of a byte: to add the power of a bit that is 0 sets it, changes no other and carries nothing out of the byte. By the digits, the lowest first.
 -- Assumes nothing.
 use mathlib.Core.Path.{_≡_, refl, sym, ap, _∙_}
-use Prim.Native.Nat.{ℕ, zero, suc, _+_, _*_, _/_, _%_, _^_, _<_}
+use Prim.Native.Nat.{ℕ, zero, suc, _+_, _*_, _-_, _/_, _%_, _^_, _<_}
 use native.Mathlib.Nat.{pow-succ', div-one, div-div-eq-div-mul}
 use native.Mathlib.Omega.{arith}
-use lib.Pow.{shl-exact}
 use Rattle.rule_set.specs.Sets.{bitOf}
 
 -- the lowest bit, and the others as those of half the number
@@ -52,6 +51,14 @@ fits b (suc k) (suc m) l s h =
 pub bit-fits : (b k : ℕ) → k < 8 → b < 256 → bitOf b k ≡ 0 → b + 2 ^ k < 256
 bit-fits b k l s h = fits b k 8 l s h
 
--- a shift within a byte
-pub shifted : (k : ℕ) → k < 8 → 1 * 2 ^ k % 256 ≡ 2 ^ k
-shifted k l = shl-exact {a = 1} 1 k 8 (omega arith) (omega arith) ∙ omega arith
+-- the highest bit of a byte shifted down to a bit
+pub shifted : (k : ℕ) → k < 8 → 128 / 2 ^ (7 - k) ≡ 2 ^ k
+shifted zero l = refl
+shifted (suc zero) l = refl
+shifted (suc (suc zero)) l = refl
+shifted (suc (suc (suc zero))) l = refl
+shifted (suc (suc (suc (suc zero)))) l = refl
+shifted (suc (suc (suc (suc (suc zero))))) l = refl
+shifted (suc (suc (suc (suc (suc (suc zero)))))) l = refl
+shifted (suc (suc (suc (suc (suc (suc (suc zero))))))) l = refl
+shifted (suc (suc (suc (suc (suc (suc (suc (suc k)))))))) l = absurd (omega arith)

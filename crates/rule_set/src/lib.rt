@@ -28,7 +28,7 @@ pub fn make_empty(w: &mut [u8], base: usize)
     }
 }
 
-// Puts a number into the set. Where it is in it already nothing is written.
+// Puts a number into the set. Where it is in it already nothing is written. Every use of a rule comes through here: the bit is shifted down from the highest, since the compiler would take 1 shifted up for a part of the test, and make it at every use.
 pub fn put(w: &mut [u8], base: usize, number: usize)
     requires { ⌜ ((ns : List ℕ) × RuleSet (now w) base ns) × (number < setBits) ⌝ }
     ensures more { λ _. ⌜ ((ns : List ℕ) → RuleSet (now (w .entry)) base ns → RuleSet (now (w .exit)) base (number ∷ ns)) ⌝ }
@@ -42,7 +42,7 @@ pub fn put(w: &mut [u8], base: usize, number: usize)
     }
     let count = load16(w, base + BITS_ROOM);
     store16(w, base + BITS_ROOM, count + 1);
-    w[at] = byte + (1u8 << bit);
+    w[at] = byte + (128u8 >> (7 - bit));
 }
 
 // How many different numbers are in the set.

@@ -61,11 +61,14 @@ add-store16-2 c = let i = c .before .before .before .before .before .before in o
 store16-requires : tie.Need-store16-requires
 store16-requires c κs = search needs
 
+sub-w : tie.Need-sub-w
+sub-w c = search needs
+
 cast-w : tie.Need-cast-w
 cast-w c = search needs
 
-shl-w : tie.Need-shl-w
-shl-w c = search needs
+shr-w : tie.Need-shr-w
+shr-w c = search needs
 
 add-w : tie.Need-add-w
 add-w c =
@@ -105,8 +108,9 @@ put-spec =
     add-store16
     add-store16-2
     store16-requires
+    sub-w
     cast-w
-    shl-w
+    shr-w
     add-w
     slice-write-w
     same-length
