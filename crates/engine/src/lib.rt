@@ -18,9 +18,9 @@ use text_writer::entry::write_text;
 use writer::entry::write_proof;
 
 // The minor number goes up with each new call, the major number when programs must be compiled anew.
-const MAJOR: u32 = 1;
+const MAJOR: u32 = 2;
 
-const MINOR: u32 = 3;
+const MINOR: u32 = 0;
 
 // Whether the proof is accepted in the table.
 #[no_mangle]
