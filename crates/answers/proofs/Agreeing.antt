@@ -5,7 +5,7 @@ use mathlib.Core.Bool.{true, false}
 use Prim.Native.Nat.{ℕ}
 use native.Mathlib.Omega.{arith}
 use Rattle.answers.specs.declared.Answer.{Answer}
-use Rattle.answers.specs.Answers.{SameCounts}
+use Rattle.answers.specs.SameCounts.{SameCounts}
 
 -- nothing was shown where the comparison ended in false
 pub never : {A : Type 0} → false ≡ true → A

@@ -1,7 +1,6 @@
 -- Document 01, "What the bytes bring about": "Every answer has number (0 for success), file (1 table, 2 the other, 0 neither), place .. and steps".
 -- A success adds the bytes written or the counts. What does not apply is 0.
 use Prim.Native.Nat.{ℕ}
-use mathlib.Core.Path.{_≡_}
 use Rattle.answers.specs.declared.Answer.{Answer}
 
 abbrev pub refusal : (number file place steps : ℕ) → Answer
@@ -14,13 +13,3 @@ counted t u o d = record { number = 0; file = 0; place = 0; steps = 0; length = 
 -- the success of an entry that writes: the bytes written, and the terms begun
 abbrev pub wrote : (length steps : ℕ) → Answer
 wrote n k = record { number = 0; file = 0; place = 0; steps = k; length = n; fields = 0; uses = 0; remaining = 0; rules = 0; goals = 0; longest = 0; tactic = 0 }
-
--- two answers with the same counts, those from the term fields on
-pub record SameCounts (a b : Answer) : Type 0 where
-  pub fields : a .fields ≡ b .fields
-  pub uses : a .uses ≡ b .uses
-  pub remaining : a .remaining ≡ b .remaining
-  pub rules : a .rules ≡ b .rules
-  pub goals : a .goals ≡ b .goals
-  pub longest : a .longest ≡ b .longest
-  pub tactic : a .tactic ≡ b .tactic

@@ -4,7 +4,7 @@ ghost use mathlib.Core.Path.{_≡_};
 ghost use mathlib.Core.Bool.{true};
 ghost use Prim.Native.Nat.{_≤_};
 ghost use Rattle.answers.specs.Answers as said;
-ghost use Rattle.answers.specs.Answers.{SameCounts};
+ghost use Rattle.answers.specs.SameCounts.{SameCounts};
 
 // Number (0 for success), file (1 table, 2 the other, 0 neither), place (a byte offset in that file) and steps (terms begun); then, of a success, the bytes written, the term fields, the uses, the remaining goals and the different rules used.
 // The last three are for calls to come (goals taken, the longest list, a tactic's number). They stand here already, so that the struct keeps its form. What does not apply is 0.
