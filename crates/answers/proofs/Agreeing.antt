@@ -5,13 +5,13 @@ use mathlib.Core.Bool.{true, false}
 use Prim.Native.Nat.{ℕ}
 use native.Mathlib.Omega.{arith}
 use Rattle.answers.specs.declared.Answer.{Answer}
-use Rattle.answers.specs.SameCounts.{SameCounts}
+use Rattle.answers.specs.SameRest.{SameRest}
 
 -- nothing was shown where the comparison ended in false
 pub never : {A : Type 0} → false ≡ true → A
 never e = let z : _≡_ {A = ℕ} 0 1 = cc in absurd (omega arith)
 
-pub same-numbers : (a b : Answer) → a .number ≡ b .number → a .file ≡ b .file → a .place ≡ b .place → a .steps ≡ b .steps → a .length ≡ b .length → SameCounts a b → a ≡ b
+pub same-numbers : (a b : Answer) → a .number ≡ b .number → a .file ≡ b .file → a .place ≡ b .place → a .steps ≡ b .steps → a .length ≡ b .length → SameRest a b → a ≡ b
 same-numbers a b n f p s l c =
     λ i. record {
       number = n i;
@@ -28,9 +28,9 @@ same-numbers a b n f p s l c =
       tactic = c .tactic i;
     }
 
--- one and the same answer has the same counts
-pub own-counts : (a b : Answer) → a ≡ b → SameCounts a b
-own-counts a b e = record {
+-- one and the same answer has the same last numbers
+pub own-rest : (a b : Answer) → a ≡ b → SameRest a b
+own-rest a b e = record {
   fields = ap (λ (x : Answer). x .fields) e;
   uses = ap (λ (x : Answer). x .uses) e;
   remaining = ap (λ (x : Answer). x .remaining) e;

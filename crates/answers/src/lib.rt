@@ -4,7 +4,7 @@ ghost use mathlib.Core.Path.{_≡_};
 ghost use mathlib.Core.Bool.{true};
 ghost use Prim.Native.Nat.{_≤_};
 ghost use Rattle.answers.specs.Answers as said;
-ghost use Rattle.answers.specs.SameCounts.{SameCounts};
+ghost use Rattle.answers.specs.SameRest.{SameRest};
 
 // Number (0 for success), file (1 table, 2 the other, 0 neither), place (a byte offset in that file) and steps (terms begun); then, of a success, the bytes written, the term fields, the uses, the remaining goals and the different rules used.
 // The last three are for calls to come (goals taken, the longest list, a tactic's number). They stand here already, so that the struct keeps its form. What does not apply is 0.
@@ -87,9 +87,9 @@ pub fn wrote(length: usize, steps: usize) -> Answer
     }
 }
 
-// Whether the counts of two answers are the same, those from the term fields on.
-fn same_counts(a: Answer, b: Answer) -> bool
-    ensures { λ r. ⌜ (r ≡ true → SameCounts a b) × (SameCounts a b → r ≡ true) ⌝ }
+// Whether the last seven numbers of two answers are the same, those from the term fields on.
+fn same_rest(a: Answer, b: Answer) -> bool
+    ensures { λ r. ⌜ (r ≡ true → SameRest a b) × (SameRest a b → r ≡ true) ⌝ }
 {
     if a.fields != b.fields {
         return false;
@@ -131,5 +131,5 @@ pub fn same_answer(a: Answer, b: Answer) -> bool
     if a.length != b.length {
         return false;
     }
-    same_counts(a, b)
+    same_rest(a, b)
 }

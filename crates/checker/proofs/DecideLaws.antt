@@ -36,7 +36,7 @@ use Rattle.input_arities.proofs.ArityLaws.{ahead-kept}
 use Rattle.input_arities.proofs.ProofLaws.{Small, standing, small, term-room}
 use Rattle.checker.specs.declared.walk.Walked.{Walked}
 use Rattle.checker.specs.declared.walk.Walked.the-variants as W
-use Rattle.checker.specs.Layout.{usedPlace}
+use Rattle.checker.specs.Layout.{setPlace}
 use Rattle.checker.specs.Acts.{Behind}
 use Rattle.checker.specs.Walks.{Ready, Walks}
 use Rattle.checker.specs.Checks.{checkedAnswer}
@@ -79,8 +79,8 @@ module _ (s : List ℕ) (p : Proof) (e : readProofFields s ≡ gives p) (q : Pro
   behind-still table first w₀ n l l₂ b = behind-kept table first w₁ w₂ 0 stackEnd l₂ copy-kept (omega arith) (behind-kept table first w₀ w₁ 0 aritiesEnd l (n .kept) (omega arith) b)
 
   -- and the set behind the index
-  pub set-still : (w₀ : List ℕ) → Noted w₀ w₁ (p .term) → length w₁ ≡ length w₀ → length w₂ ≡ length w₁ → RuleSet w₀ usedPlace [] → RuleSet w₂ usedPlace []
-  set-still w₀ n l l₂ set = set-before w₁ w₂ usedPlace [] 0 stackEnd l₂ copy-kept (omega arith) (set-before w₀ w₁ usedPlace [] 0 aritiesEnd l (n .kept) (omega arith) set)
+  pub set-still : (w₀ : List ℕ) → Noted w₀ w₁ (p .term) → length w₁ ≡ length w₀ → length w₂ ≡ length w₁ → RuleSet w₀ setPlace [] → RuleSet w₂ setPlace []
+  set-still w₀ n l l₂ set = set-before w₁ w₂ setPlace [] 0 stackEnd l₂ copy-kept (omega arith) (set-before w₀ w₁ setPlace [] 0 aritiesEnd l (n .kept) (omega arith) set)
 
   pub goals-there : goalsAt w₂ (top q) (q .goals) ≡ p .goals
   unfolding partsOf
@@ -115,15 +115,15 @@ module _ (T : Table) (s : List ℕ) (p : Proof) (q : ProofParts) (w₂ w₃ : Li
         (ends-refused T p (z .0) k at (z .1) (sym same-walk ∙ z .2), omega (arith, z .3, sizes .file))
 
   module _ (n u : ℕ) (t : r ≡ W.Gives n u) where
-    gave : (walk T (p .term) (termPlace p) (p .goals) ≡ gives (goalsAt w₃ 0 n)) × (u ≡ atomics (p .term)) × (n * 2 ≤ stackEnd) × RuleSet w₃ usedPlace (walkedRules T (p .term) (p .goals))
+    gave : (walk T (p .term) (termPlace p) (p .goals) ≡ gives (goalsAt w₃ 0 n)) × (u ≡ atomics (p .term)) × (n * 2 ≤ stackEnd) × RuleSet w₃ setPlace (walkedRules T (p .term) (p .goals))
     unfolding Walks
-    gave = let z = subst (Walks T (p .term) (q .term) (length s) w₂ w₃ (q .goals)) t (x .walked) in (sym same-walk ∙ z .0, z .1, z .2, subst (λ (g : List Goal). RuleSet w₃ usedPlace (walkedRules T (p .term) g)) (x .goals-are) (z .3))
+    gave = let z = subst (Walks T (p .term) (q .term) (length s) w₂ w₃ (q .goals)) t (x .walked) in (sym same-walk ∙ z .0, z .1, z .2, subst (λ (g : List Goal). RuleSet w₃ setPlace (walkedRules T (p .term) g)) (x .goals-are) (z .3))
 
     pub decides-bound : n * 2 ≤ stackEnd
     decides-bound = gave .2
 
     -- the set is that of the rules that the definition counts
-    pub decides-rules : RuleSet w₃ usedPlace (walkedRules T (p .term) (p .goals))
+    pub decides-rules : RuleSet w₃ setPlace (walkedRules T (p .term) (p .goals))
     decides-rules = gave .3
 
     abbrev Compared : Bool → Type 0

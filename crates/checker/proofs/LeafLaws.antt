@@ -31,7 +31,7 @@ use Rattle.hitac.specs.UsedRules.{foundNumber, lookedUp, walkedRules}
 use Rattle.input_arities.specs.Layout.{stackEnd, aritiesEnd}
 use Rattle.walks.specs.declared.state.Next.{Next}
 use Rattle.checker.specs.declared.leaf.Acted.the-variants as A
-use Rattle.checker.specs.Layout.{usedPlace, usedEnd}
+use Rattle.checker.specs.Layout.{setPlace, setEnd}
 use Rattle.checker.specs.Acts.{goalsIn, walkIn, LeafReady, Acts}
 
 not-one : (f : Goal → Result (List Goal)) (p : ℕ) (w : List ℕ) (top count : ℕ) → (count ≡ 1 → ⊥) → onOneGoal p f (goalsAt w top count) ≡ refused goalCountWrong p
@@ -68,8 +68,8 @@ pub looked-up : (T : Table) (a : RuleName) (γ : Goal) (x y : ℕ) → a .0 ≡ 
 looked-up T a γ x y p q = λ i. findRule T (record { 0 = p i }) (record { 0 = q i })
 
 -- a term that looked no rule up, and wrote on the stacks
-same-rules : (w w′ : List ℕ) (low high : ℕ) → length w′ ≡ length w → Kept w w′ low high → high ≤ stackEnd → (A : List ℕ) → RuleSet w usedPlace A → RuleSet w′ usedPlace (A ++ [])
-same-rules w w′ low high e k h A s = subst (RuleSet w′ usedPlace) (sym (append-nil A)) (set-before w w′ usedPlace A low high e k (omega arith) s)
+same-rules : (w w′ : List ℕ) (low high : ℕ) → length w′ ≡ length w → Kept w w′ low high → high ≤ stackEnd → (A : List ℕ) → RuleSet w setPlace A → RuleSet w′ setPlace (A ++ [])
+same-rules w w′ low high e k h A s = subst (RuleSet w′ setPlace) (sym (append-nil A)) (set-before w w′ setPlace A low high e k (omega arith) s)
 
 module _ (T : Table) (at : ℕ) (w : List ℕ) (n : Next) where
   refuses : (t : Term) (c : Cause) (k : ℕ) → number c ≡ k → walkIn T t at w n ≡ refused c at → Acts T t at w w n (A.Refused k)
@@ -85,7 +85,7 @@ module _ (T : Table) (at : ℕ) (w : List ℕ) (n : Next) where
   atomic-missing a h e = refuses (atomic a) ruleMissing 20 refl (one (λ γ. premisesOr ruleMissing at (findRule T a γ)) at w (n .top) (n .count) h ∙ ap (premisesOr ruleMissing at) e)
 
   -- the premises of a rule, copied from the table
-  module _ (a : RuleName) (table : List ℕ) (number place k : ℕ) (v w′ : List ℕ) (size : length v ≡ length w) (in-set : Kept w v usedPlace usedEnd) (more : (A : List ℕ) → RuleSet w usedPlace A → RuleSet v usedPlace (number ∷ A))
+  module _ (a : RuleName) (table : List ℕ) (number place k : ℕ) (v w′ : List ℕ) (size : length v ≡ length w) (in-set : Kept w v setPlace setEnd) (more : (A : List ℕ) → RuleSet w setPlace A → RuleSet v setPlace (number ∷ A))
       (is : w′ ≡ paste v (n .low) (drop place table) (k * 2)) (one-goal : n .count ≡ 1) (found : findRule T a (goal (word w (n .top))) ≡ some (foundRule number (goalsAt table place k)))
       (few : k ≤ 8) (inside : place + k * 2 ≤ length table) (apart : n .low + 14 ≤ n .top) (below : n .top + n .count * 2 ≤ stackEnd) (space : aritiesEnd ≤ length w) where
     copied-kept : Kept v w′ (n .low) (n .top + n .count * 2)
@@ -106,7 +106,7 @@ module _ (T : Table) (at : ℕ) (w : List ℕ) (n : Next) where
           between = v;
           in-set = in-set;
           kept = copied-kept;
-          rules = λ A s. subst (λ (l : List ℕ). RuleSet w′ usedPlace (A ++ l)) (sym its-rule) (set-before v w′ usedPlace _ (n .low) (n .top + n .count * 2) copied-length copied-kept (omega arith) (set-turned v usedPlace number A (more A s)));
+          rules = λ A s. subst (λ (l : List ℕ). RuleSet w′ setPlace (A ++ l)) (sym its-rule) (set-before v w′ setPlace _ (n .low) (n .top + n .count * 2) copied-length copied-kept (omega arith) (set-turned v setPlace number A (more A s)));
           outcome = one (λ γ. premisesOr ruleMissing at (findRule T a γ)) at w (n .top) (n .count) one-goal ∙ ap (premisesOr ruleMissing at) found ∙ ap gives (sym there);
           used-is = refl;
           few = omega arith;

@@ -35,7 +35,7 @@ use Rattle.walks.proofs.LeafLaws.{aimOf}
 use Rattle.checker.specs.declared.leaf.Acted.{Acted}
 use Rattle.checker.specs.declared.leaf.Acted.the-variants as Act
 use Rattle.checker.specs.declared.walk.Walked.the-variants as W
-use Rattle.checker.specs.Layout.{usedPlace, usedEnd}
+use Rattle.checker.specs.Layout.{setPlace, setEnd}
 use Rattle.checker.specs.Acts.{ofGoals, goalAct, goalsIn, walkIn, LeafReady, Behind, Given, Acts}
 use Rattle.checker.specs.Walks.{Ready, Goes, Walks}
 use Rattle.checker.proofs.ActLaws.{same-goals, walks-goals}
@@ -45,17 +45,17 @@ pub behind-kept : (table : List ℕ) (first : ℕ) (w w′ : List ℕ) (low high
 behind-kept table first w w′ low high size k h b = record { index = indexed-still table first w w′ size (λ i l m. k .above i (omega arith)) (b .index) }
 
 -- and where the set is written, behind it
-pub behind-set : (table : List ℕ) (first : ℕ) (w w′ : List ℕ) → length w′ ≡ length w → Kept w w′ usedPlace usedEnd → Behind table first w → Behind table first w′
+pub behind-set : (table : List ℕ) (first : ℕ) (w w′ : List ℕ) → length w′ ≡ length w → Kept w w′ setPlace setEnd → Behind table first w → Behind table first w′
 behind-set table first w w′ size k b = record { index = indexed-still table first w w′ size (λ i l m. k .below i (omega arith)) (b .index) }
 
 -- ---- a step
 
 -- a step that wrote on the stacks and the frames alone
-pub steps-go : (T : Table) (x : Aim ℕ) (A : List ℕ) (s w w′ : List ℕ) (at at′ : ℕ) (r : Turn) → length w′ ≡ length w → RuleSet w usedPlace A → at′ ≤ at → Steps (goalAct T) x A s w w′ at r → Goes T x s w w′ at′ r
+pub steps-go : (T : Table) (x : Aim ℕ) (A : List ℕ) (s w w′ : List ℕ) (at at′ : ℕ) (r : Turn) → length w′ ≡ length w → RuleSet w setPlace A → at′ ≤ at → Steps (goalAct T) x A s w w′ at r → Goes T x s w w′ at′ r
 steps-go T x A s w w′ at at′ r size set h z = record {
   made = A;
   turned = loops.turned-later (goalAct T) x A s w′ at at′ r h (z .turned);
-  rules = set-before w w′ usedPlace A 0 framesEnd size (z .kept) (omega arith) set;
+  rules = set-before w w′ setPlace A 0 framesEnd size (z .kept) (omega arith) set;
   index-kept = λ i l m. z .kept .above i (omega arith);
 }
 
@@ -74,7 +74,7 @@ module _ (T : Table) (x : Aim ℕ) (A : List ℕ) (s w : List ℕ) (n : Next) (a
   unfolding goalAct
   on-values t r e = ap (λ (g : List Goal). ofGoals (A ++ walkedRules T t g) (walk T t at g)) (same-goals (goalsIn w n)) ∙ ap (ofGoals (A ++ walkedRules T t (goalsIn w n))) e
 
-  pub leaf-stops : RuleSet w usedPlace A → (w′ : List ℕ) (r : Acted) (k : ℕ) → r ≡ Act.Refused k → Acts T (b .0) at w w′ n r → Goes T x s w w′ (at + 1) (U.Refused k at)
+  pub leaf-stops : RuleSet w setPlace A → (w′ : List ℕ) (r : Acted) (k : ℕ) → r ≡ Act.Refused k → Acts T (b .0) at w w′ n r → Goes T x s w w′ (at + 1) (U.Refused k at)
   unfolding Acts ofGoals
   leaf-stops set w′ r k e a =
       let y = subst (Acts T (b .0) at w w′ n) e a in
@@ -96,17 +96,17 @@ module _ (T : Table) (x : Aim ℕ) (A : List ℕ) (s w : List ℕ) (n : Next) (a
 
     -- the term begins as before once that rule is in the set
     begun-between : BeginsWith (goalAct T) x A s (given .between) (placed n at) (b .0) (b .1)
-    begun-between = loops.with-behind (goalAct T) x A s w (placed n at) (b .0) (b .1) (b .2) (given .between) usedPlace usedEnd (given .in-set) (omega arith)
+    begun-between = loops.with-behind (goalAct T) x A s w (placed n at) (b .0) (b .1) (b .2) (given .between) setPlace setEnd (given .in-set) (omega arith)
 
     pub leaf-gave : (behind : ℕ) → at + size (b .0) ≡ behind → Gave (goalAct T) x made s w′ behind (n .low) k (n .top + n .count * 2) (n .frames) (n .arity) (n .uses + u) × (n .uses + u ≤ mostBytes)
     unfolding ofGoals
     leaf-gave behind h =
         let g = given in
-        let same = values-below w (g .between) usedPlace usedEnd (n .top) (n .count) (g .in-set) (omega (arith, b .2 .below)) in
+        let same = values-below w (g .between) setPlace setEnd (n .top) (n .count) (g .in-set) (omega (arith, b .2 .below)) in
         loops.leaf-gave (goalAct T) x A s (g .between) (placed n at) (b .0, b .1, begun-between) l made w′ k u
         (record { comes = ap (goalAct T (b .0) at A) same ∙ on-values (b .0) _ (g .outcome); used-is = g .used-is; few = g .few; kept = g .kept }) behind h
 
-    pub leaf-resumed : RuleSet w usedPlace A → (behind : ℕ) → at + size (b .0) ≡ behind → (w″ : List ℕ) (q : Turn) → length w″ ≡ length w′
+    pub leaf-resumed : RuleSet w setPlace A → (behind : ℕ) → at + size (b .0) ≡ behind → (w″ : List ℕ) (q : Turn) → length w″ ≡ length w′
         → (Gave (goalAct T) x made s w′ behind (n .low) k (n .top + n .count * 2) (n .frames) (n .arity) (n .uses + u) → Steps (goalAct T) x made s w′ w″ behind q) → Goes T x s w w″ (at + 1) q
     leaf-resumed set behind h w″ q size go =
         let g = given in
@@ -128,14 +128,14 @@ aimIn T t s at w count r = aimOf (goalAct T) t at [] (valuesAt w (stackEnd - cou
 pub record Under (T : Table) (x : Aim ℕ) (s w : List ℕ) (n : Next) : Type 0 where
   pub made : List ℕ
   pub begins : Begins (goalAct T) x made s w n
-  pub rules : RuleSet w usedPlace made
+  pub rules : RuleSet w setPlace made
 
 pub record Way (table : List ℕ) (first : ℕ) (s : List ℕ) (at count : ℕ) (w₀ w : List ℕ) (n : Next) : Type 0 where
   pub same-length : length w ≡ length w₀
   pub index : Behind table first w
   pub goes : (T : Table) (t : Term) → TableStands table first T → (r : Ready s at t w₀ count) → Under T (aimIn T t s at w₀ count r) s w n
 
-pub way-start : (table : List ℕ) (first : ℕ) (s : List ℕ) (at count : ℕ) (w : List ℕ) (n : Next) → n ≡ startOf at count → Behind table first w → RuleSet w usedPlace [] → Way table first s at count w w n
+pub way-start : (table : List ℕ) (first : ℕ) (s : List ℕ) (at count : ℕ) (w : List ℕ) (n : Next) → n ≡ startOf at count → Behind table first w → RuleSet w setPlace [] → Way table first s at count w w n
 way-start table first s at count w n e b set =
     subst (Way table first s at count w w) (sym e)
     (record {
@@ -164,7 +164,7 @@ of-gives A B (gives g) h e = (
 of-gives A B (refused d q) h e = never-gives e
 
 module _ (table : List ℕ) (first : ℕ) (s : List ℕ) (at count : ℕ) (w₀ w : List ℕ) (n : Next) (way : Way table first s at count w₀ w n) (w′ : List ℕ) (q : Turn)
-    (stepped : (T : Table) (x : Aim ℕ) (A : List ℕ) → TableStands table first T → Begins (goalAct T) x A s w n → RuleSet w usedPlace A → Goes T x s w w′ (n .at + 1) q) where
+    (stepped : (T : Table) (x : Aim ℕ) (A : List ℕ) → TableStands table first T → Begins (goalAct T) x A s w n → RuleSet w setPlace A → Goes T x s w w′ (n .at + 1) q) where
   step-of : (T : Table) (t : Term) → TableStands table first T → (r : Ready s at t w₀ count) → Goes T (aimIn T t s at w₀ count r) s w w′ (n .at + 1) q
   step-of T t tst r = let u = way .goes T t tst r in stepped T (aimIn T t s at w₀ count r) (u .made) tst (u .begins) (u .rules)
 
@@ -181,7 +181,7 @@ module _ (table : List ℕ) (first : ℕ) (s : List ℕ) (at count : ℕ) (w₀ 
       let g = step-of T t tst r in
       let z = subst (Turned (goalAct T) (aimIn T t s at w₀ count r) (g .made) s w′ (n .at + 1)) e (g .turned) in
       let o = of-gives _ (g .made) _ (goalsAt w′ 0 k) (sym (on-goals T t at w₀ (stackEnd - count * 2) count) ∙ z .0) in
-      (o .0, z .1, z .2, subst (RuleSet w′ usedPlace) (o .1) (g .rules))
+      (o .0, z .1, z .2, subst (RuleSet w′ setPlace) (o .1) (g .rules))
 
   module _ (m : Next) (e : q ≡ U.Begin m) (T : Table) (t : Term) (tst : TableStands table first T) (r : Ready s at t w₀ count) where
     begins : Begins (goalAct T) (aimIn T t s at w₀ count r) (step-of T t tst r .made) s w′ m × (n .at + 1 ≤ m .at)

@@ -21,7 +21,7 @@ use Rattle.input_arities.specs.Layout.{stackEnd, aritiesEnd}
 use Rattle.walks.specs.declared.state.Next.{Next}
 use Rattle.walks.specs.Values.{valueOf}
 use Rattle.walks.specs.Walks.{Out, out, Act}
-use Rattle.checker.specs.Layout.{usedPlace, usedEnd}
+use Rattle.checker.specs.Layout.{setPlace, setEnd}
 use Rattle.checker.specs.declared.leaf.Acted.{Acted}
 use Rattle.checker.specs.declared.leaf.Acted.the-variants as A
 
@@ -56,9 +56,9 @@ pub record Behind (table : List ℕ) (first : ℕ) (w : List ℕ) : Type 0 where
 -- The term gave so many goals, at most seven more than it took for an atomic, with so many uses. The rule that it looked up is in the set; then it wrote between what it gives and the end of what it takes.
 pub record Given (T : Table) (t : Term) (at : ℕ) (w w′ : List ℕ) (n : Next) (given used : ℕ) : Type 0 where
   pub between : List ℕ
-  pub in-set : Kept w between usedPlace usedEnd
+  pub in-set : Kept w between setPlace setEnd
   pub kept : Kept between w′ (n .low) (n .top + n .count * 2)
-  pub rules : (A : List ℕ) → RuleSet w usedPlace A → RuleSet w′ usedPlace (A ++ walkedRules T t (goalsIn w n))
+  pub rules : (A : List ℕ) → RuleSet w setPlace A → RuleSet w′ setPlace (A ++ walkedRules T t (goalsIn w n))
   pub outcome : walkIn T t at w n ≡ gives (goalsAt w′ (n .low) given)
   pub used-is : used ≡ atomics t
   pub few : given ≤ n .count + 7 * used

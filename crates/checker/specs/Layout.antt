@@ -3,8 +3,8 @@ use Prim.Native.Nat.{ℕ, _+_}
 use Rattle.rule_set.specs.Layout.{setRoom}
 use Rattle.walks.specs.Layout.{indexEnd}
 
-abbrev pub usedPlace : ℕ
-usedPlace = indexEnd
+abbrev pub setPlace : ℕ
+setPlace = indexEnd
 
-abbrev pub usedEnd : ℕ
-usedEnd = usedPlace + setRoom
+abbrev pub setEnd : ℕ
+setEnd = setPlace + setRoom

@@ -5,7 +5,7 @@ ghost use lib.ListN.{length};
 ghost use Rattle.entries.specs.LentSpace.{countedAnswer};
 ghost use Rattle.entries.specs.Check.{proofCounts, onProof};
 ghost use Rattle.entries.specs.Check as entry;
-ghost use Rattle.checker.specs.Layout.{usedEnd};
+ghost use Rattle.checker.specs.Layout.{setEnd};
 use crate::decide::decide;
 use answers::Answer;
 use answers::refusal;
@@ -23,7 +23,7 @@ const WORK: usize = 65536;
 
 // Both files, of which the proof has a byte, in a work space that is long enough. While they are read, the start of it holds the fields that wait.
 fn check_files(table: &[u8], proof: &[u8], work: &mut [u8]) -> Answer
-    requires { ⌜ (0 < length (now proof)) × (usedEnd ≤ length (now work)) ⌝ }
+    requires { ⌜ (0 < length (now proof)) × (setEnd ≤ length (now work)) ⌝ }
     ensures { λ r. ⌜ r ≡ countedAnswer (onProof proofCounts (now (table .entry)) (now (proof .entry))) ⌝ }
 {
     let read = read_table(table, work, 0, ARITIES_END);

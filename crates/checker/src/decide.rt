@@ -9,10 +9,10 @@ ghost use Rattle.tables.specs.Standing.{TableStands};
 ghost use Rattle.files.specs.Proofs.{Proof, readProofFields};
 ghost use Rattle.files.specs.Shapes.{partsOf};
 ghost use Rattle.entries.specs.Check.{sameGoals};
-ghost use Rattle.checker.specs.Layout.{usedEnd};
+ghost use Rattle.checker.specs.Layout.{setEnd};
 ghost use Rattle.checker.specs.Acts.{Behind};
 ghost use Rattle.checker.specs.Checks.{checkedAnswer};
-use crate::layout::USED;
+use crate::layout::SET;
 use crate::walk::Walked;
 use crate::walk::walk;
 use answers::Answer;
@@ -62,10 +62,10 @@ pub fn decide(
     work: &mut [u8],
     parts: ProofParts,
 ) -> Answer
-    requires { ⌜ ((T : Table) × TableStands (now table) first T) × ((p : Proof) × (readProofFields (now proof) ≡ gives p) × (partsOf p ≡ parts)) × (usedEnd ≤ length (now work)) × Behind (now table) first (now work) ⌝ }
+    requires { ⌜ ((T : Table) × TableStands (now table) first T) × ((p : Proof) × (readProofFields (now proof) ≡ gives p) × (partsOf p ≡ parts)) × (setEnd ≤ length (now work)) × Behind (now table) first (now work) ⌝ }
     ensures { λ r. ⌜ ((T : Table) (p : Proof) → TableStands (now (table .entry)) first T → readProofFields (now (proof .entry)) ≡ gives p → r ≡ checkedAnswer T p) ⌝ }
 {
-    make_empty(work, USED);
+    make_empty(work, SET);
     note_arities(proof, parts.term, work);
     let goals = parts.goals;
     copy_in(work, STACK_END - goals * 2, proof, 3, goals * 2);
@@ -77,7 +77,7 @@ pub fn decide(
             let same = same_goals(work, 0, given, proof, rest + 3, parts.remaining);
             if same {
                 let fields = count_fields(proof, parts.term, rest);
-                let rules = size_of(work, USED);
+                let rules = size_of(work, SET);
                 return counted(fields, uses, parts.remaining, rules);
             }
             refusal(21, 2, rest, 0)

@@ -11,9 +11,9 @@ ghost use Rattle.tables.specs.Tables.{Table};
 ghost use Rattle.tables.specs.Standing.{TableStands};
 ghost use Rattle.input_arities.specs.Layout.{stackEnd, aritiesEnd};
 ghost use Rattle.walks.specs.Loops.{Leaf};
-ghost use Rattle.checker.specs.Layout.{usedPlace};
+ghost use Rattle.checker.specs.Layout.{setPlace};
 ghost use Rattle.checker.specs.Acts.{LeafReady, Behind, Acts};
-use crate::layout::USED;
+use crate::layout::SET;
 use format::values::goal_at;
 use format::values::rule_name_at;
 use index::lookup::find_rule;
@@ -33,7 +33,7 @@ pub enum Acted {
 
 // An atomic term: one goal, with a rule of that name for it; gives the premises, and the rule is used. The goal is read before the premises may overwrite it.
 fn take_rule(table: &[u8], first: usize, proof: &[u8], at: usize, work: &mut [u8], n: Next) -> Acted
-    requires { ⌜ ((T : Table) × TableStands (now table) first T) × (at + 4 < length (now proof)) × (n .low + 14 ≤ n .top) × (n .top + n .count * 2 ≤ stackEnd) × (aritiesEnd ≤ length (now work)) × Behind (now table) first (now work) × ((A : List ℕ) × RuleSet (now work) usedPlace A) ⌝ }
+    requires { ⌜ ((T : Table) × TableStands (now table) first T) × (at + 4 < length (now proof)) × (n .low + 14 ≤ n .top) × (n .top + n .count * 2 ≤ stackEnd) × (aritiesEnd ≤ length (now work)) × Behind (now table) first (now work) × ((A : List ℕ) × RuleSet (now work) setPlace A) ⌝ }
     ensures { λ r. ⌜ ((T : Table) → TableStands (now (table .entry)) first T → Acts T (atomic (ruleName (word (now (proof .entry)) (at + 3)))) at (now (work .entry)) (now (work .exit)) n r) ⌝ }
 {
     if n.count != 1 {
@@ -45,7 +45,7 @@ fn take_rule(table: &[u8], first: usize, proof: &[u8], at: usize, work: &mut [u8
     match found {
         RuleFound::Missing => Acted::Refused(20),
         RuleFound::Rule(number, place, premises) => {
-            put(work, USED, number);
+            put(work, SET, number);
             copy_in(work, n.low, table, place, premises * 2);
             Acted::Gives(premises, 1)
         }
@@ -77,7 +77,7 @@ fn take_nothing(n: Next) -> Acted
 
 // A term that is no label, no sequence and no tensor takes its goals.
 pub fn act(table: &[u8], first: usize, proof: &[u8], at: usize, work: &mut [u8], n: Next) -> Acted
-    requires { ⌜ ((T : Table) × TableStands (now table) first T) × ((t : Term) × LeafReady (now proof) at t (now work) n) × Leaf (now proof) at × Behind (now table) first (now work) × ((A : List ℕ) × RuleSet (now work) usedPlace A) ⌝ }
+    requires { ⌜ ((T : Table) × TableStands (now table) first T) × ((t : Term) × LeafReady (now proof) at t (now work) n) × Leaf (now proof) at × Behind (now table) first (now work) × ((A : List ℕ) × RuleSet (now work) setPlace A) ⌝ }
     ensures { λ r. ⌜ ((T : Table) (t : Term) → TableStands (now (table .entry)) first T → LeafReady (now (proof .entry)) at t (now (work .entry)) n → Acts T t at (now (work .entry)) (now (work .exit)) n r) ⌝ }
 {
     let tag = proof[at];

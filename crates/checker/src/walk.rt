@@ -8,7 +8,7 @@ ghost use Rattle.rule_set.specs.Sets.{RuleSet};
 ghost use Rattle.tables.specs.Tables.{Table};
 ghost use Rattle.tables.specs.Standing.{TableStands};
 ghost use Rattle.walks.specs.Loops.{Aim, Roomy, Begins, placed, Leaf};
-ghost use Rattle.checker.specs.Layout.{usedPlace};
+ghost use Rattle.checker.specs.Layout.{setPlace};
 ghost use Rattle.checker.specs.Acts.{goalAct, Behind};
 ghost use Rattle.checker.specs.Walks.{Ready, Goes, Walks};
 use crate::leaf::Acted;
@@ -31,8 +31,8 @@ pub enum Walked {
 
 // A term without labels that is no sequence and no tensor takes its goals and ends.
 fn begin_leaf(table: &[u8], first: usize, proof: &[u8], at: usize, work: &mut [u8], n: Next) -> Turn
-    requires { ⌜ ((T : Table) × (x : Aim ℕ) × (A : List ℕ) × TableStands (now table) first T × Begins (goalAct T) x A (now proof) (now work) (placed n at) × RuleSet (now work) usedPlace A) × Roomy (now proof) (now work) × Leaf (now proof) at × Behind (now table) first (now work) ⌝ }
-    ensures { λ r. ⌜ ((T : Table) (x : Aim ℕ) (A : List ℕ) → TableStands (now (table .entry)) first T → Begins (goalAct T) x A (now (proof .entry)) (now (work .entry)) (placed n at) → RuleSet (now (work .entry)) usedPlace A → Goes T x (now (proof .entry)) (now (work .entry)) (now (work .exit)) (at + 1) r) ⌝ }
+    requires { ⌜ ((T : Table) × (x : Aim ℕ) × (A : List ℕ) × TableStands (now table) first T × Begins (goalAct T) x A (now proof) (now work) (placed n at) × RuleSet (now work) setPlace A) × Roomy (now proof) (now work) × Leaf (now proof) at × Behind (now table) first (now work) ⌝ }
+    ensures { λ r. ⌜ ((T : Table) (x : Aim ℕ) (A : List ℕ) → TableStands (now (table .entry)) first T → Begins (goalAct T) x A (now (proof .entry)) (now (work .entry)) (placed n at) → RuleSet (now (work .entry)) setPlace A → Goes T x (now (proof .entry)) (now (work .entry)) (now (work .exit)) (at + 1) r) ⌝ }
 {
     let acted = act(table, first, proof, at, work, n);
     match acted {
@@ -46,8 +46,8 @@ fn begin_leaf(table: &[u8], first: usize, proof: &[u8], at: usize, work: &mut [u
 
 // One step: the term that is next begins. Labels pass their one goal on as it is: only the outermost is tested.
 fn step(table: &[u8], first: usize, proof: &[u8], work: &mut [u8], n: Next) -> Turn
-    requires { ⌜ ((T : Table) × (x : Aim ℕ) × (A : List ℕ) × TableStands (now table) first T × Begins (goalAct T) x A (now proof) (now work) n × RuleSet (now work) usedPlace A) × Roomy (now proof) (now work) × Behind (now table) first (now work) ⌝ }
-    ensures { λ r. ⌜ ((T : Table) (x : Aim ℕ) (A : List ℕ) → TableStands (now (table .entry)) first T → Begins (goalAct T) x A (now (proof .entry)) (now (work .entry)) n → RuleSet (now (work .entry)) usedPlace A → Goes T x (now (proof .entry)) (now (work .entry)) (now (work .exit)) (n .at + 1) r) ⌝ }
+    requires { ⌜ ((T : Table) × (x : Aim ℕ) × (A : List ℕ) × TableStands (now table) first T × Begins (goalAct T) x A (now proof) (now work) n × RuleSet (now work) setPlace A) × Roomy (now proof) (now work) × Behind (now table) first (now work) ⌝ }
+    ensures { λ r. ⌜ ((T : Table) (x : Aim ℕ) (A : List ℕ) → TableStands (now (table .entry)) first T → Begins (goalAct T) x A (now (proof .entry)) (now (work .entry)) n → RuleSet (now (work .entry)) setPlace A → Goes T x (now (proof .entry)) (now (work .entry)) (now (work .exit)) (n .at + 1) r) ⌝ }
 {
     if label_count_wrong(proof, n.at, n.count) {
         return Turn::Refused(34, n.at);
@@ -72,7 +72,7 @@ pub fn walk(
     work: &mut [u8],
     count: usize,
 ) -> Walked
-    requires { ⌜ ((T : Table) × TableStands (now table) first T) × ((t : Term) × Ready (now proof) at t (now work) count) × Roomy (now proof) (now work) × Behind (now table) first (now work) × RuleSet (now work) usedPlace [] ⌝ }
+    requires { ⌜ ((T : Table) × TableStands (now table) first T) × ((t : Term) × Ready (now proof) at t (now work) count) × Roomy (now proof) (now work) × Behind (now table) first (now work) × RuleSet (now work) setPlace [] ⌝ }
     ensures { λ r. ⌜ ((T : Table) (t : Term) → TableStands (now (table .entry)) first T → Ready (now (proof .entry)) at t (now (work .entry)) count → Walks T t at (length (now (proof .entry))) (now (work .entry)) (now (work .exit)) count r) ⌝ }
 {
     let mut n = start(at, count);

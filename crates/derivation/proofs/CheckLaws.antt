@@ -35,7 +35,7 @@ use Rattle.entries.specs.Outcomes.{tableFile, otherFile, noFile}
 use Rattle.entries.specs.LentSpace.{countedAnswer, checkIn, cleared}
 use Rattle.entries.specs.CheckFlat.{nonePending, right, flatCounts, checkFlatOutcome, checkFlatWork, checkFlat}
 use Rattle.derivation.specs.declared.walk.Stop.{Stop}
-use Rattle.derivation.specs.Layout.{indexPlace, usedPlace, usedEnd}
+use Rattle.derivation.specs.Layout.{indexPlace, setPlace, setEnd}
 use Rattle.derivation.specs.Pending.{firstEntry, pendingIn}
 use Rattle.derivation.specs.Walks.{walked, Given, Ready, Walks}
 use Rattle.derivation.specs.CheckedEntries.{DerivationAt, checkedEntries}
@@ -82,7 +82,7 @@ module _ (flat : List ℕ) (parts : FlatParts) (d : Derivation) (at : Derivation
 
   -- the set was made empty
   pub ready-entries : (table : List ℕ) (rules : ℕ) (T : Table) (w w′ : List ℕ) → TableStands table rules T → length table ≤ mostBytes → RulesIndexed table rules w indexPlace
-      → length w′ ≡ length w → Kept w w′ usedPlace usedEnd → RuleSet w′ usedPlace [] → Ready table rules flat (parts .roots) w′
+      → length w′ ≡ length w → Kept w w′ setPlace setEnd → RuleSet w′ setPlace [] → Ready table rules flat (parts .roots) w′
   ready-entries table rules T w w′ ts short ix size k empty = record {
     the-table = T;
     the-entries = d .entries;
@@ -118,7 +118,7 @@ module _ (flat : List ℕ) (parts : FlatParts) (d : Derivation) (at : Derivation
   goals-left l h = rw (result, le-ltb (stop .place) (length flat) l, some-first table flat _ w′ (stop .pending) (walks .pends) h .2)
 
   -- at the file's end the set has the rule of every use
-  pub used-rules : length flat ≤ stop .place → RuleSet w′ usedPlace (flatRules T (d .entries))
+  pub used-rules : length flat ≤ stop .place → RuleSet w′ setPlace (flatRules T (d .entries))
   used-rules = walks .rules-used T (d .entries) (given-entries flat parts d at table rules T ts)
 
   -- the file is right; `used` is the size of that set

@@ -28,12 +28,12 @@ use Rattle.index.proofs.SeekLaws.{Way}
 use Rattle.index.proofs.AnswerLaws.{Nowhere, Only, at-head, at-slot, at-node}
 use Rattle.index.proofs.FindLaws as find
 use Rattle.index.proofs.IndexKept.{indexed-before}
-use Rattle.derivation.specs.Layout.{cursorsPlace, usedEnd, indexPlace, nodesPlace}
+use Rattle.derivation.specs.Layout.{cursorsPlace, setEnd, indexPlace, nodesPlace}
 use Rattle.derivation.specs.Pending.{RuleInside}
 
 -- the rules stay indexed where only cursors and the set of the rules used are written
-pub indexed-still : (table : List ℕ) (rules : ℕ) (w w′ : List ℕ) → length w′ ≡ length w → Kept w w′ cursorsPlace usedEnd → RulesIndexed table rules w indexPlace → RulesIndexed table rules w′ indexPlace
-indexed-still table rules w w′ size kept ix = (ix .0, ix .1, indexed-before 6 table (ix .0) w w′ indexPlace cursorsPlace usedEnd size kept (omega arith) (ix .2))
+pub indexed-still : (table : List ℕ) (rules : ℕ) (w w′ : List ℕ) → length w′ ≡ length w → Kept w w′ cursorsPlace setEnd → RulesIndexed table rules w indexPlace → RulesIndexed table rules w′ indexPlace
+indexed-still table rules w w′ size kept ix = (ix .0, ix .1, indexed-before 6 table (ix .0) w w′ indexPlace cursorsPlace setEnd size kept (omega arith) (ix .2))
 
 -- no rule of the table has this name and goal
 abbrev pub Missing : (table : List ℕ) → (rules name on : ℕ) → Type 0

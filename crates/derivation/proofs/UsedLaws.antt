@@ -15,28 +15,28 @@ use Rattle.tables.specs.Tables.{Table}
 use Rattle.tables.specs.Lookup.{FoundRule, foundRule, findRule}
 use Rattle.files.specs.Derivations.{Entry, useEntry, openEntry}
 use Rattle.hitac.specs.UsedRules.{foundNumber, flatRules}
-use Rattle.derivation.specs.Layout.{usedPlace}
+use Rattle.derivation.specs.Layout.{setPlace}
 
 -- the numbers in the set and those of the rules of the entries still to come are those of all entries
 pub record Used (T : Table) (w : List ℕ) (all rest : List Entry) : Type 0 where
   pub numbers : List ℕ
-  pub in-set : RuleSet w usedPlace numbers
+  pub in-set : RuleSet w setPlace numbers
   pub all-are : flatRules T all ≡ numbers ++ flatRules T rest
 
 module _ (T : Table) (all : List Entry) where
-  pub used-first : (w : List ℕ) → RuleSet w usedPlace [] → Used T w all all
+  pub used-first : (w : List ℕ) → RuleSet w setPlace [] → Used T w all all
   used-first w s = record { numbers = []; in-set = s; all-are = refl }
 
   -- no entry is left
-  pub used-all : (w : List ℕ) (rest : List Entry) → rest ≡ [] → Used T w all rest → RuleSet w usedPlace (flatRules T all)
+  pub used-all : (w : List ℕ) (rest : List Entry) → rest ≡ [] → Used T w all rest → RuleSet w setPlace (flatRules T all)
   unfolding flatRules
-  used-all w rest e u = subst (RuleSet w usedPlace) (sym (u .all-are ∙ ap (λ (es : List Entry). u .numbers ++ flatRules T es) e ∙ append-nil (u .numbers))) (u .in-set)
+  used-all w rest e u = subst (RuleSet w setPlace) (sym (u .all-are ∙ ap (λ (es : List Entry). u .numbers ++ flatRules T es) e ∙ append-nil (u .numbers))) (u .in-set)
 
   -- the set is behind what is written
-  pub used-kept : (w w′ : List ℕ) (low high : ℕ) (rest : List Entry) → length w′ ≡ length w → Kept w w′ low high → high ≤ usedPlace → Used T w all rest → Used T w′ all rest
+  pub used-kept : (w w′ : List ℕ) (low high : ℕ) (rest : List Entry) → length w′ ≡ length w → Kept w w′ low high → high ≤ setPlace → Used T w all rest → Used T w′ all rest
   used-kept w w′ low high rest size k h u = record {
     numbers = u .numbers;
-    in-set = set-before w w′ usedPlace (u .numbers) low high size k h (u .in-set);
+    in-set = set-before w w′ setPlace (u .numbers) low high size k h (u .in-set);
     all-are = u .all-are;
   }
 
@@ -51,11 +51,11 @@ module _ (T : Table) (all : List Entry) where
 
     -- the number of its rule is put into the set
     pub used-use : (w′ : List ℕ) (a : RuleName) (γ : Goal) (n : ℕ) (h : List Goal) → rest ≡ useEntry a γ ∷ others → findRule T a γ ≡ some (foundRule n h)
-        → ((ns : List ℕ) → RuleSet w usedPlace ns → RuleSet w′ usedPlace (n ∷ ns)) → Used T w′ all others
+        → ((ns : List ℕ) → RuleSet w setPlace ns → RuleSet w′ setPlace (n ∷ ns)) → Used T w′ all others
     unfolding flatRules foundNumber
     used-use w′ a γ n h e f put = record {
       numbers = u .numbers ++ (n ∷ []);
-      in-set = set-turned w′ usedPlace n (u .numbers) (put (u .numbers) (u .in-set));
+      in-set = set-turned w′ setPlace n (u .numbers) (put (u .numbers) (u .in-set));
       all-are =
           u .all-are
           ∙ ap (λ (es : List Entry). u .numbers ++ flatRules T es) e

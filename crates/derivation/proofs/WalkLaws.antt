@@ -31,7 +31,7 @@ use Rattle.hitac.specs.UsedRules.{flatRules}
 use Rattle.derivation.specs.declared.pending.Pending.{Pending}
 use Rattle.derivation.specs.declared.pending.Taken.{Taken}
 use Rattle.derivation.specs.declared.pending.Taken.the-variants as T
-use Rattle.derivation.specs.Layout.{cursorsPlace, usedPlace, usedEnd}
+use Rattle.derivation.specs.Layout.{cursorsPlace, setPlace, setEnd}
 use Rattle.derivation.specs.Pending.{waiting, firstEntry, pendingIn, Pends, carriesFirst, Passes, Takes, Pushes}
 use Rattle.derivation.specs.Walks.{EntryInside, carriedGoal, walked, Given}
 use Rattle.derivation.proofs.EntryLaws.{use-goal, open-goal, stops-other, steps-open, stops-missing, steps-use, FirstEntry, first-entry}
@@ -51,14 +51,14 @@ module _ (table flat : List ℕ) (roots : ℕ) (w w′ : List ℕ) (p : Pending)
 -- what the walk keeps of the work space: its bytes outside the cursors and the set of the rules used are as they were, and the cursors are those of the pending goals
 pub record Keeps (table flat : List ℕ) (roots : ℕ) (w₀ w : List ℕ) (p : Pending) : Type 0 where
   pub size : length w ≡ length w₀
-  pub kept : Kept w₀ w cursorsPlace usedEnd
+  pub kept : Kept w₀ w cursorsPlace setEnd
   pub pends : Pends table flat roots w p
 
 module _ (table flat : List ℕ) (roots : ℕ) (w₀ : List ℕ) where
   pub keeps-first : firstEntry roots ≤ length flat → Keeps table flat roots w₀ w₀ (record { lists = 0; roots = roots })
   keeps-first inside = record {
     size = refl;
-    kept = kept-same w₀ cursorsPlace usedEnd;
+    kept = kept-same w₀ cursorsPlace setEnd;
     pends = record { cursors = λ d l. absurd (omega arith); room = omega arith; few-roots = omega arith; roots-inside = inside };
   }
 
@@ -66,22 +66,22 @@ module _ (table flat : List ℕ) (roots : ℕ) (w₀ : List ℕ) where
     pub keeps-passed : (r : Pending) → p .lists ≤ mostUses → Passes table flat roots w w′ p r → Keeps table flat roots w₀ w′ r
     keeps-passed r few x = record {
       size = size ∙ k .size;
-      kept = kept-both w₀ w w′ cursorsPlace usedEnd cursorsPlace (cursorsPlace + p .lists * 4) cursorsPlace usedEnd (k .kept) (x .kept) (omega arith) (omega arith) (omega arith) (omega arith);
+      kept = kept-both w₀ w w′ cursorsPlace setEnd cursorsPlace (cursorsPlace + p .lists * 4) cursorsPlace setEnd (k .kept) (x .kept) (omega arith) (omega arith) (omega arith) (omega arith);
       pends = x .pends;
     }
 
     pub keeps-pushed : (rule : ℕ) (r : Pending) → p .lists < mostUses → Pushes table flat roots w w′ rule p r → Keeps table flat roots w₀ w′ r
     keeps-pushed rule r few x = record {
       size = size ∙ k .size;
-      kept = kept-both w₀ w w′ cursorsPlace usedEnd cursorsPlace (cursorsPlace + p .lists * 4 + 4) cursorsPlace usedEnd (k .kept) (x .kept) (omega arith) (omega arith) (omega arith) (omega arith);
+      kept = kept-both w₀ w w′ cursorsPlace setEnd cursorsPlace (cursorsPlace + p .lists * 4 + 4) cursorsPlace setEnd (k .kept) (x .kept) (omega arith) (omega arith) (omega arith) (omega arith);
       pends = x .pends;
     }
 
-    pub keeps-put : p .lists ≤ mostUses → Kept w w′ usedPlace usedEnd → Keeps table flat roots w₀ w′ p
+    pub keeps-put : p .lists ≤ mostUses → Kept w w′ setPlace setEnd → Keeps table flat roots w₀ w′ p
     keeps-put few x = record {
       size = size ∙ k .size;
-      kept = kept-both w₀ w w′ cursorsPlace usedEnd usedPlace usedEnd cursorsPlace usedEnd (k .kept) x (omega arith) (omega arith) (omega arith) (omega arith);
-      pends = pends-kept table flat roots w w′ p usedPlace usedEnd x (omega arith) size (k .pends);
+      kept = kept-both w₀ w w′ cursorsPlace setEnd setPlace setEnd cursorsPlace setEnd (k .kept) x (omega arith) (omega arith) (omega arith) (omega arith);
+      pends = pends-kept table flat roots w w′ p setPlace setEnd x (omega arith) size (k .pends);
     }
 
 -- The walk from the first entry on is the walk from here on. There are at most as many lists as uses so far, and the set has the rules of these.
@@ -105,7 +105,7 @@ module _ (table : List ℕ) (rules : ℕ) (flat : List ℕ) (roots : ℕ) (w : L
       let begin : 3 ≡ firstEntry (roots - roots) = omega arith in
       ap (λ (k : ℕ). goalsAt flat k roots) begin
 
-  pub reached-first : Given table rules flat roots T es → RuleSet w usedPlace [] → Reached T flat w es (flatWalk T (firstEntry roots) (goalsAt flat 3 roots) es) (firstEntry roots) 0 (pendingIn table flat roots w allRoots)
+  pub reached-first : Given table rules flat roots T es → RuleSet w setPlace [] → Reached T flat w es (flatWalk T (firstEntry roots) (goalsAt flat 3 roots) es) (firstEntry roots) 0 (pendingIn table flat roots w allRoots)
   reached-first g empty = record {
     rest = es;
     stand = g .entries-stand;
@@ -148,7 +148,7 @@ module _ (T : Table) (flat w : List ℕ) (all : List Entry) (whole : Result (Lis
   at-end l = r .same ∙ rw (none-left flat at (length flat) (r .rest) (r .stand) l, le-ltb at (length flat) l)
 
   -- and the set has the rule of every use
-  pub all-used : length flat ≤ at → RuleSet w usedPlace (flatRules T all)
+  pub all-used : length flat ≤ at → RuleSet w setPlace (flatRules T all)
   all-used l = used-all T all w (r .rest) (none-left flat at (length flat) (r .rest) (r .stand) l) (r .so-far)
 
   -- an entry stands here
@@ -208,7 +208,7 @@ module _ (T : Table) (flat w : List ℕ) (all : List Entry) (whole : Result (Lis
         room-for = omega (arith, r .few, r .bound, use-counts (r .rest) (first .others) name on (first .all-are))
 
         pub goes-use : (n : ℕ) (h others goals : List Goal) (w′ w″ : List ℕ) (lists′ : ℕ) → findRule T name on ≡ some (foundRule n h) → others ≡ drop 1 pending → goals ≡ h ++ others → lists′ ≤ lists + 1
-            → Used T w′ all (r .rest) → ((ns : List ℕ) → RuleSet w′ usedPlace ns → RuleSet w″ usedPlace (n ∷ ns)) → Reached T flat w″ all whole (at + 7) lists′ goals
+            → Used T w′ all (r .rest) → ((ns : List ℕ) → RuleSet w′ setPlace ns → RuleSet w″ setPlace (n ∷ ns)) → Reached T flat w″ all whole (at + 7) lists′ goals
         goes-use n h others goals w′ w″ lists′ f passed pushed few u put = record {
           rest = first .others;
           stand = first .others-stand;

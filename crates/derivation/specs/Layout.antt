@@ -13,11 +13,11 @@ abbrev pub cursorsEnd : ℕ
 cursorsEnd = cursorsPlace + 4 * mostUses
 
 -- the set of the rules used stands behind the cursors
-abbrev pub usedPlace : ℕ
-usedPlace = cursorsEnd
+abbrev pub setPlace : ℕ
+setPlace = cursorsEnd
 
-abbrev pub usedEnd : ℕ
-usedEnd = usedPlace + setRoom
+abbrev pub setEnd : ℕ
+setEnd = setPlace + setRoom
 
 abbrev pub indexPlace : ℕ
 indexPlace = readingScratch

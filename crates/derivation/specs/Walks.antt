@@ -23,7 +23,7 @@ use Rattle.files.specs.Standing.{EntriesStand}
 use Rattle.hitac.specs.FlatWalk.{flatWalk}
 use Rattle.hitac.specs.UsedRules.{flatRules}
 use Rattle.derivation.specs.declared.walk.Stop.{Stop}
-use Rattle.derivation.specs.Layout.{indexPlace, cursorsPlace, usedPlace, usedEnd}
+use Rattle.derivation.specs.Layout.{indexPlace, cursorsPlace, setPlace, setEnd}
 use Rattle.derivation.specs.Pending.{firstEntry, pendingIn, Pends}
 
 -- the goal of the entry at a place: behind the rule name of a use, behind the header of an open
@@ -52,7 +52,7 @@ pub record Ready (table : List ℕ) (rules : ℕ) (flat : List ℕ) (roots : ℕ
   pub given : Given table rules flat roots the-table the-entries
   pub short : length table ≤ mostBytes
   pub indexed : RulesIndexed table rules work indexPlace
-  pub none-used : RuleSet work usedPlace []
+  pub none-used : RuleSet work setPlace []
 
 -- the walk from the roots on, where it stopped, at the file's end the set of the rules used, and what it leaves alone in the work space
 pub record Walks (table : List ℕ) (rules : ℕ) (flat : List ℕ) (roots : ℕ) (w w′ : List ℕ) (stop : Stop) : Type 0 where
@@ -60,5 +60,5 @@ pub record Walks (table : List ℕ) (rules : ℕ) (flat : List ℕ) (roots : ℕ
       → flatWalk T (firstEntry roots) (goalsAt flat 3 roots) es ≡ walked (length flat) (stop .place) (pendingIn table flat roots w′ (stop .pending))
   pub inside : stop .place ≤ length flat
   pub pends : Pends table flat roots w′ (stop .pending)
-  pub rules-used : (T : Table) (es : List Entry) → Given table rules flat roots T es → length flat ≤ stop .place → RuleSet w′ usedPlace (flatRules T es)
-  pub kept : Kept w w′ cursorsPlace usedEnd
+  pub rules-used : (T : Table) (es : List Entry) → Given table rules flat roots T es → length flat ≤ stop .place → RuleSet w′ setPlace (flatRules T es)
+  pub kept : Kept w w′ cursorsPlace setEnd

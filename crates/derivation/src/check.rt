@@ -10,10 +10,10 @@ ghost use Rattle.index.specs.Build.{RulesIndexed};
 ghost use Rattle.files.specs.Derivations.{Derivation};
 ghost use Rattle.entries.specs.CheckFlat.{checkFlatWork, checkFlatOutcome, checkFlat};
 ghost use Rattle.entries.specs.LentSpace.{countedAnswer};
-ghost use Rattle.derivation.specs.Layout.{indexPlace, cursorsPlace, usedEnd};
+ghost use Rattle.derivation.specs.Layout.{indexPlace, cursorsPlace, setEnd};
 ghost use Rattle.derivation.specs.CheckedEntries.{DerivationAt, checkedEntries};
 use crate::layout::INDEX;
-use crate::layout::USED;
+use crate::layout::SET;
 use crate::pending::some_pending;
 use crate::walk::walk;
 use answers::Answer;
@@ -41,12 +41,12 @@ pub fn check_entries(
 ) -> Answer
     requires { ⌜ ((T : Table) × TableStands (now table) rules T) ⌝ }
     requires { ⌜ ((d : Derivation) × DerivationAt (now flat) parts d) ⌝ }
-    requires { ⌜ (length (now table) ≤ mostBytes) × (usedEnd ≤ length (now work)) ⌝ }
+    requires { ⌜ (length (now table) ≤ mostBytes) × (setEnd ≤ length (now work)) ⌝ }
     requires { ⌜ RulesIndexed (now table) rules (now work) indexPlace ⌝ }
     ensures { λ r. ⌜ ((T : Table) (d : Derivation) → TableStands (now (table .entry)) rules T → DerivationAt (now (flat .entry)) parts d → r ≡ checkedEntries T d (length (now (flat .entry)))) ⌝ }
-    ensures kept { λ _. ⌜ Kept (now (work .entry)) (now (work .exit)) cursorsPlace usedEnd ⌝ }
+    ensures kept { λ _. ⌜ Kept (now (work .entry)) (now (work .exit)) cursorsPlace setEnd ⌝ }
 {
-    make_empty(work, USED);
+    make_empty(work, SET);
     let stop = walk(table, rules, flat, parts.roots, work);
     if stop.place < flat.len() {
         return refusal(27, 2, stop.place, 0);
@@ -55,8 +55,8 @@ pub fn check_entries(
     if some_pending(pending) {
         return refusal(27, 2, flat.len(), 0);
     }
-    let used = size_of(work, USED);
-    counted(0, parts.uses, parts.opens, used)
+    let different = size_of(work, SET);
+    counted(0, parts.uses, parts.opens, different)
 }
 
 // The check itself: it may leave anything in the work space.

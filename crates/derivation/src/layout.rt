@@ -8,7 +8,7 @@ pub const CURSORS: usize = 0;
 pub const CURSORS_END: usize = CURSORS + 16384;
 
 // The set of the rules used, behind the cursors.
-pub const USED: usize = CURSORS_END;
+pub const SET: usize = CURSORS_END;
 
 // The index over the table's rules, and its nodes.
 pub const INDEX: usize = READING_SCRATCH;

@@ -7,7 +7,7 @@ ghost use Rattle.index.specs.Keys.{isKey, digits};
 ghost use Rattle.derivation.specs.Walks.{EntryInside, carriedGoal, Ready, Walks};
 use crate::layout::INDEX;
 use crate::layout::NODES;
-use crate::layout::USED;
+use crate::layout::SET;
 use crate::pending::Pending;
 use crate::pending::Taken;
 use crate::pending::push;
@@ -97,7 +97,7 @@ pub fn walk(table: &[u8], rules: usize, flat: &[u8], roots: usize, work: &mut [u
             }
             rest = rest / 2;
         };
-        put(work, USED, node);
+        put(work, SET, node);
         pending = push(table, rule, work, pending);
         at += 7;
     };

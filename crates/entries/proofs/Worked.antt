@@ -87,7 +87,7 @@ noBytes = refl & refl & refl & refl & refl & refl & refl & refl & refl & refl & 
 
 pub ruleCounts : AllHold ruleLines
 unfolding word termBytes goalBytes goalsAt goalsOf readGoals headerAt leaf pair closed contents termOf readTerm number andThen rows findRow rowOf kindOf leastOf mostOf innerOf lengthFits size fields findRuleIn findRule findBodyIn findBody matches fullTable lowest ruleOf definitionOf fieldOf readField withRule withDefinition fieldsOf readFields readTable ruleSize definitionSize rulesSize placedRules placedTactics placedLabels labelsOf clashesAny firstClash repeatsRule recountsRule repeatsTactic repeatsLabel refuseAt wholeTable searchedTag stepAt besides clashAt places clashTold jobTermPlace fullFlat withEntry entriesOf readEntries derivationOf readFlat entryBytes entriesBytes flatBytes entriesPlace lastTermOf readLastTerm jobOf readJob jobBytes remainingOf hiproofOf proofOf readProofFields proofBytes emptyProof orEmptyProof readProof termPlace remainingPlace different among foundNumber lookedUp walkedRules flatRules taken flatWalk forest inputArity atomics dropLabels Unlabelled unwind begin stepFrom step run start arityIn arityAfter tacticArity onOneGoal onNoGoal premisesOr tooLong joined walk treeTerms written sameGoals remainingAre checked onProof proofCounts forestFile check flatten nonePending right flatCounts checkFlatOutcome writtenProof writtenFile writeOutcome checkFlat writeProof checkIn writeOut writeIn Holds digits acceptedLine refusedLine printedLine withoutProof programOutcome runEnd runResult runOutcome runTactic beside sideBySide sideBySideOr ruleLines
-ruleCounts = refl & refl & refl & refl & refl & refl & refl & no-more
+ruleCounts = refl & refl & refl & refl & refl & refl & refl & refl & refl & no-more
 
 pub texts : AllHold textLines
 unfolding word termBytes headerAt leaf pair closed contents termOf readTerm number andThen rows findRow rowOf kindOf leastOf mostOf innerOf lengthFits size fields lastTermOf readLastTerm readTermFile isDigit chain bracketedIf marksOf digits decimal markBytes textOf N.written numberIn markAt withMark marksIn reducedTerm reducedFrames unbracket onMark stateOf wholeOf F.termOf completes beginsNumbered isSign onDue onHad digitMore leafEnds onDigits labelEnds onLabelDigits onBegun onLabelBegun onHalf stepIn S.step finished endIn atEnd scan termFound parse Holds readTextOutcome writeTextOutcome textLines

@@ -242,13 +242,17 @@ ruleLines =
     ∷ checksFlat tableR (3 ∷ 0 ∷ 4 ∷ 0 ∷ 10 ∷ 0 ∷ 20 ∷ 32 ∷ 0 ∷ 4 ∷ 0 ∷ 1 ∷ 0 ∷ 10 ∷ 32 ∷ 0 ∷ 4 ∷ 0 ∷ 1 ∷ 0 ∷ 20 ∷ []) (done (counts 0 2 0 2))
     -- the same rule twice is one
     ∷ checks tableR (3 ∷ 0 ∷ 4 ∷ 0 ∷ 10 ∷ 0 ∷ 10 ∷ 20 ∷ 0 ∷ 10 ∷ 16 ∷ 0 ∷ 2 ∷ 0 ∷ 1 ∷ 16 ∷ 0 ∷ 2 ∷ 0 ∷ 1 ∷ 3 ∷ 0 ∷ 0 ∷ []) (done (counts 3 2 0 1))
+    -- `accepted fields 3 uses 2 open 0 rules 1`
+    ∷ prints tableR (3 ∷ 0 ∷ 4 ∷ 0 ∷ 10 ∷ 0 ∷ 10 ∷ 20 ∷ 0 ∷ 10 ∷ 16 ∷ 0 ∷ 2 ∷ 0 ∷ 1 ∷ 16 ∷ 0 ∷ 2 ∷ 0 ∷ 1 ∷ 3 ∷ 0 ∷ 0 ∷ []) true (97 ∷ 99 ∷ 99 ∷ 101 ∷ 112 ∷ 116 ∷ 101 ∷ 100 ∷ 32 ∷ 102 ∷ 105 ∷ 101 ∷ 108 ∷ 100 ∷ 115 ∷ 32 ∷ 51 ∷ 32 ∷ 117 ∷ 115 ∷ 101 ∷ 115 ∷ 32 ∷ 50 ∷ 32 ∷ 111 ∷ 112 ∷ 101 ∷ 110 ∷ 32 ∷ 48 ∷ 32 ∷ 114 ∷ 117 ∷ 108 ∷ 101 ∷ 115 ∷ 32 ∷ 49 ∷ 10 ∷ [])
+    -- all twelve numbers of an answer
+    ∷ checksAs tableR (3 ∷ 0 ∷ 4 ∷ 0 ∷ 10 ∷ 0 ∷ 10 ∷ 20 ∷ 0 ∷ 10 ∷ 16 ∷ 0 ∷ 2 ∷ 0 ∷ 1 ∷ 16 ∷ 0 ∷ 2 ∷ 0 ∷ 1 ∷ 3 ∷ 0 ∷ 0 ∷ []) (record { number = 0; file = 0; place = 0; steps = 0; length = 0; fields = 3; uses = 2; remaining = 0; rules = 1; goals = 0; longest = 0; tactic = 0 })
     -- two rules in turn are two: 1 ⊗ (2 ⊗ (1 ⊗ 2)) on 10, 20, 10, 20
     ∷ checks tableR (3 ∷ 0 ∷ 8 ∷ 0 ∷ 10 ∷ 0 ∷ 20 ∷ 0 ∷ 10 ∷ 0 ∷ 20 ∷ 20 ∷ 0 ∷ 26 ∷ 16 ∷ 0 ∷ 2 ∷ 0 ∷ 1 ∷ 20 ∷ 0 ∷ 18 ∷ 16 ∷ 0 ∷ 2 ∷ 0 ∷ 2 ∷ 20 ∷ 0 ∷ 10 ∷ 16 ∷ 0 ∷ 2 ∷ 0 ∷ 1 ∷ 16 ∷ 0 ∷ 2 ∷ 0 ∷ 2 ∷ 3 ∷ 0 ∷ 0 ∷ []) (done (counts 7 4 0 2))
     ∷ checksFlat tableR (3 ∷ 0 ∷ 8 ∷ 0 ∷ 10 ∷ 0 ∷ 20 ∷ 0 ∷ 10 ∷ 0 ∷ 20 ∷ 32 ∷ 0 ∷ 4 ∷ 0 ∷ 1 ∷ 0 ∷ 10 ∷ 32 ∷ 0 ∷ 4 ∷ 0 ∷ 2 ∷ 0 ∷ 20 ∷ 32 ∷ 0 ∷ 4 ∷ 0 ∷ 1 ∷ 0 ∷ 10 ∷ 32 ∷ 0 ∷ 4 ∷ 0 ∷ 2 ∷ 0 ∷ 20 ∷ []) (done (counts 0 4 0 2))
     -- an open leaf has no rule
     ∷ checksFlat tableR (3 ∷ 0 ∷ 4 ∷ 0 ∷ 10 ∷ 0 ∷ 30 ∷ 32 ∷ 0 ∷ 4 ∷ 0 ∷ 1 ∷ 0 ∷ 10 ∷ 33 ∷ 0 ∷ 2 ∷ 0 ∷ 30 ∷ []) (done (counts 0 1 1 1))
     -- a walk that is refused has no count, though it looked up a rule: 1 ⊗ 2 on 10, 10
-    ∷ checksAs tableR (3 ∷ 0 ∷ 4 ∷ 0 ∷ 10 ∷ 0 ∷ 10 ∷ 20 ∷ 0 ∷ 10 ∷ 16 ∷ 0 ∷ 2 ∷ 0 ∷ 1 ∷ 16 ∷ 0 ∷ 2 ∷ 0 ∷ 2 ∷ 3 ∷ 0 ∷ 0 ∷ []) (answer.refusal 20 2 15 0)
+    ∷ checksAs tableR (3 ∷ 0 ∷ 4 ∷ 0 ∷ 10 ∷ 0 ∷ 10 ∷ 20 ∷ 0 ∷ 10 ∷ 16 ∷ 0 ∷ 2 ∷ 0 ∷ 1 ∷ 16 ∷ 0 ∷ 2 ∷ 0 ∷ 2 ∷ 3 ∷ 0 ∷ 0 ∷ []) (record { number = 20; file = 2; place = 15; steps = 0; length = 0; fields = 0; uses = 0; remaining = 0; rules = 0; goals = 0; longest = 0; tactic = 0 })
     ∷ []
 
 -- document 02, P8: the body of tactic 3 of table A as text and as a term file, and what is refused

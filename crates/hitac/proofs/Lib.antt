@@ -23,6 +23,8 @@ pub mod FlatBounds
 pub mod WrittenRules
 pub mod ForestRules
 pub mod UsedRuleLaws
+pub mod ForestUsedRules
+pub mod UsedRuleBounds
 pub mod ArityDerived
 pub mod UnfoldingLaws
 pub mod ArityMeaning

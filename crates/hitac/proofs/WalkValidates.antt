@@ -16,7 +16,7 @@ use Rattle.format.specs.Refusals.{goalsTooFew}
 use Rattle.format.specs.Results.{gives, andThen}
 use Rattle.format.specs.Terms.{Term, atomic, id, label, sequence, tensor, empty, alternation, assert, defined, size}
 use Rattle.tables.specs.Tables.{Table, HasRule, UniqueRules}
-use Rattle.tables.specs.Lookup.{FoundRule, foundRule, findRule}
+use Rattle.tables.specs.Lookup.{FoundRule, findRule}
 use Rattle.tables.proofs.RuleLookup.{found↔rule}
 use Rattle.hitac.specs.Hiproofs.{inputArity}
 use Rattle.hitac.specs.Validates.{System, AtMost256, Validates, V-Atomic, V-Identity, V-Label, V-Sequence, V-Tensor, V-Empty}

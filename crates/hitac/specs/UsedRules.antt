@@ -1,16 +1,17 @@
 -- Document 02, P6: "a proof's acceptance gives the count of different rules used, and the flat check gives the same count".
 use Prim.Native.Nat.{ℕ}
 use mathlib.Core.Option.{Option, none, some}
-use mathlib.Core.List.{List, [], _∷_, _++_}
+use mathlib.Core.List.{List, [], _∷_, _++_, List·Memᴰ}
 use lib.ListN.{take, drop}
 use Rattle.format.specs.declared.values.RuleName.{RuleName}
 use Rattle.format.specs.declared.values.Goal.{Goal}
 use Rattle.format.specs.Terms.{Term, atomic, id, label, sequence, tensor, empty, alternation, assert, defined}
-use Rattle.tables.specs.Tables.{Table}
+use Rattle.tables.specs.Tables.{Table, HasRule, NumberedRule}
 use Rattle.tables.specs.Lookup.{FoundRule, findRule}
 use Rattle.files.specs.Derivations.{Entry, useEntry, openEntry}
 use Rattle.hitac.specs.Hiproofs.{inputArity}
 use Rattle.hitac.specs.Walk.{walk}
+use Rattle.hitac.specs.Reaches.{Reaches}
 use Rattle.hitac.specs.Counts.{givenGoals}
 
 -- the number of the rule that was found; none where no rule was
@@ -41,3 +42,11 @@ unfoldable pub flatRules : Table → List Entry → List ℕ
 flatRules T [] = []
 flatRules T (useEntry a γ ∷ es) = foundNumber (findRule T a γ) ++ flatRules T es
 flatRules T (openEntry γ ∷ es) = flatRules T es
+
+-- the rule with a number is used in a walk: it comes to an atomic of that rule's name on that rule's goal
+abbrev pub UsedInWalk : Table → Term → (place : ℕ) → List Goal → (number : ℕ) → Type 0
+UsedInWalk T s p g n = (a : RuleName) × (γ : Goal) × (h : List Goal) × (q : ℕ) × NumberedRule T n a γ h × Reaches (HasRule T) s p g (atomic a) q (γ ∷ [])
+
+-- it is used in a flat derivation: there is a use of its name for its goal
+abbrev pub UsedInEntries : Table → List Entry → (number : ℕ) → Type 0
+UsedInEntries T es n = (a : RuleName) × (γ : Goal) × (h : List Goal) × NumberedRule T n a γ h × List·Memᴰ (useEntry a γ) es

@@ -2,9 +2,9 @@
 -- Assumes nothing.
 use mathlib.Core.Path.{_≡_, refl, sym, subst, _∙_}
 use mathlib.Core.List.{List}
-use Prim.Native.Nat.{ℕ, _+_, _*_, _≤_, _<_}
+use Prim.Native.Nat.{ℕ, _+_, _*_, _≤_}
 use native.Mathlib.Omega.{arith}
-use lib.ListN.{length, getD}
+use lib.ListN.{length}
 use Rattle.words.specs.Kept.{Kept}
 use Rattle.format.specs.Limits.{mostBytes}
 use Rattle.format.specs.Refusals.{number, inputTooLong}
@@ -16,7 +16,7 @@ use Rattle.format.proofs.StandsLaws.{known}
 use Rattle.tables.specs.Tables.{Table}
 use Rattle.hitac.specs.Hiproofs.{atomics}
 use Rattle.hitac.proofs.Nodes.{Cell}
-use Rattle.input_arities.specs.Layout.{framesEnd, aritiesEnd}
+use Rattle.input_arities.specs.Layout.{framesEnd}
 use Rattle.walks.specs.declared.state.Next.{Next}
 use Rattle.walks.specs.declared.state.Turn.{Turn}
 use Rattle.walks.specs.declared.state.Turn.the-variants as U

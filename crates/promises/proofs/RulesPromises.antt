@@ -10,7 +10,7 @@ use Rattle.format.specs.declared.values.Goal.{Goal}
 use Rattle.format.specs.Limits.{mostEntries}
 use Rattle.format.specs.Refusals.{entriesTooMany}
 use Rattle.format.specs.Results.{gives}
-use Rattle.rule_set.specs.Different.{different, SetOf}
+use Rattle.rule_set.specs.Different.{different, SetSize}
 use Rattle.tables.specs.Tables.{Table, HasRule}
 use Rattle.tables.specs.ReadTables.{readTable}
 use Rattle.tables.proofs.ReadsTable.{reads-unique-rules}
@@ -24,7 +24,7 @@ use Rattle.hitac.specs.Forest.{leaves, entries, forest}
 use Rattle.hitac.specs.UsedRules.{flatRules}
 use Rattle.hitac.proofs.Flatten.{forest-leaves, forest-all-uses}
 use Rattle.hitac.proofs.WalkValidates.{walk↔validates}
-use Rattle.hitac.proofs.UsedRuleLaws.{forest-different}
+use Rattle.hitac.proofs.ForestUsedRules.{forest-different}
 use Rattle.hitac.proofs.Written.{written-forest}
 use Rattle.answers.specs.declared.Answer.{Answer}
 use Rattle.answers.specs.Answers as answer
@@ -49,12 +49,12 @@ rules-numbered t T e a γ n h = found↔numbered T a γ (six t T e) n h
 pub rules-used : Rules-used
 rules-used t p w h a =
     let (k, s, e) = check-counts t p w h a in
-    subst (λ (j : ℕ). SetOf (UsedIn (a .the-table) (a .the-proof)) j) (sym (ap (λ (x : Answer). x .rules) e)) s
+    subst (λ (j : ℕ). SetSize (UsedIn (a .the-table) (a .the-proof)) j) (sym (ap (λ (x : Answer). x .rules) e)) s
 
 pub rules-flat : Rules-flat
 rules-flat t f w h r =
     let (k, s, e) = checkFlat-counts t f w h r in
-    subst (λ (j : ℕ). SetOf (UsedFlat (r .the-table) (r .the-derivation)) j) (sym (ap (λ (x : Answer). x .rules) e)) s
+    subst (λ (j : ℕ). SetSize (UsedFlat (r .the-table) (r .the-derivation)) j) (sym (ap (λ (x : Answer). x .rules) e)) s
 
 few-used : (t p w : List ℕ) → checkWork ≤ length w → (a : Accepted t p) → FewRules (a .the-table) (check t p w .answer)
 few-used t p w h a =

@@ -9,7 +9,7 @@ use mathlib.Core.List.{List}
 use lib.ListN.{length}
 use Rattle.format.specs.declared.values.Goal.{Goal}
 use Rattle.format.specs.Results.{gives}
-use Rattle.rule_set.specs.Different.{among, different, SetOf}
+use Rattle.rule_set.specs.Different.{among, different, SetSize}
 use Rattle.rule_set.proofs.DifferentLaws.{different-short, different-below}
 use Rattle.rule_set.proofs.SizeLaws.{different-size}
 use Rattle.tables.specs.Tables.{Table, HasRule}
@@ -23,11 +23,12 @@ use Rattle.hitac.specs.Hiproofs.{atomics}
 use Rattle.hitac.specs.Validates.{AtMost256, Validates}
 use Rattle.hitac.specs.Counts.{uses, everyUse}
 use Rattle.hitac.specs.UsedRules.{walkedRules, flatRules}
-use Rattle.hitac.proofs.UsedRuleLaws.{walked-below, flat-below, walked-few, flat-few, walked↔numbered, flat↔numbered}
+use Rattle.hitac.proofs.UsedRuleLaws.{walked↔numbered, flat↔numbered}
+use Rattle.hitac.proofs.UsedRuleBounds.{walked-below, flat-below, walked-few, flat-few}
 use Rattle.promises.specs.Used.{UsedIn, UsedFlat}
 
 -- the numbers of a list are those of which something holds
-listed : {P : ℕ → Type 0} (ns : List ℕ) → ((n : ℕ) → (among n ns ≡ true) ↔ P n) → SetOf P (different ns)
+listed : {P : ℕ → Type 0} (ns : List ℕ) → ((n : ℕ) → (among n ns ≡ true) ↔ P n) → SetSize P (different ns)
 listed ns same =
     let s = different-size ns in
     record {
@@ -41,10 +42,10 @@ module _ (t : List ℕ) (T : Table) (e : readTable t ≡ gives T) where
   pub six : Pairs Six (T .rules)
   six = six-pairs T (table-facts t T e .none-6)
 
-  pub used-set : (x : Proof) (h : List Goal) → Validates (HasRule T) AtMost256 (x .term) (x .goals) h → SetOf (UsedIn T x) (different (walkedRules T (x .term) (x .goals)))
+  pub used-set : (x : Proof) (h : List Goal) → Validates (HasRule T) AtMost256 (x .term) (x .goals) h → SetSize (UsedIn T x) (different (walkedRules T (x .term) (x .goals)))
   used-set x h v = listed (walkedRules T (x .term) (x .goals)) (walked↔numbered T six v (termPlace x))
 
-  pub flat-set : (d : Derivation) → SetOf (UsedFlat T d) (different (flatRules T (d .entries)))
+  pub flat-set : (d : Derivation) → SetSize (UsedFlat T d) (different (flatRules T (d .entries)))
   flat-set d = listed (flatRules T (d .entries)) (flat↔numbered T six (d .entries))
 
 -- how many there are at most

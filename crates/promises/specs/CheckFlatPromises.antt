@@ -6,7 +6,7 @@ use mathlib.Core.List.{List, []}
 use lib.ListN.{length}
 use Rattle.format.specs.declared.values.Goal.{Goal}
 use Rattle.format.specs.Results.{gives}
-use Rattle.rule_set.specs.Different.{SetOf}
+use Rattle.rule_set.specs.Different.{SetSize}
 use Rattle.tables.specs.Tables.{Table, HasRule}
 use Rattle.tables.specs.ReadTables.{readTable}
 use Rattle.files.specs.Derivations.{Derivation, readFlat, entriesPlace}
@@ -27,7 +27,7 @@ CheckFlat-right = (t f w : List ℕ) → checkFlatWork ≤ length w → (checkFl
 -- with the number of uses and of open leaves, and document 02, P6: the size of the set of the rules used
 abbrev pub CheckFlat-counts : Type 0
 CheckFlat-counts = (t f w : List ℕ) → checkFlatWork ≤ length w → (r : Right t f)
-    → (k : ℕ) × SetOf (UsedFlat (r .the-table) (r .the-derivation)) k × (checkFlat t f w .answer ≡ answer.counted 0 (uses everyUse (r .the-derivation .entries)) (length (leaves (r .the-derivation .entries))) k)
+    → (k : ℕ) × SetSize (UsedFlat (r .the-table) (r .the-derivation)) k × (checkFlat t f w .answer ≡ answer.counted 0 (uses everyUse (r .the-derivation .entries)) (length (leaves (r .the-derivation .entries))) k)
 
 -- "27: flat file wrong; place of the entry, or the file's length if goals are pending": exactly where the rules say
 pub record RefusesFlat (t f w : List ℕ) (T : Table) (d : Derivation) : Type 0 where

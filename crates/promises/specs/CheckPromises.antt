@@ -7,7 +7,7 @@ use lib.ListN.{length}
 use Rattle.format.specs.declared.values.Goal.{Goal}
 use Rattle.format.specs.Results.{gives}
 use Rattle.format.specs.Terms.{fields}
-use Rattle.rule_set.specs.Different.{SetOf}
+use Rattle.rule_set.specs.Different.{SetSize}
 use Rattle.tables.specs.Tables.{Table, HasRule}
 use Rattle.tables.specs.ReadTables.{readTable}
 use Rattle.files.specs.Proofs.{Proof, readProof, termPlace, remainingPlace}
@@ -28,7 +28,7 @@ Check-accepts = (t p w : List ℕ) → checkWork ≤ length w → (check t p w .
 -- "(term fields, uses, remaining goals)" of an accepted proof, and document 02, P6: "the count of different rules used", which is the size of the set of them
 abbrev pub Check-counts : Type 0
 Check-counts = (t p w : List ℕ) → checkWork ≤ length w → (a : Accepted t p)
-    → (k : ℕ) × SetOf (UsedIn (a .the-table) (a .the-proof)) k × (check t p w .answer ≡ answer.counted (fields (a .the-proof .term)) (atomics (a .the-proof .term)) (length (a .the-proof .remaining)) k)
+    → (k : ℕ) × SetSize (UsedIn (a .the-table) (a .the-proof)) k × (check t p w .answer ≡ answer.counted (fields (a .the-proof .term)) (atomics (a .the-proof .term)) (length (a .the-proof .remaining)) k)
 
 -- 20, 22, 34 and 35 with their places exactly where the rules of `Stops` say; 20, 34 or 35 with its place exactly by the first term in the walk that cannot take its goals, and why
 -- (`FirstRefused`); and 21 exactly if the walk gives other goals than the remaining ones

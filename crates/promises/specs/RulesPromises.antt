@@ -9,7 +9,7 @@ use Rattle.format.specs.declared.values.RuleName.{RuleName}
 use Rattle.format.specs.declared.values.Goal.{Goal}
 use Rattle.format.specs.Encoding.{Bytes}
 use Rattle.format.specs.Results.{gives}
-use Rattle.rule_set.specs.Different.{SetOf}
+use Rattle.rule_set.specs.Different.{SetSize}
 use Rattle.tables.specs.Tables.{Table, NumberedRule}
 use Rattle.tables.specs.Lookup.{foundRule, findRule}
 use Rattle.tables.specs.ReadTables.{readTable}
@@ -28,11 +28,11 @@ Rules-numbered = (t : List ℕ) (T : Table) → readTable t ≡ gives T → (a :
 
 -- "a proof's acceptance gives the count of different rules used": the size of the set of the rules used in it
 abbrev pub Rules-used : Type 0
-Rules-used = (t p w : List ℕ) → checkWork ≤ length w → (a : Accepted t p) → SetOf (UsedIn (a .the-table) (a .the-proof)) (check t p w .answer .rules)
+Rules-used = (t p w : List ℕ) → checkWork ≤ length w → (a : Accepted t p) → SetSize (UsedIn (a .the-table) (a .the-proof)) (check t p w .answer .rules)
 
 -- "and the flat check gives the same count", of every right derivation, whether or not a proof was flattened to it: the size of the set of the rules used in it
 abbrev pub Rules-flat : Type 0
-Rules-flat = (t f w : List ℕ) → checkFlatWork ≤ length w → (r : Right t f) → SetOf (UsedFlat (r .the-table) (r .the-derivation)) (checkFlat t f w .answer .rules)
+Rules-flat = (t f w : List ℕ) → checkFlatWork ≤ length w → (r : Right t f) → SetSize (UsedFlat (r .the-table) (r .the-derivation)) (checkFlat t f w .answer .rules)
 
 -- there are no more of them than uses, and than rules in the table
 pub record FewRules (T : Table) (x : Answer) : Type 0 where

@@ -1,7 +1,7 @@
 -- The bits of a byte: to add the power of a bit that is 0 sets it, changes no other and carries nothing out of the byte. By the digits, the lowest first.
 -- Assumes nothing.
 use mathlib.Core.Path.{_≡_, refl, sym, ap, _∙_}
-use Prim.Native.Nat.{ℕ, zero, suc, _+_, _*_, _-_, _/_, _%_, _^_, _<_}
+use Prim.Native.Nat.{ℕ, zero, suc, _+_, _-_, _/_, _%_, _^_, _<_}
 use native.Mathlib.Nat.{pow-succ', div-one, div-div-eq-div-mul}
 use native.Mathlib.Omega.{arith}
 use Rattle.rule_set.specs.Sets.{bitOf}

@@ -29,9 +29,6 @@ module _ (w w′ : List ℕ) (base : ℕ) (ns : List ℕ) where
   }
 
   module _ (low high : ℕ) (size : length w′ ≡ length w) (k : Kept w w′ low high) where
-    -- a write behind the set, or before it
-    pub set-behind : base + setRoom ≤ low → RuleSet w base ns → RuleSet w′ base ns
-    set-behind h = set-kept (omega arith) (λ i a b. k .below i (omega arith))
-
+    -- a write before the set
     pub set-before : high ≤ base → RuleSet w base ns → RuleSet w′ base ns
     set-before h = set-kept (omega arith) (λ i a b. k .above i (omega arith))

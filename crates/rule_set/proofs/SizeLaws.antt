@@ -6,8 +6,8 @@ use mathlib.Core.List.{List, [], _∷_}
 use Prim.Native.Nat.{ℕ}
 use native.Mathlib.Omega.{arith}
 use lib.ListN.{length}
-use Rattle.rule_set.specs.Different.{among, different, Distinct, SetOf}
-use Rattle.rule_set.proofs.AmongLaws.{among-again, among-under, among-same}
+use Rattle.rule_set.specs.Different.{among, different, Distinct, SetSize}
+use Rattle.rule_set.proofs.AmongLaws.{among-again, among-under, among-same, among→member, member→among}
 use Rattle.rule_set.proofs.DifferentLaws.{different-none, different-old, different-new, different-same}
 
 -- a list with each of its numbers where it stands for the last time
@@ -52,11 +52,11 @@ length-once (n ∷ ns) = go (length-once ns) (among n ns) refl
     go ih true e = ap length (once-old n ns e) ∙ ih ∙ sym (different-old n ns e)
     go ih false e = omega (arith, ap length (once-new n ns e), different-new n ns e)
 
-pub different-size : (ns : List ℕ) → SetOf (λ n. among n ns ≡ true) (different ns)
+pub different-size : (ns : List ℕ) → SetSize (λ n. among n ns ≡ true) (different ns)
 different-size ns = record {
   list = once ns;
   distinct = distinct-once ns;
-  members = λ n. (λ h. sym (among-once n ns) ∙ h, λ h. among-once n ns ∙ h);
+  members = λ n. (λ m. sym (among-once n ns) ∙ member→among n (once ns) m, λ h. among→member n (once ns) (among-once n ns ∙ h));
   size = length-once ns;
 }
 
@@ -66,10 +66,12 @@ unfolding Distinct
 different-distinct [] d = different-none
 different-distinct (n ∷ ns) d = omega (arith, different-new n ns (d .0), different-distinct ns (d .1))
 
-pub set-size-one : {P : ℕ → Type 0} {j k : ℕ} → SetOf P j → SetOf P k → j ≡ k
+pub set-size-one : {P : ℕ → Type 0} {j k : ℕ} → SetSize P j → SetSize P k → j ≡ k
 set-size-one a b =
     sym (a .size)
     ∙ sym (different-distinct (a .list) (a .distinct))
-    ∙ different-same (a .list) (b .list) (λ n. among-same n (a .list) (b .list) (λ h. b .members n .1 (a .members n .0 h)) (λ h. a .members n .1 (b .members n .0 h)))
+    ∙ different-same (a .list) (b .list) (λ n. among-same n (a .list) (b .list)
+    (λ h. member→among n (b .list) (b .members n .1 (a .members n .0 (among→member n (a .list) h))))
+    (λ h. member→among n (a .list) (a .members n .1 (b .members n .0 (among→member n (b .list) h)))))
     ∙ different-distinct (b .list) (b .distinct)
     ∙ b .size

@@ -3,7 +3,7 @@ use Prim.Native.Nat.{ℕ, _+_}
 use mathlib.Core.Path.{_≡_}
 use mathlib.Core.Bool.{Bool, true, false, cond}
 use mathlib.Core.Logic.{_↔_}
-use mathlib.Core.List.{List, [], _∷_}
+use mathlib.Core.List.{List, [], _∷_, List·Memᴰ}
 use lib.Dec.{eqb}
 use lib.ListN.{length}
 
@@ -23,8 +23,8 @@ Distinct [] = Unit {0}
 Distinct (n ∷ ns) = (among n ns ≡ false) × Distinct ns
 
 -- k is the size of the set of the numbers of which P holds
-pub record SetOf (P : ℕ → Type 0) (k : ℕ) : Type 0 where
+pub record SetSize (P : ℕ → Type 0) (k : ℕ) : Type 0 where
   pub list : List ℕ
   pub distinct : Distinct list
-  pub members : (n : ℕ) → (among n list ≡ true) ↔ P n
+  pub members : (n : ℕ) → List·Memᴰ n list ↔ P n
   pub size : length list ≡ k

@@ -3,10 +3,10 @@ use Prim.Native.Nat.{ℕ}
 use Rattle.hitac.proofs.Nodes.{Cell}
 
 -- the checker's walk over goals, and the flattener's over nodes
-pub data Kind : Type 0 where
-  overGoals overNodes : Kind
+pub data WalkCode : Type 0 where
+  overGoals overNodes : WalkCode
 
 -- rule numbers in the checker, cells in the flattener
-abbrev pub Made : Kind → Type 0
+abbrev pub Made : WalkCode → Type 0
 Made overGoals = ℕ
 Made overNodes = Cell

@@ -4,7 +4,7 @@ ghost use mathlib.Core.List.{List};
 ghost use Prim.Native.Nat.{ℕ, _+_, _≤_};
 ghost use lib.ListN.{getD};
 ghost use Rattle.walks.specs.Walks.{Act};
-ghost use Rattle.walks.specs.Made.{Kind, Made};
+ghost use Rattle.walks.specs.Made.{WalkCode, Made};
 ghost use Rattle.walks.specs.Loops.{Aim, Roomy, Begins, placed, startOf, Steps};
 use crate::state::Next;
 use crate::state::Turn;
@@ -31,8 +31,8 @@ pub fn start(at: usize, count: usize) -> Next
 
 // A sequence's left term takes all of its values.
 pub fn begin_sequence(work: &mut [u8], n: Next, at: usize) -> Turn
-    requires { ⌜ ((k : Kind) × (act : Act (Made k)) × (x : Aim (Made k)) × (A : List (Made k)) × (s : List ℕ) × Begins act x A s (now work) (placed n at) × Roomy s (now work) × (getD s at 0 ≡ 19)) ⌝ }
-    ensures { λ r. ⌜ ((k : Kind) (act : Act (Made k)) (x : Aim (Made k)) (A : List (Made k)) (s : List ℕ) → Begins act x A s (now (work .entry)) (placed n at) → Roomy s (now (work .entry)) → getD s at 0 ≡ 19 → Steps act x A s (now (work .entry)) (now (work .exit)) (at + 1) r) ⌝ }
+    requires { ⌜ ((k : WalkCode) × (act : Act (Made k)) × (x : Aim (Made k)) × (A : List (Made k)) × (s : List ℕ) × Begins act x A s (now work) (placed n at) × Roomy s (now work) × (getD s at 0 ≡ 19)) ⌝ }
+    ensures { λ r. ⌜ ((k : WalkCode) (act : Act (Made k)) (x : Aim (Made k)) (A : List (Made k)) (s : List ℕ) → Begins act x A s (now (work .entry)) (placed n at) → Roomy s (now (work .entry)) → getD s at 0 ≡ 19 → Steps act x A s (now (work .entry)) (now (work .exit)) (at + 1) r) ⌝ }
 {
     push(work, n.frames, at, 0);
     Turn::Begin(Next {
@@ -48,8 +48,8 @@ pub fn begin_sequence(work: &mut [u8], n: Next, at: usize) -> Turn
 
 // A tensor's left term takes as many of its values as its arity, which was noted.
 pub fn begin_tensor(work: &mut [u8], n: Next, at: usize) -> Turn
-    requires { ⌜ ((k : Kind) × (act : Act (Made k)) × (x : Aim (Made k)) × (A : List (Made k)) × (s : List ℕ) × Begins act x A s (now work) (placed n at) × Roomy s (now work) × (getD s at 0 ≡ 20)) ⌝ }
-    ensures { λ r. ⌜ ((k : Kind) (act : Act (Made k)) (x : Aim (Made k)) (A : List (Made k)) (s : List ℕ) → Begins act x A s (now (work .entry)) (placed n at) → Roomy s (now (work .entry)) → getD s at 0 ≡ 20 → Steps act x A s (now (work .entry)) (now (work .exit)) (at + 1) r) ⌝ }
+    requires { ⌜ ((k : WalkCode) × (act : Act (Made k)) × (x : Aim (Made k)) × (A : List (Made k)) × (s : List ℕ) × Begins act x A s (now work) (placed n at) × Roomy s (now work) × (getD s at 0 ≡ 20)) ⌝ }
+    ensures { λ r. ⌜ ((k : WalkCode) (act : Act (Made k)) (x : Aim (Made k)) (A : List (Made k)) (s : List ℕ) → Begins act x A s (now (work .entry)) (placed n at) → Roomy s (now (work .entry)) → getD s at 0 ≡ 20 → Steps act x A s (now (work .entry)) (now (work .exit)) (at + 1) r) ⌝ }
 {
     let share = load16(work, n.arity) as usize;
     if n.count < share {

@@ -5,7 +5,7 @@ ghost use Prim.Native.Nat.{_+_, _*_, _≤_, _<_};
 ghost use lib.ListN.{length, drop};
 ghost use lib.Seq.{paste};
 ghost use Rattle.walks.specs.Walks.{Act};
-ghost use Rattle.walks.specs.Made.{Kind, Made};
+ghost use Rattle.walks.specs.Made.{WalkCode, Made};
 ghost use Rattle.walks.specs.Shows.{putFrame};
 ghost use Rattle.walks.specs.Loops.{Aim, Roomy, Gave, nextOf, Steps};
 ghost use Rattle.walks.specs.declared.state.Turn.the-variants as U;
@@ -64,8 +64,8 @@ fn next_term(
 
 // From the end of the term n, which gave so many values, to the next term to begin, or to the end of the walk. A sequence moves what its left term gave to the end of its values, and its right term takes it there; a tensor's right term takes the rest of its values; a tensor whose right term ended joins what both gave.
 pub fn resume(proof: &[u8], work: &mut [u8], n: Next, at: usize, given: usize, uses: usize) -> Turn
-    requires { ⌜ ((k : Kind) × (act : Act (Made k)) × (x : Aim (Made k)) × (A : List (Made k)) × Gave act x A (now proof) (now work) at (n .low) given (n .top + n .count * 2) (n .frames) (n .arity) uses) × Roomy (now proof) (now work) ⌝ }
-    ensures { λ r. ⌜ ((k : Kind) (act : Act (Made k)) (x : Aim (Made k)) (A : List (Made k)) → Gave act x A (now (proof .entry)) (now (work .entry)) at (n .low) given (n .top + n .count * 2) (n .frames) (n .arity) uses → Steps act x A (now (proof .entry)) (now (work .entry)) (now (work .exit)) at r) ⌝ }
+    requires { ⌜ ((k : WalkCode) × (act : Act (Made k)) × (x : Aim (Made k)) × (A : List (Made k)) × Gave act x A (now proof) (now work) at (n .low) given (n .top + n .count * 2) (n .frames) (n .arity) uses) × Roomy (now proof) (now work) ⌝ }
+    ensures { λ r. ⌜ ((k : WalkCode) (act : Act (Made k)) (x : Aim (Made k)) (A : List (Made k)) → Gave act x A (now (proof .entry)) (now (work .entry)) at (n .low) given (n .top + n .count * 2) (n .frames) (n .arity) uses → Steps act x A (now (proof .entry)) (now (work .entry)) (now (work .exit)) at r) ⌝ }
 {
     let end = n.top + n.count * 2;
     let mut start = n.low;

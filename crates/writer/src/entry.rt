@@ -10,7 +10,7 @@ ghost use Rattle.index.specs.Build.{RulesIndexed};
 ghost use Rattle.entries.specs.Left.{leftIn};
 ghost use Rattle.entries.specs.Outcomes.{done};
 ghost use Rattle.entries.specs.CheckFlat.{writeProofWork, writeOutcome, writeProof};
-ghost use Rattle.derivation.specs.Layout.{indexPlace, usedEnd};
+ghost use Rattle.derivation.specs.Layout.{indexPlace, setEnd};
 ghost use Rattle.derivation.specs.CheckedEntries.{DerivationAt};
 ghost use Rattle.writer.specs.Right.{Right, proofOf};
 ghost use Rattle.writer.specs.Left.{writtenEntries};
@@ -69,7 +69,7 @@ fn write_entries(
 ) -> Answer
     requires { ⌜ ((T : Table) × TableStands (now table) rules T) ⌝ }
     requires { ⌜ ((d : Derivation) × DerivationAt (now flat) parts d) ⌝ }
-    requires { ⌜ (length (now table) ≤ mostBytes) × (usedEnd ≤ length (now work)) ⌝ }
+    requires { ⌜ (length (now table) ≤ mostBytes) × (setEnd ≤ length (now work)) ⌝ }
     requires { ⌜ RulesIndexed (now table) rules (now work) indexPlace ⌝ }
     ensures answer { λ r. ⌜ ((T : Table) (d : Derivation) → TableStands (now (table .entry)) rules T → DerivationAt (now (flat .entry)) parts d → r ≡ writtenEntries T d (length (now (flat .entry))) (now (out .entry)) .answer) ⌝ }
     ensures out { λ _. ⌜ ((T : Table) (d : Derivation) → TableStands (now (table .entry)) rules T → DerivationAt (now (flat .entry)) parts d → now (out .exit) ≡ writtenEntries T d (length (now (flat .entry))) (now (out .entry)) .out) ⌝ }

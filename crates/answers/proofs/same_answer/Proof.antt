@@ -3,12 +3,12 @@
 use mathlib.Core.Path.{ap}
 use borrow.Author.Needs.{needs}
 use Rattle.answers.specs.declared.Answer.{Answer}
-use Rattle.answers.proofs.Agreeing.{never, same-numbers, own-counts}
+use Rattle.answers.proofs.Agreeing.{never, same-numbers, own-rest}
 use Rattle.answers.proofs.same_answer.Statement.{statement}
 use Rattle.answers.proofs.same_answer.Tie as tie
 use Rattle.answers.proofs.same_answer.Reads as reads
 use Rattle.answers.proofs.same_answer.Lts as lts
-use Rattle.answers.proofs.same_counts.Reads as same-counts-reads
+use Rattle.answers.proofs.same_rest.Reads as same-rest-reads
 
 returns : tie.Need-returns
 returns c = (never, λ e. absurd (c .if1 .taken (ap (λ (x : Answer). x .number) e)))
@@ -25,8 +25,8 @@ returns-4 c = (never, λ e. absurd (c .if4 .taken (ap (λ (x : Answer). x .steps
 returns-5 : tie.Need-returns-5
 returns-5 c = (never, λ e. absurd (c .if5 .taken (ap (λ (x : Answer). x .length) e)))
 
-same-counts-requires : tie.Need-same-counts-requires
-same-counts-requires c κs = search needs
+same-rest-requires : tie.Need-same-rest-requires
+same-rest-requires c κs = search needs
 
 returns-6 : tie.Need-returns-6
 returns-6 c =
@@ -38,9 +38,9 @@ returns-6 c =
           (l .before .before .before .before .before .before .if3 .left)
           (l .before .before .before .if4 .left)
           (l .if5 .left)
-          (c .same-counts .ensures .0 e),
-      λ e. c .same-counts .ensures .1 (own-counts _ _ e),
+          (c .same-rest .ensures .0 e),
+      λ e. c .same-rest .ensures .1 (own-rest _ _ e),
     )
 
 pub same-answer-spec : {M : Type 1} → statement M
-same-answer-spec = tie.close (tie.spec returns returns-2 returns-3 returns-4 returns-5 same-counts-requires returns-6)
+same-answer-spec = tie.close (tie.spec returns returns-2 returns-3 returns-4 returns-5 same-rest-requires returns-6)

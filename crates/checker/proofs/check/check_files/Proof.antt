@@ -14,7 +14,7 @@ use Rattle.files.proofs.EmptyProof.{read-itself}
 use Rattle.files.proofs.RefusedFiles.{Fields-refused}
 use Rattle.answers.specs.Answers as answer
 use Rattle.input_arities.specs.Layout.{aritiesEnd}
-use Rattle.checker.specs.Layout.{usedEnd}
+use Rattle.checker.specs.Layout.{setEnd}
 use Rattle.checker.proofs.StepLaws.{behind-kept}
 use Rattle.checker.proofs.CheckLaws.{table-refused, proof-refused, both-read}
 use Rattle.checker.proofs.check.check_files.Statement.{statement}
@@ -44,7 +44,7 @@ enum-known-read-2 c = search needs
 told : (c : tie.After-known-told2) → Told (now (c .before .before .before .before .before .before .before .before .before .before .args .table)) (c .before .before .before .before .before .read-table .last .1 .0) 0 aritiesEnd (c .before .read2 .given .0 .0) (c .before .read2 .given .0 .1 .0) (c .before .read2 .given .0 .1 .1 .0)
 told c = told-indexed _ _ _ _ _ _ _ _ _ (c .before .before .before .before .before .read-table .ensures) (c .before .read2 .given .1)
 
-long : (c : tie.After-known-told2) → usedEnd ≤ length (c .before .before .before .before .before .read-table .last .1 .0)
+long : (c : tie.After-known-told2) → setEnd ≤ length (c .before .before .before .before .before .read-table .last .1 .0)
 long c = omega (arith, c .before .before .before .before .before .before .before .before .before .before .pre .1, c .before .before .before .before .before .read-table .kept .1 .0)
 
 -- the proof file has a byte, so that its own fields are read

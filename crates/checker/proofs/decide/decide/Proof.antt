@@ -22,7 +22,7 @@ use Rattle.answers.specs.Answers as answer
 use Rattle.input_arities.specs.Layout.{aritiesEnd}
 use Rattle.input_arities.specs.Arities.{Noted}
 use Rattle.input_arities.proofs.ProofLaws.{Small, small, term-there, term-room}
-use Rattle.checker.specs.Layout.{usedPlace}
+use Rattle.checker.specs.Layout.{setPlace}
 use Rattle.checker.specs.Acts.{Behind}
 use Rattle.checker.specs.Walks.{Ready}
 use Rattle.checker.specs.Checks.{checkedAnswer}
@@ -136,7 +136,7 @@ behind c =
     behind-still _ _ (i .pre .1 .1) _ (i .pre .1 .2) _ _ (k .copy-in .ensures) (enough c) _ _ _ (noted c) (noting k .note-arities .kept .1 .1 .0) (k .copy-in .kept .0)
     (behind-set _ _ _ _ (e .make-empty .kept .0) (e .make-empty .ensures .1) (i .pre .3))
 
-set-there : (c : tie.After-walk-arg) → RuleSet (work₂ c) usedPlace []
+set-there : (c : tie.After-walk-arg) → RuleSet (work₂ c) setPlace []
 set-there c =
     let i = start c in
     let k = copying c in
@@ -222,7 +222,7 @@ counted-is c = let i = origin (c .before .before) in c .count-fields .ensures (p
 abbrev sized-at : tie.After-size-of → tie.After-count-fields
 sized-at c = c .before .before
 
-rules-there : (c : tie.After-same-goals) (T : Table) → InTable (gave-at (compared-at c)) T → RuleSet (work₃ (gave-at (compared-at c))) usedPlace (walkedRules T (proof (origin c) .term) (proof (origin c) .goals))
+rules-there : (c : tie.After-same-goals) (T : Table) → InTable (gave-at (compared-at c)) T → RuleSet (work₃ (gave-at (compared-at c))) setPlace (walkedRules T (proof (origin c) .term) (proof (origin c) .goals))
 rules-there c T st = let g = compared-at c in let w = gave-at g in decides-rules T _ _ _ _ _ _ (walking w T st) _ _ (g .walked2 .given .1)
 
 size-of-requires : tie.Need-size-of-requires

@@ -14,7 +14,6 @@ use Rattle.format.specs.Goals.{goalsAt}
 use Rattle.tables.specs.Tables.{Table}
 use Rattle.tables.specs.Lookup.{foundRule, findRule}
 use Rattle.tables.specs.Standing.{TableStands}
-use Rattle.tables.specs.declared.lookup.RuleFound.{RuleFound}
 use Rattle.tables.specs.Found.{ruleFound, FoundInside, FindsRule}
 use Rattle.index.proofs.FindLaws.{number-few}
 use Rattle.input_arities.specs.Layout.{aritiesEnd}
@@ -93,7 +92,7 @@ enum-known-found : tie.Need-enum-known-found
 enum-known-found c = search needs
 
 put-requires : tie.Need-put-requires
-put-requires c κs = (start (c .before) .pre .6, few (c .before))
+put-requires c κs = (start (c .before) .pre .6, omega (arith, few (c .before)))
 
 mul-copy-in : tie.Need-mul-copy-in
 mul-copy-in c = omega (arith, inside (put-at (c .before .before .before)))

@@ -10,7 +10,7 @@ use borrow.Author.Needs.{needs}
 use Rattle.words.specs.Kept.{Kept}
 use Rattle.words.proofs.KeptLaws.{kept-both}
 use Rattle.files.specs.declared.flats.FlatParts.{FlatParts}
-use Rattle.derivation.specs.Layout.{cursorsPlace, usedPlace, usedEnd}
+use Rattle.derivation.specs.Layout.{cursorsPlace, setPlace, setEnd}
 use Rattle.derivation.proofs.CheckLaws.{PartsHold, parts-hold, ready-entries, wrong-entry, goals-left, used-rules, all-right}
 use Rattle.derivation.proofs.check.check_entries.Statement.{statement}
 use Rattle.derivation.proofs.check.check_entries.Tie as tie
@@ -29,8 +29,8 @@ module _ (i : tie.Start) where
 abbrev begun : tie.After-walk → tie.Start
 begun w = w .before .before .before .before .before .before .before .before .before
 
-kept : (w : tie.After-walk) → Kept (now (begun w .args .work)) (w .walk .last .1 .1 .1 .1 .0) cursorsPlace usedEnd
-kept w = kept-both _ _ _ usedPlace usedEnd cursorsPlace usedEnd cursorsPlace usedEnd (w .before .before .before .before .make-empty .ensures .1) (w .walk .ensures .kept) (omega arith) (omega arith) (omega arith) (omega arith)
+kept : (w : tie.After-walk) → Kept (now (begun w .args .work)) (w .walk .last .1 .1 .1 .1 .0) cursorsPlace setEnd
+kept w = kept-both _ _ _ setPlace setEnd cursorsPlace setEnd cursorsPlace setEnd (w .before .before .before .before .make-empty .ensures .1) (w .walk .ensures .kept) (omega arith) (omega arith) (omega arith) (omega arith)
 
 make-empty-requires : tie.Need-make-empty-requires
 make-empty-requires c κs = omega (arith, c .before .before .before .before .pre .1 .1 .0 .1)

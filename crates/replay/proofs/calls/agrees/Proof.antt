@@ -1,4 +1,4 @@
--- `calls::agrees` meets its contract: where it ends in true, the eight numbers are the same.
+-- `calls::agrees` meets its contract: where it ends in true, the twelve numbers are the same.
 -- Assumes nothing.
 use Rattle.answers.proofs.Agreeing.{never}
 use borrow.Author.Needs.{needs}

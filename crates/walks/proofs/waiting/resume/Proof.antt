@@ -13,7 +13,7 @@ use Rattle.walks.specs.declared.state.Turn.{Turn}
 use Rattle.walks.specs.declared.state.Turn.the-variants as U
 use Rattle.walks.specs.Layout.{began}
 use Rattle.walks.specs.Walks.{Act}
-use Rattle.walks.specs.Made.{Kind, Made}
+use Rattle.walks.specs.Made.{WalkCode, Made}
 use Rattle.walks.specs.Loops.{Aim, Roomy, Gave, Steps}
 use Rattle.walks.proofs.ResumeLaws.{TopFrame, Bounds, top-of, bounds-of, ended, sequence-next, tensor-next, joined-over, joined-within}
 use Rattle.walks.proofs.waiting.resume.Statement.{statement}
@@ -29,7 +29,7 @@ use Rattle.words.proofs.store16.Reads as store16-reads
 abbrev Inv-loop : tie.InvT-loop
 Inv-loop proof work₀ n at given uses end start₀ count₀ last₀ work start count last =
     (work ≡ work₀)
-    × ((k : Kind) (act : Act (Made k)) (x : Aim (Made k)) (A : List (Made k)) → Gave act x A proof work₀ at (n .low) given (n .top + n .count * 2) (n .frames) (n .arity) uses → Gave act x A proof work at start count (n .top + n .count * 2) last (n .arity) uses)
+    × ((k : WalkCode) (act : Act (Made k)) (x : Aim (Made k)) (A : List (Made k)) → Gave act x A proof work₀ at (n .low) given (n .top + n .count * 2) (n .frames) (n .arity) uses → Gave act x A proof work at start count (n .top + n .count * 2) last (n .arity) uses)
 
 abbrev μ-loop : tie.MeasureT-loop
 μ-loop proof work₀ n at given uses end start₀ count₀ last₀ work start count last = last
@@ -52,7 +52,7 @@ abbrev space : In → List ℕ
 space c = c .before .loop .work
 
 -- what is given now, of whatever was given at the start
-abbrev GivenAt : (c : In) (k : Kind) → Act (Made k) → Aim (Made k) → List (Made k) → Type 0
+abbrev GivenAt : (c : In) (k : WalkCode) → Act (Made k) → Aim (Made k) → List (Made k) → Type 0
 GivenAt c k act x A = Gave act x A (file c) (space c) (start c .args .at) (c .before .loop .start) (c .before .loop .count) (ends (start c)) (c .before .loop .last) (start c .args .n .arity) (start c .args .uses)
 
 gave : (c : In) → GivenAt c (start c .pre .0 .0) (start c .pre .0 .1) (start c .pre .0 .2) (start c .pre .0 .3)

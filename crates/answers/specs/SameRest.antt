@@ -1,8 +1,8 @@
--- Two answers with the same counts: what is left to compare once number, file, place, steps and length are the same.
+-- The last seven numbers of two answers are the same: what is left to compare behind number, file, place, steps and length.
 use mathlib.Core.Path.{_≡_}
 use Rattle.answers.specs.declared.Answer.{Answer}
 
-pub record SameCounts (a b : Answer) : Type 0 where
+pub record SameRest (a b : Answer) : Type 0 where
   pub fields : a .fields ≡ b .fields
   pub uses : a .uses ≡ b .uses
   pub remaining : a .remaining ≡ b .remaining

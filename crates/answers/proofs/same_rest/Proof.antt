@@ -1,10 +1,9 @@
--- `same_counts` meets its contract: true exactly after all seven counts were found equal.
+-- `same_rest` meets its contract: true exactly after the last seven numbers were found equal.
 -- Assumes nothing.
-use mathlib.Core.Path.{refl}
 use borrow.Author.Tests.{eqb-true, eq-eqb}
 use Rattle.answers.proofs.Agreeing.{never}
-use Rattle.answers.proofs.same_counts.Statement.{statement}
-use Rattle.answers.proofs.same_counts.Tie as tie
+use Rattle.answers.proofs.same_rest.Statement.{statement}
+use Rattle.answers.proofs.same_rest.Tie as tie
 
 returns : tie.Need-returns
 returns c = (never, λ s. absurd (c .if1 .taken (s .fields)))
@@ -39,5 +38,5 @@ returns-7 c =
       λ s. eq-eqb _ _ (s .tactic),
     )
 
-pub same-counts-spec : {M : Type 1} → statement M
-same-counts-spec = tie.close (tie.spec returns returns-2 returns-3 returns-4 returns-5 returns-6 returns-7)
+pub same-rest-spec : {M : Type 1} → statement M
+same-rest-spec = tie.close (tie.spec returns returns-2 returns-3 returns-4 returns-5 returns-6 returns-7)
