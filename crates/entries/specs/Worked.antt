@@ -179,8 +179,8 @@ edgeLines =
     ∷ runs (1 ∷ []) [] 4097 (refusal budgetTooLarge noFile 0 0)
     -- 26: one byte too few; the steps are those of the whole run
     ∷ runsInto [] (3 ∷ 0 ∷ 0 ∷ 21 ∷ 0 ∷ 0 ∷ []) 1 (7 ∷ []) (replicate 8 7) (record { answer = answer.refusal 26 0 0 1; work = 0 ∷ []; out = replicate 8 7 })
-    -- a success leaves the bytes past its result untouched
-    ∷ runsInto [] (3 ∷ 0 ∷ 0 ∷ 21 ∷ 0 ∷ 0 ∷ []) 1 (7 ∷ []) (replicate 11 7) (record { answer = answer.wrote 9 1; work = 0 ∷ []; out = 3 ∷ 0 ∷ 0 ∷ 21 ∷ 0 ∷ 0 ∷ 3 ∷ 0 ∷ 0 ∷ 7 ∷ 7 ∷ [] })
+    -- a success leaves the bytes past its result untouched; all twelve numbers of the answer
+    ∷ runsInto [] (3 ∷ 0 ∷ 0 ∷ 21 ∷ 0 ∷ 0 ∷ []) 1 (7 ∷ []) (replicate 11 7) (record { answer = record { number = 0; file = 0; place = 0; steps = 1; length = 9; fields = 0; uses = 0; remaining = 0; rules = 0; goals = 0; longest = 0; tactic = 0 }; work = 0 ∷ []; out = 3 ∷ 0 ∷ 0 ∷ 21 ∷ 0 ∷ 0 ∷ 3 ∷ 0 ∷ 0 ∷ 7 ∷ 7 ∷ [] })
     -- 27: an entry that does not carry the first pending goal
     ∷ checksFlat tableA (3 ∷ 0 ∷ 4 ∷ 0 ∷ 20 ∷ 0 ∷ 30 ∷ 32 ∷ 0 ∷ 4 ∷ 0 ∷ 3 ∷ 0 ∷ 30 ∷ 32 ∷ 0 ∷ 4 ∷ 0 ∷ 2 ∷ 0 ∷ 20 ∷ []) (refusal entryWrong otherFile 7 0)
     -- 27: goals pending at the end

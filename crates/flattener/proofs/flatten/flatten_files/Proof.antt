@@ -23,7 +23,7 @@ use Rattle.flattener.proofs.FlattenLaws.{table-refused, proof-refused, 
 use Rattle.flattener.proofs.flatten.flatten_files.Statement.{statement}
 use Rattle.flattener.proofs.flatten.flatten_files.Tie as tie
 
--- where the table was read
+-- where the function begins
 abbrev begun : tie.After-known-told2 → tie.Start
 begun c = c .before .before .before .before .before .before .before .before .before .before .before
 
