@@ -3,6 +3,8 @@ pub mod LentSpace
 pub mod Check
 pub mod CheckFlat
 pub mod Run
+pub mod SavedState
+pub mod Halting
 pub mod Search
 pub mod Texts
 pub mod Left

@@ -9,6 +9,7 @@ use Rattle.tables.specs.Tables.{Table}
 use Rattle.tables.specs.ReadTables.{readTable}
 use Rattle.files.specs.Proofs.{Proof, proofBytes}
 use Rattle.files.specs.Jobs.{Job, readJob}
+use Rattle.files.specs.Counts.{jobTermPlace}
 use Rattle.hitac.specs.Outcomes.{proved, failed, ended}
 use Rattle.hitac.specs.Machine.{Control, running, stopped, State, run, start}
 use Rattle.entries.specs.Outcomes.{Outcome, success, refusal, inFile, tableFile, otherFile, noFile}
@@ -16,7 +17,7 @@ use Rattle.entries.specs.LentSpace.{Written, writeIn}
 
 -- "A run that succeeds writes a proof file"; 22, 23 and 24 with "file and place 0", after so many steps
 unfoldable pub runEnd : Job → (steps : ℕ) → Control → Outcome (List ℕ)
-runEnd j n (running t g k) = refusal budgetSpent noFile 0 n
+runEnd j n (running π t g k) = refusal budgetSpent noFile 0 n
 runEnd j n (stopped (proved s h)) = success (proofBytes (record { goals = j .goals; term = s; remaining = h })) n
 runEnd j n (stopped failed) = refusal tacticFailed noFile 0 n
 runEnd j n (stopped (ended c)) = refusal c noFile 0 n
@@ -25,13 +26,17 @@ runEnd j n (stopped (ended c)) = refusal c noFile 0 n
 unfoldable pub runResult : Job → State → Outcome (List ℕ)
 runResult j σ = runEnd j (σ .steps) (σ .control)
 
+-- the job's term on its goals, nothing begun
+abbrev pub begins : Job → State
+begins j = start (record { file = 1; at = jobTermPlace j }) (j .term) (j .goals)
+
 -- "29, then 25, come before any reading"
 unfoldable pub runOutcome : (table job : List ℕ) → (budget : ℕ) → Outcome (List ℕ)
 runOutcome table job budget =
     cond (ltb mostSteps budget) (refusal budgetTooLarge noFile 0 0)
     (inFile tableFile (readTable table) (λ T.
     inFile otherFile (readJob job) (λ j.
-    runResult j (run T budget (start (j .term) (j .goals))))))
+    runResult j (run T budget (begins j)))))
 
 -- the size of the work space that docs/ENTRIES.md names: all that a run of the most steps can use
 abbrev pub runWork : ℕ

@@ -90,6 +90,7 @@ number-positive C.entryWrong = omega arith
 number-positive C.goalsPending = omega arith
 number-positive C.entriesTooMany = omega arith
 number-positive C.workTooShort = omega arith
+number-positive C.stateNotGenuine = omega arith
 number-positive C.textWrong = omega arith
 number-positive C.valueTooLarge = omega arith
 number-positive C.noEvaluation = omega arith

@@ -22,6 +22,7 @@ pub data Cause : Type 0 where
   goalsPending : Cause
   entriesTooMany : Cause
   workTooShort : Cause
+  stateNotGenuine : Cause
   goalCountWrong : Cause
   goalsTooFew : Cause
   textWrong : Cause
@@ -51,6 +52,7 @@ number entryWrong = 27
 number goalsPending = 27
 number entriesTooMany = 28
 number workTooShort = 29
+number stateNotGenuine = 30
 number goalCountWrong = 34
 number goalsTooFew = 35
 number textWrong = 36

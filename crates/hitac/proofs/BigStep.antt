@@ -10,7 +10,7 @@ use Rattle.format.specs.Terms.{Term}
 use Rattle.tables.specs.Tables.{Table, HasRule, UniqueDefinitions}
 use Rattle.hitac.specs.Validates.{AnyList, AtMost256, Validates, V-Atomic, V-Identity, V-Label, V-Sequence, V-Tensor, V-Empty}
 use Rattle.hitac.specs.Outcomes.{proved}
-use Rattle.hitac.specs.Machine.{stopped, after, run, start}
+use Rattle.hitac.specs.Machine.{Place, stopped, after, run, start}
 use Rattle.hitac.specs.Ends.{End, proof, failure, overflow, NoProof, Ends, D-Atomic, D-Id, D-Empty, D-Assert, D-Label, D-Label-Inner, D-Seq, D-Seq-Left, D-Seq-Right, D-Tensor, D-Tensor-Left, D-Tensor-Right, D-Alt-L, D-Alt-R, D-Def}
 use Rattle.hitac.specs.EndingOf.{endingOf}
 use Rattle.hitac.specs.Evaluates.{Evaluates, B-Atomic, B-Id, B-Label, B-Seq, B-Tensor, B-Empty, B-Alt-L, B-Alt-R, B-Assert, B-Def}
@@ -94,10 +94,10 @@ ends-evaluates (D-Def m r) = B-Def m (ends-evaluates r)
 pub ends-evaluates-freely : {T : Table} {g h : List Goal} {t s : Term} {n : ℕ} → Ends T g t n (proof s h) → Evaluates T AnyList n g t s h
 ends-evaluates-freely r = evaluates-weaken (λ x l. tt) (ends-evaluates r)
 
-module _ (T : Table) (unique : UniqueDefinitions T) (b : ℕ) (t : Term) (g : List Goal) {n : ℕ} {s : Term} {h : List Goal}
-    (q : run T b (start t g) ≡ after n (stopped (proved s h))) where
+module _ (T : Table) (unique : UniqueDefinitions T) (b : ℕ) (π : Place) (t : Term) (g : List Goal) {n : ℕ} {s : Term} {h : List Goal}
+    (q : run T b (start π t g) ≡ after n (stopped (proved s h))) where
   run-proof : Ends T g t n (proof s h)
-  run-proof = let (e, r, p, l) = run-traced T unique b t g n (proved s h) q in go e p r
+  run-proof = let (e, r, p, l) = run-traced T unique b π t g n (proved s h) q in go e p r
     where
       go : (e : End) → endingOf e ≡ proved s h → Ends T g t n e → Ends T g t n (proof s h)
       go (proof s′ h′) p r = let c : proof s′ h′ ≡ proof s h = cc in subst (Ends T g t n) c r

@@ -13,7 +13,7 @@ use Rattle.hitac.specs.Arity.{Arity}
 use Rattle.hitac.specs.Validates.{AtMost256, Validates, V-Atomic, V-Identity, V-Label, V-Sequence, V-Tensor, V-Empty}
 use Rattle.hitac.specs.Ends.{proof, Ends, D-Atomic, D-Id, D-Empty, D-Assert, D-Label, D-Label-Inner, D-Seq, D-Seq-Left, D-Seq-Right, D-Tensor, D-Tensor-Left, D-Tensor-Right, D-Alt-L, D-Alt-R, D-Def}
 use Rattle.hitac.specs.Outcomes.{proved}
-use Rattle.hitac.specs.Machine.{stopped, after, run, start}
+use Rattle.hitac.specs.Machine.{Place, stopped, after, run, start}
 use Rattle.hitac.specs.Premises.{FewPremises}
 use Rattle.hitac.proofs.ValidatesLaws.{validates-hiproof, arity-of, validates-length}
 use Rattle.hitac.proofs.ArityMeaning.{arity↔inputArity}
@@ -79,5 +79,5 @@ hiproof↔validates T few s p g h l r n = (
 
 -- In the machine: a hiproof that validates is what its run gives, after as many steps as it has fields.
 pub hiproof-run : (T : Table) → UniqueRules T → UniqueDefinitions T → FewPremises T → {s : Term} {g h : List Goal} →
-    Validates (HasRule T) AtMost256 s g h → length g ≤ 256 → (b : ℕ) → fields s ≤ b → run T b (start s g) ≡ after (fields s) (stopped (proved s h))
-hiproof-run T rules definitions few {s} {g} {h} v l b c = run↔ends T rules definitions s g b (fields s) (proof s h) .1 (validates-ends T few v l, c)
+    Validates (HasRule T) AtMost256 s g h → length g ≤ 256 → (b : ℕ) (π : Place) → fields s ≤ b → run T b (start π s g) ≡ after (fields s) (stopped (proved s h))
+hiproof-run T rules definitions few {s} {g} {h} v l b π c = run↔ends T rules definitions π s g b (fields s) (proof s h) .1 (validates-ends T few v l, c)

@@ -35,3 +35,4 @@ pub mod MachineMeaning
 pub mod BigStep
 pub mod HiproofRuns
 pub mod RunBounds
+pub mod HaltBounds

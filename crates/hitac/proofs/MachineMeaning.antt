@@ -10,7 +10,7 @@ use Rattle.format.specs.declared.values.Goal.{Goal}
 use Rattle.format.specs.Terms.{Term}
 use Rattle.tables.specs.Tables.{Table, UniqueRules, UniqueDefinitions}
 use Rattle.hitac.specs.Outcomes.{Ending, proved, failed, ended}
-use Rattle.hitac.specs.Machine.{Control, running, stopped, State, after, Running, unwind, run, start}
+use Rattle.hitac.specs.Machine.{Place, Control, running, stopped, State, after, Running, unwind, run, start}
 use Rattle.hitac.specs.Ends.{End, proof, failure, overflow, Ends}
 use Rattle.hitac.specs.EndingOf.{endingOf}
 use Rattle.hitac.proofs.RunLaws.{more-budget}
@@ -31,41 +31,41 @@ end-of-ending overflow = refl
 ending-injective : (e f : End) → endingOf e ≡ endingOf f → e ≡ f
 ending-injective e f q = sym (end-of-ending e) ∙ ap endOf q ∙ end-of-ending f
 
-module _ (T : Table) (rules : UniqueRules T) (definitions : UniqueDefinitions T) (t : Term) (g : List Goal) where
-  ends-run : {n b : ℕ} {e : End} → Ends T g t n e → n ≤ b → run T b (start t g) ≡ after n (stopped (endingOf e))
+module _ (T : Table) (rules : UniqueRules T) (definitions : UniqueDefinitions T) (π : Place) (t : Term) (g : List Goal) where
+  ends-run : {n b : ℕ} {e : End} → Ends T g t n e → n ≤ b → run T b (start π t g) ≡ after n (stopped (endingOf e))
   unfolding unwind start
   ends-run {n} {b} {e} r h =
-      more-budget T n b (start t g) n (endingOf e) (resumes T rules definitions r [] .runs 0 ∙ ap (λ (i : ℕ). after i (stopped (endingOf e))) (zero-add n)) h
+      more-budget T n b (start π t g) n (endingOf e) (resumes T rules definitions r π [] .runs 0 ∙ ap (λ (i : ℕ). after i (stopped (endingOf e))) (zero-add n)) h
 
   -- RUN: under budget b the machine has ended with e after n steps exactly if the rules end so, within the budget.
-  pub run↔ends : (b n : ℕ) (e : End) → (run T b (start t g) ≡ after n (stopped (endingOf e))) ↔ (Ends T g t n e × (n ≤ b))
+  pub run↔ends : (b n : ℕ) (e : End) → (run T b (start π t g) ≡ after n (stopped (endingOf e))) ↔ (Ends T g t n e × (n ≤ b))
   run↔ends b n e = (
     (λ q.
-        let (f, r, p, h) = run-traced T definitions b t g n (endingOf e) q in
+        let (f, r, p, h) = run-traced T definitions b π t g n (endingOf e) q in
         (subst (Ends T g t n) (ending-injective f e p) r, h)),
     (λ r. ends-run (r .0) (r .1)),
   )
 
   -- The machine has no other ending.
-  pub run-ending : (b n : ℕ) (f : Ending) → run T b (start t g) ≡ after n (stopped f) → (e : End) × (endingOf e ≡ f) × Ends T g t n e
-  run-ending b n f q = let (e, r, p, h) = run-traced T definitions b t g n f q in (e, p, r)
+  pub run-ending : (b n : ℕ) (f : Ending) → run T b (start π t g) ≡ after n (stopped f) → (e : End) × (endingOf e ≡ f) × Ends T g t n e
+  run-ending b n f q = let (e, r, p, h) = run-traced T definitions b π t g n f q in (e, p, r)
 
   -- SPENT: the machine still runs when b steps are taken exactly if the rules have no end within the budget (and its steps are
   -- then the budget: `spent-steps` of RunLaws).
-  pub running↔no-end : (b : ℕ) → Running (run T b (start t g) .control) ↔ ((n : ℕ) (e : End) → Ends T g t n e → n ≤ b → ⊥)
+  pub running↔no-end : (b : ℕ) → Running (run T b (start π t g) .control) ↔ ((n : ℕ) (e : End) → Ends T g t n e → n ≤ b → ⊥)
   running↔no-end b = (
     (λ r n e s h. subst (λ (σ : State). Running (σ .control)) (ends-run s h) r),
-    (λ never. go never (run T b (start t g)) refl),
+    (λ never. go never (run T b (start π t g)) refl),
   )
     where
-      go : ((n : ℕ) (e : End) → Ends T g t n e → n ≤ b → ⊥) → (σ : State) → run T b (start t g) ≡ σ → Running (σ .control)
+      go : ((n : ℕ) (e : End) → Ends T g t n e → n ≤ b → ⊥) → (σ : State) → run T b (start π t g) ≡ σ → Running (σ .control)
       go never σ q = still (σ .control) refl
         where
           still : (κ : Control) → σ .control ≡ κ → Running κ
-          still (running u h w) p = tt
+          still (running π u h w) p = tt
           still (stopped f) p =
               let c : σ ≡ after (σ .steps) (stopped f) = ap (after (σ .steps)) p in
-              let (e, r, x, h) = run-traced T definitions b t g (σ .steps) f (q ∙ c) in
+              let (e, r, x, h) = run-traced T definitions b π t g (σ .steps) f (q ∙ c) in
               absurd (never (σ .steps) e r h)
 
   -- ONE END: a term has one end on its goals, after one number of steps.

@@ -11,15 +11,16 @@ use lib.ListN.{length, length-append}
 use lib.Seq.{take-append-seam, drop-append-seam}
 use borrow.Author.Tests.{leb-true, leb-false, le-leb, eq-eqb, ne-eqb}
 use Rattle.format.specs.declared.values.Goal.{Goal}
-use Rattle.format.specs.Terms.{Term}
+use Rattle.format.specs.Terms.{Term, size}
 use Rattle.tables.specs.Tables.{Table, UniqueRules, UniqueDefinitions}
 use Rattle.tables.specs.Lookup.{findRule, matches}
+use Rattle.tables.specs.Places.{bodyPlace}
 use Rattle.tables.proofs.RuleLookup.{found↔rule, missing↔no-rule}
 use Rattle.tables.proofs.BodyLookup.{found↔definition, missing↔no-definition}
 use Rattle.hitac.specs.TacticArity.{tacticArity}
 use Rattle.hitac.specs.Arity.{Arity}
 use Rattle.hitac.specs.Outcomes.{foundPremises, onOne, noGoal, splitAt, splitBy, joinedFits}
-use Rattle.hitac.specs.Machine.{Frame, labelled, sequenceLeft, sequenceRight, tensorLeft, tensorRight, alternationLeft, Control, running, after, unwind, begin, stepFrom, step, run}
+use Rattle.hitac.specs.Machine.{Place, past, Frame, labelled, sequenceLeft, sequenceRight, tensorLeft, tensorRight, alternationLeft, Control, running, after, unwind, begin, stepFrom, step, run}
 use Rattle.hitac.specs.Ends.{End, fails, overflows, Ends, D-Atomic, D-Atomic-Rule, D-Atomic-Goals, D-Id, D-Id-Goals, D-Empty, D-Empty-Goals, D-Assert, D-Assert-Other, D-Assert-Goals, D-Label, D-Label-Inner, D-Label-Goals, D-Seq, D-Seq-Left, D-Seq-Right, D-Tensor, D-Tensor-Joined, D-Tensor-Left, D-Tensor-Right, D-Tensor-Arity, D-Alt-L, D-Alt-R, D-Alt-Overflow, D-Def, D-Def-Missing}
 use Rattle.hitac.specs.EndingOf.{endingOf}
 use Rattle.hitac.proofs.ArityDerived.{tacticArity-sound}
@@ -59,8 +60,8 @@ module _ (T : Table) where
   unfolding run
   reach-now κ = record { runs = λ i. let p : i ≡ i + 0 = omega arith in ap (λ (j : ℕ). after j κ) p }
 
-  reach-begun : {t : Term} {g : List Goal} {w : List Frame} {κ κ′ : Control} {n : ℕ} → begin T t g w ≡ κ → Reaches T κ n κ′ →
-      Reaches T (running t g w) (suc n) κ′
+  reach-begun : {π : Place} {t : Term} {g : List Goal} {w : List Frame} {κ κ′ : Control} {n : ℕ} → begin T π t g w ≡ κ → Reaches T κ n κ′ →
+      Reaches T (running π t g w) (suc n) κ′
   unfolding run step stepFrom
   reach-begun {κ′ = κ′} {n = n} q r =
       record {
@@ -78,7 +79,7 @@ module _ (T : Table) where
       }
 
   -- a term that ends when it begins
-  reach-end : {t : Term} {g : List Goal} {w : List Frame} {κ : Control} → begin T t g w ≡ κ → Reaches T (running t g w) 1 κ
+  reach-end : {π : Place} {t : Term} {g : List Goal} {w : List Frame} {κ : Control} → begin T π t g w ≡ κ → Reaches T (running π t g w) 1 κ
   reach-end {κ = κ} q = reach-begun q (reach-now κ)
 
   module _ (rules : UniqueRules T) (definitions : UniqueDefinitions T) where
@@ -99,41 +100,41 @@ module _ (T : Table) where
             at-most false e = refl
 
     -- a term that ends takes its steps, and the machine goes on with what waits
-    pub resumes : {g : List Goal} {t : Term} {n : ℕ} {e : End} → Ends T g t n e → (w : List Frame) → Reaches T (running t g w) n (unwind (endingOf e) w)
+    pub resumes : {g : List Goal} {t : Term} {n : ℕ} {e : End} → Ends T g t n e → (π : Place) (w : List Frame) → Reaches T (running π t g w) n (unwind (endingOf e) w)
     unfolding begin unwind matches
-    resumes (D-Atomic {a = a} {γ = γ} {h = h} m) w = reach-end (rw (found↔rule T a γ rules h .1 m .1))
-    resumes (D-Atomic-Rule {a = a} {γ = γ} m) w = reach-end (rw (missing↔no-rule T a γ .1 m))
-    resumes (D-Atomic-Goals {a = a} {g = g} h) w = reach-end (rw (one-goal-only (λ γ. foundPremises (findRule T a γ)) g h))
-    resumes D-Id w = reach-end refl
-    resumes (D-Id-Goals {g = g} h) w = reach-end (rw (one-goal-only (λ γ. some (γ ∷ [])) g h))
-    resumes D-Empty w = reach-end refl
-    resumes (D-Empty-Goals {g = g} h) w = reach-end (rw (no-goal-only g h))
-    resumes (D-Assert {p = p} {γ = γ} q) w = reach-end (rw (eq-eqb (p .0) (γ .0) (ap (λ (x : Goal). x .0) q)))
-    resumes (D-Assert-Other {p = p} {γ = γ} h) w = reach-end (rw (ne-eqb (p .0) (γ .0) (λ q. h (λ i. record { 0 = q i }))))
-    resumes (D-Assert-Goals {p = p} {g = g} h) w = reach-end (rw (one-goal-only (λ γ. cond (matches T p γ) (some (γ ∷ [])) none) g h))
-    resumes (D-Label {l = l} r) w = reach-begun refl (resumes r (labelled l ∷ w))
-    resumes (D-Label-Inner {l = l} r fails) w = reach-begun refl (resumes r (labelled l ∷ w))
-    resumes (D-Label-Inner {l = l} r overflows) w = reach-begun refl (resumes r (labelled l ∷ w))
-    resumes (D-Label-Goals {g = g} h) w = reach-end (rw (one-goal-only (λ γ. some (γ ∷ [])) g h))
-    resumes (D-Seq {u = u} {s = s} r r′) w = reach-begun refl (reach-then (resumes r (sequenceLeft u ∷ w)) (resumes r′ (sequenceRight s ∷ w)))
-    resumes (D-Seq-Left {u = u} r fails) w = reach-begun refl (resumes r (sequenceLeft u ∷ w))
-    resumes (D-Seq-Left {u = u} r overflows) w = reach-begun refl (resumes r (sequenceLeft u ∷ w))
-    resumes (D-Seq-Right {u = u} {s = s} r r′ fails) w = reach-begun refl (reach-then (resumes r (sequenceLeft u ∷ w)) (resumes r′ (sequenceRight s ∷ w)))
-    resumes (D-Seq-Right {u = u} {s = s} r r′ overflows) w =
-        reach-begun refl (reach-then (resumes r (sequenceLeft u ∷ w)) (resumes r′ (sequenceRight s ∷ w)))
-    resumes (D-Tensor {u = u} {s = s} {g₁ = g₁} {g₂ = g₂} {h₁ = h₁} {h₂ = h₂} a b r r′ j) w =
-        reach-begun (rw (split-found g₁ g₂ a b)) (reach-then (resumes r (tensorLeft u g₂ ∷ w)) (rw (joined-fits (h₁ ++ h₂) j) at (resumes r′ (tensorRight s h₁ ∷ w))))
-    resumes (D-Tensor-Joined {u = u} {s = s} {g₁ = g₁} {g₂ = g₂} {h₁ = h₁} {h₂ = h₂} a b r r′ j) w =
-        reach-begun (rw (split-found g₁ g₂ a b)) (reach-then (resumes r (tensorLeft u g₂ ∷ w)) (rw (joined-over (h₁ ++ h₂) j) at (resumes r′ (tensorRight s h₁ ∷ w))))
-    resumes (D-Tensor-Left {u = u} {g₁ = g₁} g₂ a b r fails) w = reach-begun (rw (split-found g₁ g₂ a b)) (resumes r (tensorLeft u g₂ ∷ w))
-    resumes (D-Tensor-Left {u = u} {g₁ = g₁} g₂ a b r overflows) w = reach-begun (rw (split-found g₁ g₂ a b)) (resumes r (tensorLeft u g₂ ∷ w))
-    resumes (D-Tensor-Right {u = u} {s = s} {g₁ = g₁} {g₂ = g₂} {h = h} a b r r′ fails) w =
-        reach-begun (rw (split-found g₁ g₂ a b)) (reach-then (resumes r (tensorLeft u g₂ ∷ w)) (resumes r′ (tensorRight s h ∷ w)))
-    resumes (D-Tensor-Right {u = u} {s = s} {g₁ = g₁} {g₂ = g₂} {h = h} a b r r′ overflows) w =
-        reach-begun (rw (split-found g₁ g₂ a b)) (reach-then (resumes r (tensorLeft u g₂ ∷ w)) (resumes r′ (tensorRight s h ∷ w)))
-    resumes (D-Tensor-Arity {g = g} h) w = reach-end (rw (split-missing g h))
-    resumes (D-Alt-L {u = u} {g = g} r) w = reach-begun refl (resumes r (alternationLeft u g ∷ w))
-    resumes (D-Alt-R {u = u} {g = g} r r′) w = reach-begun refl (reach-then (resumes r (alternationLeft u g ∷ w)) (resumes r′ w))
-    resumes (D-Alt-Overflow {u = u} {g = g} r) w = reach-begun refl (resumes r (alternationLeft u g ∷ w))
-    resumes (D-Def {d = d} {t = t} m r) w = reach-begun (rw (found↔definition T d definitions t .1 m)) (resumes r w)
-    resumes (D-Def-Missing {d = d} m) w = reach-end (rw (missing↔no-definition T d .1 m))
+    resumes (D-Atomic {a = a} {γ = γ} {h = h} m) π w = reach-end (rw (found↔rule T a γ rules h .1 m .1))
+    resumes (D-Atomic-Rule {a = a} {γ = γ} m) π w = reach-end (rw (missing↔no-rule T a γ .1 m))
+    resumes (D-Atomic-Goals {a = a} {g = g} h) π w = reach-end (rw (one-goal-only (λ γ. foundPremises (findRule T a γ)) g h))
+    resumes D-Id π w = reach-end refl
+    resumes (D-Id-Goals {g = g} h) π w = reach-end (rw (one-goal-only (λ γ. some (γ ∷ [])) g h))
+    resumes D-Empty π w = reach-end refl
+    resumes (D-Empty-Goals {g = g} h) π w = reach-end (rw (no-goal-only g h))
+    resumes (D-Assert {p = p} {γ = γ} q) π w = reach-end (rw (eq-eqb (p .0) (γ .0) (ap (λ (x : Goal). x .0) q)))
+    resumes (D-Assert-Other {p = p} {γ = γ} h) π w = reach-end (rw (ne-eqb (p .0) (γ .0) (λ q. h (λ i. record { 0 = q i }))))
+    resumes (D-Assert-Goals {p = p} {g = g} h) π w = reach-end (rw (one-goal-only (λ γ. cond (matches T p γ) (some (γ ∷ [])) none) g h))
+    resumes (D-Label {l = l} r) π w = reach-begun refl (resumes r _ (labelled _ l ∷ w))
+    resumes (D-Label-Inner {l = l} r fails) π w = reach-begun refl (resumes r _ (labelled _ l ∷ w))
+    resumes (D-Label-Inner {l = l} r overflows) π w = reach-begun refl (resumes r _ (labelled _ l ∷ w))
+    resumes (D-Label-Goals {g = g} h) π w = reach-end (rw (one-goal-only (λ γ. some (γ ∷ [])) g h))
+    resumes (D-Seq {u = u} {s = s} r r′) π w = reach-begun refl (reach-then (resumes r _ (sequenceLeft _ u ∷ w)) (resumes r′ _ (sequenceRight _ s ∷ w)))
+    resumes (D-Seq-Left {u = u} r fails) π w = reach-begun refl (resumes r _ (sequenceLeft _ u ∷ w))
+    resumes (D-Seq-Left {u = u} r overflows) π w = reach-begun refl (resumes r _ (sequenceLeft _ u ∷ w))
+    resumes (D-Seq-Right {u = u} {s = s} r r′ fails) π w = reach-begun refl (reach-then (resumes r _ (sequenceLeft _ u ∷ w)) (resumes r′ _ (sequenceRight _ s ∷ w)))
+    resumes (D-Seq-Right {u = u} {s = s} r r′ overflows) π w =
+        reach-begun refl (reach-then (resumes r _ (sequenceLeft _ u ∷ w)) (resumes r′ _ (sequenceRight _ s ∷ w)))
+    resumes (D-Tensor {t = t} {u = u} {s = s} {g₁ = g₁} {g₂ = g₂} {h₁ = h₁} {h₂ = h₂} a b r r′ j) π w =
+        reach-begun (rw (split-found g₁ g₂ a b)) (reach-then (resumes r (past π 3) (tensorLeft (past π (3 + size t)) u g₂ ∷ w)) (rw (joined-fits (h₁ ++ h₂) j) at (resumes r′ (past π (3 + size t)) (tensorRight (past π (3 + size t)) s h₁ ∷ w))))
+    resumes (D-Tensor-Joined {t = t} {u = u} {s = s} {g₁ = g₁} {g₂ = g₂} {h₁ = h₁} {h₂ = h₂} a b r r′ j) π w =
+        reach-begun (rw (split-found g₁ g₂ a b)) (reach-then (resumes r (past π 3) (tensorLeft (past π (3 + size t)) u g₂ ∷ w)) (rw (joined-over (h₁ ++ h₂) j) at (resumes r′ (past π (3 + size t)) (tensorRight (past π (3 + size t)) s h₁ ∷ w))))
+    resumes (D-Tensor-Left {t = t} {u = u} {g₁ = g₁} g₂ a b r fails) π w = reach-begun (rw (split-found g₁ g₂ a b)) (resumes r (past π 3) (tensorLeft (past π (3 + size t)) u g₂ ∷ w))
+    resumes (D-Tensor-Left {t = t} {u = u} {g₁ = g₁} g₂ a b r overflows) π w = reach-begun (rw (split-found g₁ g₂ a b)) (resumes r (past π 3) (tensorLeft (past π (3 + size t)) u g₂ ∷ w))
+    resumes (D-Tensor-Right {t = t} {u = u} {s = s} {g₁ = g₁} {g₂ = g₂} {h = h} a b r r′ fails) π w =
+        reach-begun (rw (split-found g₁ g₂ a b)) (reach-then (resumes r (past π 3) (tensorLeft (past π (3 + size t)) u g₂ ∷ w)) (resumes r′ (past π (3 + size t)) (tensorRight (past π (3 + size t)) s h ∷ w)))
+    resumes (D-Tensor-Right {t = t} {u = u} {s = s} {g₁ = g₁} {g₂ = g₂} {h = h} a b r r′ overflows) π w =
+        reach-begun (rw (split-found g₁ g₂ a b)) (reach-then (resumes r (past π 3) (tensorLeft (past π (3 + size t)) u g₂ ∷ w)) (resumes r′ (past π (3 + size t)) (tensorRight (past π (3 + size t)) s h ∷ w)))
+    resumes (D-Tensor-Arity {g = g} h) π w = reach-end (rw (split-missing g h))
+    resumes (D-Alt-L {u = u} {g = g} r) π w = reach-begun refl (resumes r _ (alternationLeft _ u g ∷ w))
+    resumes (D-Alt-R {u = u} {g = g} r r′) π w = reach-begun refl (reach-then (resumes r _ (alternationLeft _ u g ∷ w)) (resumes r′ _ w))
+    resumes (D-Alt-Overflow {u = u} {g = g} r) π w = reach-begun refl (resumes r _ (alternationLeft _ u g ∷ w))
+    resumes (D-Def {d = d} {t = t} m r) π w = reach-begun (rw (found↔definition T d definitions t .1 m)) (resumes r (record { file = 0; at = bodyPlace T d }) w)
+    resumes (D-Def-Missing {d = d} m) π w = reach-end (rw (missing↔no-definition T d .1 m))

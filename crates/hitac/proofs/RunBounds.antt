@@ -13,13 +13,14 @@ use Rattle.format.specs.declared.values.RuleName.{RuleName}
 use Rattle.format.specs.declared.values.Goal.{Goal}
 use Rattle.format.specs.declared.values.Label.{Label}
 use Rattle.format.specs.Refusals.{joinedTooLong}
-use Rattle.format.specs.Terms.{Term, atomic, id, label, sequence, tensor, empty, alternation, assert, defined, fields}
+use Rattle.format.specs.Terms.{Term, atomic, id, label, sequence, tensor, empty, alternation, assert, defined, size, fields}
 use Rattle.tables.specs.Tables.{Table}
 use Rattle.tables.specs.Lookup.{FoundRule, findRule, findBody, matches}
+use Rattle.tables.specs.Places.{bodyPlace}
 use Rattle.tables.proofs.RuleLookup.{found-member}
 use Rattle.hitac.specs.TacticArity.{tacticArity}
 use Rattle.hitac.specs.Outcomes.{Ending, proved, failed, ended, foundPremises, onOne, ruleGives, oneGoal, noGoal, assertGives, splitAt, splitBy, finished, inLabel, afterLeft, joinedFits, besideLeft}
-use Rattle.hitac.specs.Machine.{Frame, labelled, sequenceLeft, sequenceRight, tensorLeft, tensorRight, alternationLeft, Control, running, stopped, State, after, unwind, enterOrFail, begin, stepFrom, step, run, start}
+use Rattle.hitac.specs.Machine.{Place, past, Frame, labelled, sequenceLeft, sequenceRight, tensorLeft, tensorRight, alternationLeft, Control, running, stopped, State, after, unwind, enterOrFail, begin, stepFrom, step, run, start}
 use Rattle.hitac.specs.Premises.{FewPremises}
 use Rattle.hitac.specs.RunSizes.{endingFields, waiting, waitingGoals, kept, ShortFrames, ShortEnding, Short}
 
@@ -54,18 +55,18 @@ finished-fields s (some g) h = h
 unwind-kept : (e : Ending) (w : List Frame) → kept (unwind e w) ≤ endingFields e + waiting w
 unfolding unwind
 unwind-kept e [] = omega arith
-unwind-kept e (labelled l ∷ w) = omega (arith, unwind-kept (inLabel l e) w, label-fields l e)
-unwind-kept (proved s g) (sequenceLeft u ∷ w) = omega arith
-unwind-kept failed (sequenceLeft u ∷ w) = omega (arith, unwind-kept failed w)
-unwind-kept (ended c) (sequenceLeft u ∷ w) = omega (arith, unwind-kept (ended c) w)
-unwind-kept e (sequenceRight s ∷ w) = omega (arith, unwind-kept (afterLeft s e) w, sequence-fields s e)
-unwind-kept (proved s g) (tensorLeft u h ∷ w) = omega arith
-unwind-kept failed (tensorLeft u h ∷ w) = omega (arith, unwind-kept failed w)
-unwind-kept (ended c) (tensorLeft u h ∷ w) = omega (arith, unwind-kept (ended c) w)
-unwind-kept e (tensorRight s g ∷ w) = omega (arith, unwind-kept (besideLeft s g e) w, tensor-fields s g e)
-unwind-kept (proved s g) (alternationLeft u h ∷ w) = omega (arith, unwind-kept (proved s g) w)
-unwind-kept failed (alternationLeft u h ∷ w) = omega arith
-unwind-kept (ended c) (alternationLeft u h ∷ w) = omega (arith, unwind-kept (ended c) w)
+unwind-kept e (labelled π l ∷ w) = omega (arith, unwind-kept (inLabel l e) w, label-fields l e)
+unwind-kept (proved s g) (sequenceLeft π u ∷ w) = omega arith
+unwind-kept failed (sequenceLeft π u ∷ w) = omega (arith, unwind-kept failed w)
+unwind-kept (ended c) (sequenceLeft π u ∷ w) = omega (arith, unwind-kept (ended c) w)
+unwind-kept e (sequenceRight π s ∷ w) = omega (arith, unwind-kept (afterLeft s e) w, sequence-fields s e)
+unwind-kept (proved s g) (tensorLeft π u h ∷ w) = omega arith
+unwind-kept failed (tensorLeft π u h ∷ w) = omega (arith, unwind-kept failed w)
+unwind-kept (ended c) (tensorLeft π u h ∷ w) = omega (arith, unwind-kept (ended c) w)
+unwind-kept e (tensorRight π s g ∷ w) = omega (arith, unwind-kept (besideLeft s g e) w, tensor-fields s g e)
+unwind-kept (proved s g) (alternationLeft π u h ∷ w) = omega (arith, unwind-kept (proved s g) w)
+unwind-kept failed (alternationLeft π u h ∷ w) = omega arith
+unwind-kept (ended c) (alternationLeft π u h ∷ w) = omega (arith, unwind-kept (ended c) w)
 
 finished-kept : (s : Term) (o : Option (List Goal)) (w : List Frame) → fields s ≤ 1 → kept (unwind (finished s o) w) ≤ suc (waiting w)
 finished-kept s o w h = omega (arith, unwind-kept (finished s o) w, finished-fields s o h)
@@ -76,28 +77,28 @@ enter-kept none w f h = omega (arith, unwind-kept failed w)
 enter-kept (some a) w f h = h a
 
 module _ (T : Table) where
-  begin-kept : (t : Term) (g : List Goal) (w : List Frame) → kept (begin T t g w) ≤ suc (waiting w)
+  begin-kept : (π : Place) (t : Term) (g : List Goal) (w : List Frame) → kept (begin T π t g w) ≤ suc (waiting w)
   unfolding begin fields
-  begin-kept (atomic a) g w = finished-kept (atomic a) (ruleGives T a g) w (omega arith)
-  begin-kept id g w = finished-kept id (oneGoal g) w (omega arith)
-  begin-kept (label l t) g w = enter-kept (oneGoal g) w _ (λ h. omega arith)
-  begin-kept (sequence t u) g w = omega arith
-  begin-kept (tensor t u) g w = enter-kept (splitBy (tacticArity T t) g) w _ (λ p. omega arith)
-  begin-kept empty g w = finished-kept empty (noGoal g) w (omega arith)
-  begin-kept (alternation t u) g w = omega arith
-  begin-kept (assert p) g w = finished-kept id (assertGives T p g) w (omega arith)
-  begin-kept (defined d) g w = enter-kept (findBody T d) w _ (λ t. omega arith)
+  begin-kept π (atomic a) g w = finished-kept (atomic a) (ruleGives T a g) w (omega arith)
+  begin-kept π id g w = finished-kept id (oneGoal g) w (omega arith)
+  begin-kept π (label l t) g w = enter-kept (oneGoal g) w _ (λ h. omega arith)
+  begin-kept π (sequence t u) g w = omega arith
+  begin-kept π (tensor t u) g w = enter-kept (splitBy (tacticArity T t) g) w _ (λ p. omega arith)
+  begin-kept π empty g w = finished-kept empty (noGoal g) w (omega arith)
+  begin-kept π (alternation t u) g w = omega arith
+  begin-kept π (assert p) g w = finished-kept id (assertGives T p g) w (omega arith)
+  begin-kept π (defined d) g w = enter-kept (findBody T d) w _ (λ t. omega arith)
 
   kept-on : (b n : ℕ) (κ : Control) → kept κ ≤ n → kept (run T b (after n κ) .control) ≤ run T b (after n κ) .steps
   unfolding run step stepFrom
   kept-on zero n κ h = h
-  kept-on (suc b) n (running t g w) h = kept-on b (suc n) (begin T t g w) (omega (arith, begin-kept t g w))
+  kept-on (suc b) n (running π t g w) h = kept-on b (suc n) (begin T π t g w) (omega (arith, begin-kept π t g w))
   kept-on (suc b) n (stopped e) h = kept-on b n (stopped e) h
 
   -- KEPT: after any number of steps, the waiting terms and the fields that they keep (at its end the fields of the proof) are at most the steps.
-  pub run-kept : (b : ℕ) (t : Term) (g : List Goal) → kept (run T b (start t g) .control) ≤ run T b (start t g) .steps
+  pub run-kept : (b : ℕ) (π : Place) (t : Term) (g : List Goal) → kept (run T b (start π t g) .control) ≤ run T b (start π t g) .steps
   unfolding start
-  run-kept b t g = kept-on b 0 (running t g []) (omega arith)
+  run-kept b π t g = kept-on b 0 (running π t g []) (omega arith)
 
 -- the lists of goals
 
@@ -141,25 +142,25 @@ tensor-short s g (ended c) = tt
 unwind-short : (e : Ending) (w : List Frame) → ShortEnding e → ShortFrames w → Short (unwind e w)
 unfolding unwind
 unwind-short e [] h v = h
-unwind-short e (labelled l ∷ w) h v = unwind-short (inLabel l e) w (label-short l e h) (v .1)
-unwind-short (proved s g) (sequenceLeft u ∷ w) h v = (h, v)
-unwind-short failed (sequenceLeft u ∷ w) h v = unwind-short failed w h (v .1)
-unwind-short (ended c) (sequenceLeft u ∷ w) h v = unwind-short (ended c) w h (v .1)
-unwind-short e (sequenceRight s ∷ w) h v = unwind-short (afterLeft s e) w (sequence-short s e h) (v .1)
-unwind-short (proved s g) (tensorLeft u x ∷ w) h v = (v .0, (h, v .1))
-unwind-short failed (tensorLeft u x ∷ w) h v = unwind-short failed w h (v .1)
-unwind-short (ended c) (tensorLeft u x ∷ w) h v = unwind-short (ended c) w h (v .1)
-unwind-short e (tensorRight s g ∷ w) h v = unwind-short (besideLeft s g e) w (tensor-short s g e) (v .1)
-unwind-short (proved s g) (alternationLeft u x ∷ w) h v = unwind-short (proved s g) w h (v .1)
-unwind-short failed (alternationLeft u x ∷ w) h v = v
-unwind-short (ended c) (alternationLeft u x ∷ w) h v = unwind-short (ended c) w h (v .1)
+unwind-short e (labelled π l ∷ w) h v = unwind-short (inLabel l e) w (label-short l e h) (v .1)
+unwind-short (proved s g) (sequenceLeft π u ∷ w) h v = (h, v)
+unwind-short failed (sequenceLeft π u ∷ w) h v = unwind-short failed w h (v .1)
+unwind-short (ended c) (sequenceLeft π u ∷ w) h v = unwind-short (ended c) w h (v .1)
+unwind-short e (sequenceRight π s ∷ w) h v = unwind-short (afterLeft s e) w (sequence-short s e h) (v .1)
+unwind-short (proved s g) (tensorLeft π u x ∷ w) h v = (v .0, (h, v .1))
+unwind-short failed (tensorLeft π u x ∷ w) h v = unwind-short failed w h (v .1)
+unwind-short (ended c) (tensorLeft π u x ∷ w) h v = unwind-short (ended c) w h (v .1)
+unwind-short e (tensorRight π s g ∷ w) h v = unwind-short (besideLeft s g e) w (tensor-short s g e) (v .1)
+unwind-short (proved s g) (alternationLeft π u x ∷ w) h v = unwind-short (proved s g) w h (v .1)
+unwind-short failed (alternationLeft π u x ∷ w) h v = v
+unwind-short (ended c) (alternationLeft π u x ∷ w) h v = unwind-short (ended c) w h (v .1)
 
-split-short : (o : Option ℕ) (t u : Term) (g : List Goal) (w : List Frame) → length g ≤ 256 → ShortFrames w →
-    Short (enterOrFail (splitBy o g) w λ p. running t (p .leftGoals) (tensorLeft u (p .rightGoals) ∷ w))
-split-short none t u g w h v = unwind-short failed w tt v
-split-short (some n) t u g w h v = go (leb n (length g))
+split-short : (π ρ : Place) (o : Option ℕ) (t u : Term) (g : List Goal) (w : List Frame) → length g ≤ 256 → ShortFrames w →
+    Short (enterOrFail (splitBy o g) w λ p. running π t (p .leftGoals) (tensorLeft ρ u (p .rightGoals) ∷ w))
+split-short π ρ none t u g w h v = unwind-short failed w tt v
+split-short π ρ (some n) t u g w h v = go (leb n (length g))
   where
-    go : (x : Bool) → Short (enterOrFail (cond x (some (splitAt n g)) none) w λ p. running t (p .leftGoals) (tensorLeft u (p .rightGoals) ∷ w))
+    go : (x : Bool) → Short (enterOrFail (cond x (some (splitAt n g)) none) w λ p. running π t (p .leftGoals) (tensorLeft ρ u (p .rightGoals) ∷ w))
     go true = (omega (arith, length-take n g), (omega (arith, length-drop n g), v))
     go false = unwind-short failed w tt v
 
@@ -184,37 +185,37 @@ module _ (T : Table) (few : FewPremises T) where
   end-short : (s : Term) (o : Option (List Goal)) (w : List Frame) → ShortGiven o → ShortFrames w → Short (unwind (finished s o) w)
   end-short s o w h v = unwind-short (finished s o) w (finished-short s o h) v
 
-  begin-short : (t : Term) (g : List Goal) (w : List Frame) → length g ≤ 256 → ShortFrames w → Short (begin T t g w)
+  begin-short : (π : Place) (t : Term) (g : List Goal) (w : List Frame) → length g ≤ 256 → ShortFrames w → Short (begin T π t g w)
   unfolding begin
-  begin-short (atomic a) g w h v = end-short (atomic a) (ruleGives T a g) w (rule-short a g) v
-  begin-short id g w h v = end-short id (oneGoal g) w (id-short g) v
-  begin-short (label l t) g w h v = go (oneGoal g) (id-short g)
+  begin-short π (atomic a) g w h v = end-short (atomic a) (ruleGives T a g) w (rule-short a g) v
+  begin-short π id g w h v = end-short id (oneGoal g) w (id-short g) v
+  begin-short π (label l t) g w h v = go (oneGoal g) (id-short g)
     where
-      go : (o : Option (List Goal)) → ShortGiven o → Short (enterOrFail o w λ x. running t x (labelled l ∷ w))
+      go : (o : Option (List Goal)) → ShortGiven o → Short (enterOrFail o w λ x. running (past π 5) t x (labelled (past π 5) l ∷ w))
       go none c = unwind-short failed w tt v
       go (some x) c = (c, (omega arith, v))
-  begin-short (sequence t u) g w h v = (h, (omega arith, v))
-  begin-short (tensor t u) g w h v = split-short (tacticArity T t) t u g w h v
-  begin-short empty g w h v = end-short empty (noGoal g) w (none-short g) v
-  begin-short (alternation t u) g w h v = (h, (h, v))
-  begin-short (assert p) g w h v = end-short id (assertGives T p g) w (assert-short p g) v
-  begin-short (defined d) g w h v = go (findBody T d)
+  begin-short π (sequence t u) g w h v = (h, (omega arith, v))
+  begin-short π (tensor t u) g w h v = split-short (past π 3) (past π (3 + size t)) (tacticArity T t) t u g w h v
+  begin-short π empty g w h v = end-short empty (noGoal g) w (none-short g) v
+  begin-short π (alternation t u) g w h v = (h, (h, v))
+  begin-short π (assert p) g w h v = end-short id (assertGives T p g) w (assert-short p g) v
+  begin-short π (defined d) g w h v = go (findBody T d)
     where
-      go : (o : Option Term) → Short (enterOrFail o w λ t. running t g w)
+      go : (o : Option Term) → Short (enterOrFail o w λ t. running (record { file = 0; at = bodyPlace T d }) t g w)
       go none = unwind-short failed w tt v
       go (some t) = (h, v)
 
   short-on : (b n : ℕ) (κ : Control) → Short κ → Short (run T b (after n κ) .control)
   unfolding run step stepFrom
   short-on zero n κ h = h
-  short-on (suc b) n (running t g w) h = short-on b (suc n) (begin T t g w) (begin-short t g w (h .0) (h .1))
+  short-on (suc b) n (running π t g w) h = short-on b (suc n) (begin T π t g w) (begin-short π t g w (h .0) (h .1))
   short-on (suc b) n (stopped e) h = short-on b n (stopped e) h
 
   -- SHORT: if the job's list has at most 256 goals, then after any number of steps so has every list: that of the term to begin, those of the waiting
   -- terms, and the one given at the end.
-  pub run-short : (b : ℕ) (t : Term) (g : List Goal) → length g ≤ 256 → Short (run T b (start t g) .control)
+  pub run-short : (b : ℕ) (π : Place) (t : Term) (g : List Goal) → length g ≤ 256 → Short (run T b (start π t g) .control)
   unfolding start
-  run-short b t g h = short-on b 0 (running t g []) (h, tt)
+  run-short b π t g h = short-on b 0 (running π t g []) (h, tt)
 
 -- There are no more waiting terms than they and their fields together,
 waiting-length : (w : List Frame) → length w ≤ waiting w
@@ -226,26 +227,26 @@ pub waiting-goals : (w : List Frame) → ShortFrames w → waitingGoals w ≤ 25
 waiting-goals [] h = omega arith
 waiting-goals (x ∷ w) h = omega (arith, waiting-goals w (h .1))
 
-module _ (T : Table) (b : ℕ) (t : Term) (g : List Goal) where
+module _ (T : Table) (b : ℕ) (π : Place) (t : Term) (g : List Goal) where
   -- WAITING: after n steps there are at most n waiting terms, together with the fields that they keep.
-  pub running-kept : {n : ℕ} {u : Term} {h : List Goal} {w : List Frame} → run T b (start t g) ≡ after n (running u h w) →
+  pub running-kept : {n : ℕ} {ρ : Place} {u : Term} {h : List Goal} {w : List Frame} → run T b (start π t g) ≡ after n (running ρ u h w) →
       (waiting w ≤ n) × (length w ≤ n)
   running-kept {n} {w = w} q =
-      let k : waiting w ≤ n = subst (λ (σ : State). kept (σ .control) ≤ σ .steps) q (run-kept T b t g) in (k, omega (arith, waiting-length w))
+      let k : waiting w ≤ n = subst (λ (σ : State). kept (σ .control) ≤ σ .steps) q (run-kept T b π t g) in (k, omega (arith, waiting-length w))
 
   -- PROOF: the proof of a run has at most as many fields as steps were taken.
-  pub proof-fields : {n : ℕ} {s : Term} {h : List Goal} → run T b (start t g) ≡ after n (stopped (proved s h)) → fields s ≤ n
-  proof-fields q = subst (λ (σ : State). kept (σ .control) ≤ σ .steps) q (run-kept T b t g)
+  pub proof-fields : {n : ℕ} {s : Term} {h : List Goal} → run T b (start π t g) ≡ after n (stopped (proved s h)) → fields s ≤ n
+  proof-fields q = subst (λ (σ : State). kept (σ .control) ≤ σ .steps) q (run-kept T b π t g)
 
   module _ (few : FewPremises T) (l : length g ≤ 256) where
     -- GOALS: the term to begin has at most 256 goals, each waiting term keeps at most 256, and so all of them at most 256 for each step.
-    pub running-goals : {n : ℕ} {u : Term} {h : List Goal} {w : List Frame} → run T b (start t g) ≡ after n (running u h w) →
+    pub running-goals : {n : ℕ} {ρ : Place} {u : Term} {h : List Goal} {w : List Frame} → run T b (start π t g) ≡ after n (running ρ u h w) →
         (length h ≤ 256) × ShortFrames w × (waitingGoals w ≤ 256 * n)
     running-goals {n} {h = h} {w = w} q =
-        let s : (length h ≤ 256) × ShortFrames w = subst (λ (σ : State). Short (σ .control)) q (run-short T few b t g l) in
+        let s : (length h ≤ 256) × ShortFrames w = subst (λ (σ : State). Short (σ .control)) q (run-short T few b π t g l) in
         let k = running-kept q in
         (s .0, s .1, omega (arith, waiting-goals w (s .1)))
 
     -- The proof of a run gives at most 256 goals.
-    pub proof-goals : {n : ℕ} {s : Term} {h : List Goal} → run T b (start t g) ≡ after n (stopped (proved s h)) → length h ≤ 256
-    proof-goals q = subst (λ (σ : State). Short (σ .control)) q (run-short T few b t g l)
+    pub proof-goals : {n : ℕ} {s : Term} {h : List Goal} → run T b (start π t g) ≡ after n (stopped (proved s h)) → length h ≤ 256
+    proof-goals q = subst (λ (σ : State). Short (σ .control)) q (run-short T few b π t g l)

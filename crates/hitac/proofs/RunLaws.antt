@@ -9,7 +9,7 @@ use Rattle.format.specs.declared.values.Goal.{Goal}
 use Rattle.format.specs.Terms.{Term}
 use Rattle.tables.specs.Tables.{Table}
 use Rattle.hitac.specs.Outcomes.{Ending}
-use Rattle.hitac.specs.Machine.{Control, running, stopped, State, after, Running, begin, stepFrom, step, run, start}
+use Rattle.hitac.specs.Machine.{Place, Control, running, stopped, State, after, Running, begin, stepFrom, step, run, start}
 
 module _ (T : Table) where
   -- GOING ON (P1): after b steps, c more are a run of b + c.
@@ -32,24 +32,24 @@ module _ (T : Table) where
   -- A run that has not ended has used its whole budget.
   running-steps : (b n : ℕ) (κ : Control) → Running (run T b (after n κ) .control) → run T b (after n κ) .steps ≡ n + b
   unfolding run step stepFrom
-  running-steps zero n (running t g w) r = omega arith
+  running-steps zero n (running π t g w) r = omega arith
   running-steps zero n (stopped e) r = absurd r
-  running-steps (suc b) n (running t g w) r = running-steps b (suc n) (begin T t g w) r ∙ (omega arith)
+  running-steps (suc b) n (running π t g w) r = running-steps b (suc n) (begin T π t g w) r ∙ (omega arith)
   running-steps (suc b) n (stopped e) r = absurd (subst (λ (σ : State). Running (σ .control)) (run-stopped b n e) r)
 
   -- No run takes more steps than its budget.
   steps-within : (b n : ℕ) (κ : Control) → run T b (after n κ) .steps ≤ n + b
   unfolding run step stepFrom
   steps-within zero n κ = omega arith
-  steps-within (suc b) n (running t g w) = omega (arith, steps-within b (suc n) (begin T t g w))
+  steps-within (suc b) n (running π t g w) = omega (arith, steps-within b (suc n) (begin T π t g w))
   steps-within (suc b) n (stopped e) = omega (arith, ap (λ (σ : State). σ .steps) (run-stopped b n e))
 
   -- SPENT: when a run has not ended, its steps are the budget;
-  pub spent-steps : (b : ℕ) (t : Term) (g : List Goal) → Running (run T b (start t g) .control) → run T b (start t g) .steps ≡ b
+  pub spent-steps : (b : ℕ) (π : Place) (t : Term) (g : List Goal) → Running (run T b (start π t g) .control) → run T b (start π t g) .steps ≡ b
   unfolding start
-  spent-steps b t g r = running-steps b 0 (running t g []) r ∙ zero-add b
+  spent-steps b π t g r = running-steps b 0 (running π t g []) r ∙ zero-add b
 
   -- and they are never more.
-  pub run-steps : (b : ℕ) (t : Term) (g : List Goal) → run T b (start t g) .steps ≤ b
+  pub run-steps : (b : ℕ) (π : Place) (t : Term) (g : List Goal) → run T b (start π t g) .steps ≤ b
   unfolding start
-  run-steps b t g = omega (arith, steps-within b 0 (running t g []))
+  run-steps b π t g = omega (arith, steps-within b 0 (running π t g []))

@@ -22,3 +22,4 @@ pub mod Ends
 pub mod Evaluates
 pub mod EndingOf
 pub mod RunSizes
+pub mod Halts

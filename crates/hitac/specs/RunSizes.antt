@@ -15,21 +15,21 @@ endingFields (ended c) = 0
 
 -- the term fields that a waiting term keeps of a left term that ended
 abbrev pub frameFields : Frame → ℕ
-frameFields (labelled l) = 0
-frameFields (sequenceLeft u) = 0
-frameFields (sequenceRight s) = fields s
-frameFields (tensorLeft u g) = 0
-frameFields (tensorRight s g) = fields s
-frameFields (alternationLeft u g) = 0
+frameFields (labelled π l) = 0
+frameFields (sequenceLeft π u) = 0
+frameFields (sequenceRight π s) = fields s
+frameFields (tensorLeft π u g) = 0
+frameFields (tensorRight π s g) = fields s
+frameFields (alternationLeft π u g) = 0
 
 -- the goals that a waiting term keeps
 abbrev pub frameGoals : Frame → List Goal
-frameGoals (labelled l) = []
-frameGoals (sequenceLeft u) = []
-frameGoals (sequenceRight s) = []
-frameGoals (tensorLeft u g) = g
-frameGoals (tensorRight s g) = g
-frameGoals (alternationLeft u g) = g
+frameGoals (labelled π l) = []
+frameGoals (sequenceLeft π u) = []
+frameGoals (sequenceRight π s) = []
+frameGoals (tensorLeft π u g) = g
+frameGoals (tensorRight π s g) = g
+frameGoals (alternationLeft π u g) = g
 
 -- the waiting terms and the fields that they keep, together
 abbrev pub waiting : List Frame → ℕ
@@ -43,7 +43,7 @@ waitingGoals (x ∷ w) = length (frameGoals x) + waitingGoals w
 
 -- of the whole state: the waiting terms and kept fields, or the fields of the proof
 abbrev pub kept : Control → ℕ
-kept (running t g w) = waiting w
+kept (running π t g w) = waiting w
 kept (stopped e) = endingFields e
 
 -- every list of at most 256 goals: those of the waiting terms
@@ -59,5 +59,5 @@ ShortEnding (ended c) = Unit {0}
 
 -- and, while a term is to begin, its goals
 abbrev pub Short : Control → Type 0
-Short (running t g w) = (length g ≤ 256) × ShortFrames w
+Short (running π t g w) = (length g ≤ 256) × ShortFrames w
 Short (stopped e) = ShortEnding e

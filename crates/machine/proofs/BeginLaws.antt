@@ -17,7 +17,7 @@ use Rattle.tables.specs.Tables.{Table}
 use Rattle.hitac.specs.Outcomes as outcome
 use Rattle.hitac.specs.Outcomes.{proved, oneGoal, noGoal, assertGives, finished}
 use Rattle.hitac.specs.Machine as M
-use Rattle.hitac.specs.Machine.{labelled, sequenceLeft, alternationLeft}
+use Rattle.hitac.specs.Machine.{past, labelled, sequenceLeft, alternationLeft}
 use Rattle.arities.specs.Layout.{framesEnd}
 use Rattle.tactics.specs.Memory.{Only}
 use Rattle.tactics.specs.Numbers.{putHeader}
@@ -29,10 +29,14 @@ use Rattle.frames.specs.declared.Frame.{Frame}
 use Rattle.frames.specs.Frames.{frameAt, putFrame}
 use Rattle.frames.proofs.FrameLaws.{only-frame, frame-same}
 use Rattle.machine.specs.declared.state.State.{State}
-use Rattle.machine.specs.Shows.{GoalsIs, FrameIs, FramesAt, frameAside, setAside, Sizes, Runs, Ends, Config, next, done, Holds}
+use Rattle.machine.specs.Shows.{here, GoalsIs, FrameIs, FramesAt, frameAside, setAside, Sizes, Runs, Ends, Config, next, done, Holds}
 use Rattle.machine.specs.Begun.{enter, Room, Begins, failed, kept, entered, idNext, emptyNext, assertNext, sequenceNext, alternationNext, labelNext, sequenceFrame, alternationFrame, labelFrame}
 use Rattle.machine.specs.Step.{Grown}
 use Rattle.machine.proofs.KeepLaws.{kept-output, kept-behind, goals-kept, frames-kept}
+
+-- the place so many bytes on from the state's
+pub place-on : (s : State) (π : M.Place) (n m : ℕ) → here s ≡ π → m ≡ s .at + n → _≡_ {A = M.Place} (record { file = s .file; at = m }) (past π n)
+place-on s π n m q e = (λ i. record { file = s .file; at = e i }) ∙ ap (λ (x : M.Place). past x n) q
 
 -- a frame laid on the others
 pushed : (table job w : List ℕ) (arena top o o′ : ℕ) (f : Frame) (x : M.Frame) (k : List M.Frame)
@@ -57,9 +61,9 @@ module _ (w : List ℕ) (s : State) (room : Room w s) where
   fail-grown r q = subst (λ (x : State). Grown w s w x) (sym q) (record { beyond = λ i b. refl; same-length = refl; one-step = refl })
 
   -- the term fails
-  pub fail-holds : (table job : List ℕ) (t : Term) (g : List Goal) (k : List M.Frame) (r : State) → r ≡ failed s → Runs table job w s t g k → Holds table job w r (done outcome.failed k)
+  pub fail-holds : (table job : List ℕ) (π : M.Place) (t : Term) (g : List Goal) (k : List M.Frame) (r : State) → r ≡ failed s → Runs table job w s π t g k → Holds table job w r (done outcome.failed k)
   unfolding Holds Ends
-  fail-holds table job t g k r q h = subst (λ (x : State). Holds table job w x (done outcome.failed k)) (sym q) (record {
+  fail-holds table job π t g k r q h = subst (λ (x : State). Holds table job w x (done outcome.failed k)) (sym q) (record {
     mode-is = refl;
     from = s .out;
     below = omega arith;
@@ -67,9 +71,9 @@ module _ (w : List ℕ) (s : State) (room : Room w s) where
     sizes = record { output-fits = omega (arith, h .sizes .output-fits); goals-fit = omega (arith, h .sizes .goals-fit); frames-fit = omega (arith, h .sizes .frames-fit) };
   })
 
-  pub fail-begins : (t : Term) (c : List Goal → List M.Frame → Config) → ((g : List Goal) (k : List M.Frame) → GoalsIs w (s .arena) (s .start) (s .count) g → c g k ≡ done outcome.failed k)
+  pub fail-begins : (t : Term) (c : M.Place → List Goal → List M.Frame → Config) → ((π : M.Place) (g : List Goal) (k : List M.Frame) → GoalsIs w (s .arena) (s .start) (s .count) g → c π g k ≡ done outcome.failed k)
       → (r : State) → r ≡ failed s → Begins w s w r t c
-  fail-begins t c e r q table job g k h = subst (λ (y : Config). Holds table job w r y) (sym (e g k (h .goals))) (fail-holds table job t g k r q h)
+  fail-begins t c e r q table job π g k h = subst (λ (y : Config). Holds table job w r y) (sym (e π g k (h .goals))) (fail-holds table job π t g k r q h)
 
   -- what lies elsewhere than the output stays
   module _ (v : List ℕ) (n : ℕ) (only : Only (s .out) (s .out + n) w v) (small : n ≤ 5) where
@@ -90,8 +94,8 @@ module _ (w : List ℕ) (s : State) (room : Room w s) where
       subst (λ (x : State). Grown w s v x) (sym q₂) (record { beyond = beyond-output v 3 only (omega arith); same-length = only .same-length; one-step = refl })
 
   -- the term gives its goals back
-  keep-begins : (tag : ℕ) (p t : Term) (c : List Goal → List M.Frame → Config) → ((v : List ℕ) (at : ℕ) → Head v at tag 0 → Stands v at p) → size p ≡ 3
-      → ((g : List Goal) (k : List M.Frame) → GoalsIs w (s .arena) (s .start) (s .count) g → c g k ≡ done (proved p g) k)
+  keep-begins : (tag : ℕ) (p t : Term) (c : M.Place → List Goal → List M.Frame → Config) → ((v : List ℕ) (at : ℕ) → Head v at tag 0 → Stands v at p) → size p ≡ 3
+      → ((π : M.Place) (g : List Goal) (k : List M.Frame) → GoalsIs w (s .arena) (s .start) (s .count) g → c π g k ≡ done (proved p g) k)
       → (v : List ℕ) (r : State) → v ≡ putHeader w (s .out) tag 0 → r ≡ kept s → Begins w s v r t c
   unfolding Holds Ends
   keep-begins tag p t c st three e v r q₁ q₂ =
@@ -99,7 +103,7 @@ module _ (w : List ℕ) (s : State) (room : Room w s) where
       let y = putHeader w (s .out) tag 0 in
       subst (λ (x : State). Begins w s v x t c) (sym q₂)
       (subst (λ (z : List ℕ). Begins w s z (kept s) t c) (sym q₁)
-      (λ table job g k h. subst (λ (z : Config). Holds table job y (kept s) z) (sym (e g k (h .goals)))
+      (λ table job π g k h. subst (λ (z : Config). Holds table job y (kept s) z) (sym (e π g k (h .goals)))
       (record {
         mode-is = refl;
         from = s .out;
@@ -127,38 +131,38 @@ module _ (w : List ℕ) (s : State) (room : Room w s) where
   three-empty = refl
 
   pub id-fails : (r : State) → (s .count ≡ 1 → ⊥) → r ≡ failed s → Begins w s w r id idNext × Grown w s w r
-  id-fails r n q = (fail-begins id idNext (λ g k h. by-none w (s .start) (s .count) oneGoal (λ o. done (finished id o) k) g (h .are) (not-one-at w (s .start) _ (s .count) n)) r q, fail-grown r q)
+  id-fails r n q = (fail-begins id idNext (λ π g k h. by-none w (s .start) (s .count) oneGoal (λ o. done (finished id o) k) g (h .are) (not-one-at w (s .start) _ (s .count) n)) r q, fail-grown r q)
 
   pub id-keeps : (v : List ℕ) (r : State) → s .count ≡ 1 → v ≡ putHeader w (s .out) 17 0 → r ≡ kept s → Begins w s v r id idNext × Grown w s v r
   id-keeps v r n q₁ q₂ =
-      (keep-begins 17 id id idNext stands-id three-id (λ g k h. by-same w (s .start) (s .count) oneGoal (λ o. done (finished id o) k) g (h .are) (same-one w (s .start) (s .count) n)) v r q₁ q₂, keep-grown 17 v r q₁ q₂)
+      (keep-begins 17 id id idNext stands-id three-id (λ π g k h. by-same w (s .start) (s .count) oneGoal (λ o. done (finished id o) k) g (h .are) (same-one w (s .start) (s .count) n)) v r q₁ q₂, keep-grown 17 v r q₁ q₂)
 
   pub empty-fails : (r : State) → (s .count ≡ 0 → ⊥) → r ≡ failed s → Begins w s w r empty emptyNext × Grown w s w r
-  empty-fails r n q = (fail-begins empty emptyNext (λ g k h. by-none w (s .start) (s .count) noGoal (λ o. done (finished empty o) k) g (h .are) (not-none-at w (s .start) (s .count) n)) r q, fail-grown r q)
+  empty-fails r n q = (fail-begins empty emptyNext (λ π g k h. by-none w (s .start) (s .count) noGoal (λ o. done (finished empty o) k) g (h .are) (not-none-at w (s .start) (s .count) n)) r q, fail-grown r q)
 
   pub empty-keeps : (v : List ℕ) (r : State) → s .count ≡ 0 → v ≡ putHeader w (s .out) 21 0 → r ≡ kept s → Begins w s v r empty emptyNext × Grown w s v r
   empty-keeps v r n q₁ q₂ =
-      (keep-begins 21 empty empty emptyNext stands-empty three-empty (λ g k h. by-same w (s .start) (s .count) noGoal (λ o. done (finished empty o) k) g (h .are) (none-at w (s .start) (s .count) n)) v r q₁ q₂, keep-grown 21 v r q₁ q₂)
+      (keep-begins 21 empty empty emptyNext stands-empty three-empty (λ π g k h. by-same w (s .start) (s .count) noGoal (λ o. done (finished empty o) k) g (h .are) (none-at w (s .start) (s .count) n)) v r q₁ q₂, keep-grown 21 v r q₁ q₂)
 
   abbrev Asserts : ℕ → List ℕ → State → Type 0
   Asserts value v r = ((T : Table) (γ : Goal) → value ≡ γ .0 → Begins w s v r (assert γ) (assertNext T γ)) × Grown w s v r
 
   pub assert-many-end : (value : ℕ) (r : State) → (s .count ≡ 1 → ⊥) → r ≡ failed s → Asserts value w r
   assert-many-end value r n q = (
-    λ T γ e. fail-begins (assert γ) (assertNext T γ) (λ g k h. by-none w (s .start) (s .count) (assertGives T γ) (λ o. done (finished id o) k) g (h .are) (not-one-at w (s .start) _ (s .count) n)) r q,
+    λ T γ e. fail-begins (assert γ) (assertNext T γ) (λ π g k h. by-none w (s .start) (s .count) (assertGives T γ) (λ o. done (finished id o) k) g (h .are) (not-one-at w (s .start) _ (s .count) n)) r q,
     fail-grown r q,
   )
 
   pub assert-other-end : (value : ℕ) (r : State) → (word w (s .start) ≡ value → ⊥) → r ≡ failed s → Asserts value w r
   assert-other-end value r n q = (
     λ T γ e. fail-begins (assert γ) (assertNext T γ)
-        (λ g k h. by-none w (s .start) (s .count) (assertGives T γ) (λ o. done (finished id o) k) g (h .are) (assert-not-at w (s .start) T γ (s .count) (λ i. n (i ∙ sym e)))) r q,
+        (λ π g k h. by-none w (s .start) (s .count) (assertGives T γ) (λ o. done (finished id o) k) g (h .are) (assert-not-at w (s .start) T γ (s .count) (λ i. n (i ∙ sym e)))) r q,
     fail-grown r q,
   )
 
   pub assert-end : (value : ℕ) (v : List ℕ) (r : State) → s .count ≡ 1 → word w (s .start) ≡ value → v ≡ putHeader w (s .out) 17 0 → r ≡ kept s → Asserts value v r
   assert-end value v r n i q₁ q₂ = (
-    λ T γ e. keep-begins 17 id (assert γ) (assertNext T γ) stands-id three-id (λ g k h. by-same w (s .start) (s .count) (assertGives T γ) (λ o. done (finished id o) k) g (h .are) (assert-at w (s .start) T γ (s .count) n (i ∙ e))) v r q₁ q₂,
+    λ T γ e. keep-begins 17 id (assert γ) (assertNext T γ) stands-id three-id (λ π g k h. by-same w (s .start) (s .count) (assertGives T γ) (λ o. done (finished id o) k) g (h .are) (assert-at w (s .start) T γ (s .count) n (i ∙ e))) v r q₁ q₂,
     keep-grown 17 v r q₁ q₂,
   )
 
@@ -208,13 +212,14 @@ module _ (w : List ℕ) (s : State) (room : Room w s) where
       let push = only-push y (only .same-length) f in
       let tag : getD z (s .out) 0 ≡ 19 = push .kept .below (s .out) (omega (arith, room .output-fits, room .frames-low)) ∙ header-tag w (s .out) 19 0 (omega (arith, room .output-fits, room .space)) in
       subst (λ (x : List ℕ). ((t u : Term) → right ≡ s .at + 3 + size t → Begins w s x r (sequence t u) (sequenceNext t u)) × Grown w s x r) (sym q) (
-        λ t u e table job g k h. record {
+        λ t u e table job π g k h. record {
           mode-is = refl;
+          place-is = place-on s π 3 (s .at + 3) (h .place-is) refl;
           stands = h .stands .1;
           goals = goals-under y (only .same-length) f (s .start) (s .count) g (goals-stay y 3 only (omega arith) g (h .goals));
-          frames = push-here y (only .same-length) f table job (s .out + 3) (sequenceLeft u) k refl (frames-stay y 3 only (omega arith) table job k (h .frames))
-              (refl, refl, tag, subst (λ (p : ℕ). Stands (source table job (s .file)) p u) (sym e) (h .stands .2));
-          sizes = enter-sizes (sequenceLeft u) k 3 (s .count) (s .out + 3) (h .sizes) (omega arith) (omega arith);
+          frames = push-here y (only .same-length) f table job (s .out + 3) (sequenceLeft (past π (3 + size t)) u) k refl (frames-stay y 3 only (omega arith) table job k (h .frames))
+              (refl, refl, tag, subst (λ (p : ℕ). Stands (source table job (s .file)) p u) (sym e) (h .stands .2), place-on s π (3 + size t) right (h .place-is) (omega (arith, e)));
+          sizes = enter-sizes (sequenceLeft (past π (3 + size t)) u) k 3 (s .count) (s .out + 3) (h .sizes) (omega arith) (omega arith);
         },
         enter-grown y (only .same-length) f (beyond-output y 3 only (omega arith)) 3 (s .count) (s .out + 3),
       )
@@ -227,15 +232,16 @@ module _ (w : List ℕ) (s : State) (room : Room w s) where
       let z = putFrame w (s .top - 14) f in
       let r = entered s 3 (s .count) (s .out) in
       subst (λ (x : List ℕ). ((t u : Term) → right ≡ s .at + 3 + size t → Begins w s x r (alternation t u) (alternationNext t u)) × Grown w s x r) (sym q) (
-        λ t u e table job g k h.
+        λ t u e table job π g k h.
             let same : GoalsIs z (s .arena) (s .start) (s .count) g = goals-under w refl f (s .start) (s .count) g (h .goals) in
             record {
               mode-is = refl;
+              place-is = place-on s π 3 (s .at + 3) (h .place-is) refl;
               stands = h .stands .1;
               goals = same;
-              frames = push-here w refl f table job (s .out) (alternationLeft u g) k refl (h .frames)
-                  (refl, refl, subst (λ (p : ℕ). Stands (source table job (s .file)) p u) (sym e) (h .stands .2), same);
-              sizes = enter-sizes (alternationLeft u g) k 3 (s .count) (s .out) (h .sizes) (omega arith) (omega arith);
+              frames = push-here w refl f table job (s .out) (alternationLeft (past π (3 + size t)) u g) k refl (h .frames)
+                  (refl, refl, subst (λ (p : ℕ). Stands (source table job (s .file)) p u) (sym e) (h .stands .2), same, place-on s π (3 + size t) right (h .place-is) (omega (arith, e)));
+              sizes = enter-sizes (alternationLeft (past π (3 + size t)) u g) k 3 (s .count) (s .out) (h .sizes) (omega arith) (omega arith);
             },
         enter-grown w refl f (λ i b. refl) 3 (s .count) (s .out),
       )
@@ -246,7 +252,7 @@ module _ (w : List ℕ) (s : State) (room : Room w s) where
   pub label-fails : (value : ℕ) (r : State) → (s .count ≡ 1 → ⊥) → r ≡ failed s → Labels value w r
   label-fails value r n q = (
     λ l t e. fail-begins (label l t) (labelNext l t)
-        (λ g k h. by-none w (s .start) (s .count) oneGoal (λ o. enter o k (λ x. next t x (labelled l ∷ k))) g (h .are) (not-one-at w (s .start) _ (s .count) n)) r q,
+        (λ π g k h. by-none w (s .start) (s .count) oneGoal (λ o. enter o k (λ x. next (past π 5) t x (labelled (past π 5) l ∷ k))) g (h .are) (not-one-at w (s .start) _ (s .count) n)) r q,
     fail-grown r q,
   )
 
@@ -271,16 +277,17 @@ module _ (w : List ℕ) (s : State) (room : Room w s) where
       let val : word z (s .out + 3) ≡ value = same-word y z 0 (s .out + 5) (s .out + 3) (λ i a b. push .kept .below i (omega (arith, room .output-fits, room .frames-low))) (omega arith) (omega arith)
       ∙ word-same y₁ (s .out + 3) value (omega (arith, l₁, room .output-fits, room .space)) in
       subst (λ (x : List ℕ). Labels value x r) (sym q) (
-        λ l t e table job g k h.
-            let one : labelNext l t g k ≡ next t g (labelled l ∷ k) =
-            ap (λ (o : Option (List Goal)). enter o k (λ x. next t x (labelled l ∷ k))) (subst (λ (x : List Goal). oneGoal x ≡ some x) (h .goals .are) (same-one w (s .start) (s .count) n)) in
+        λ l t e table job π g k h.
+            let one : labelNext l t π g k ≡ next (past π 5) t g (labelled (past π 5) l ∷ k) =
+            ap (λ (o : Option (List Goal)). enter o k (λ x. next (past π 5) t x (labelled (past π 5) l ∷ k))) (subst (λ (x : List Goal). oneGoal x ≡ some x) (h .goals .are) (same-one w (s .start) (s .count) n)) in
             subst (λ (x : Config). Holds table job z r x) (sym one)
             (record {
               mode-is = refl;
+              place-is = place-on s π 5 (s .at + 5) (h .place-is) refl;
               stands = h .stands .2;
               goals = goals-under y (only .same-length) f (s .start) (s .count) g (goals-stay y 5 only (omega arith) g (h .goals));
-              frames = push-here y (only .same-length) f table job (s .out + 5) (labelled l) k refl (frames-stay y 5 only (omega arith) table job k (h .frames)) (refl, refl, tag, val ∙ e);
-              sizes = enter-sizes (labelled l) k 5 (s .count) (s .out + 5) (h .sizes) (omega arith) (omega arith);
+              frames = push-here y (only .same-length) f table job (s .out + 5) (labelled (past π 5) l) k refl (frames-stay y 5 only (omega arith) table job k (h .frames)) (refl, refl, tag, val ∙ e, place-on s π 5 (s .at + 5) (h .place-is) refl);
+              sizes = enter-sizes (labelled (past π 5) l) k 5 (s .count) (s .out + 5) (h .sizes) (omega arith) (omega arith);
             }),
         enter-grown y (only .same-length) f (beyond-output y 5 only (omega arith)) 5 (s .count) (s .out + 5),
       )

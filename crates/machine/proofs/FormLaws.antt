@@ -25,16 +25,17 @@ use Rattle.tables.specs.declared.lookup.BodyFound.{BodyFound}
 use Rattle.tables.specs.declared.lookup.BodyFound.the-variants as B
 use Rattle.tables.specs.Tables.{Table}
 use Rattle.tables.specs.Standing.{TableStands}
-use Rattle.tables.specs.Found.{ruleFound, FindsRule, BodyStands, FindsBody}
+use Rattle.tables.specs.Found.{ruleFound, FindsRule, BodyStands, BodyPlaced, FindsBody}
+use Rattle.tables.specs.Places.{bodyPlace}
 use Rattle.hitac.specs.Outcomes.{splitAt, finished, foundPremises, ruleGives}
-use Rattle.hitac.specs.Machine.{tensorLeft}
+use Rattle.hitac.specs.Machine.{past, tensorLeft}
 use Rattle.arities.specs.Layout.{outputEnd}
 use Rattle.arities.specs.Arities.{arityCode}
 use Rattle.tactics.specs.Memory.{Same, Only}
 use Rattle.tactics.specs.Numbers.{putHeader}
 use Rattle.tactics.proofs.MemoryLaws.{only-then, only-wider, only-word, only-copy, same-word, same-head}
 use Rattle.tactics.proofs.FormLaws.{not-one-at, by-none}
-use Rattle.tactics.proofs.FoundLaws.{rule-gives, body-stands}
+use Rattle.tactics.proofs.FoundLaws.{rule-gives, body-stands, body-placed}
 use Rattle.tactics.proofs.NumberLaws.{only-header, header-tag, header-head}
 use Rattle.tactics.specs.Source.{source}
 use Rattle.frames.specs.Frames.{putFrame}
@@ -43,7 +44,7 @@ use Rattle.machine.specs.Shows.{GoalsIs, FrameIs, Ends, Config, next, do
 use Rattle.machine.specs.Begun.{enter, Room, Begins, BeginsIn, failed, entered, tensorNext, tensorFrame, atomicNext, ruleNext, used, definedNext, unfolded}
 use Rattle.machine.specs.Step.{Grown}
 use Rattle.machine.proofs.KeepLaws.{kept-behind, frames-kept}
-use Rattle.machine.proofs.BeginLaws.{fail-holds, fail-begins, fail-grown, goals-stay, frames-stay, beyond-output, only-push, goals-under, push-here, enter-grown, enter-sizes}
+use Rattle.machine.proofs.BeginLaws.{place-on, fail-holds, fail-begins, fail-grown, goals-stay, frames-stay, beyond-output, only-push, goals-under, push-here, enter-grown, enter-sizes}
 
 -- the number that stands for an arity
 code-none : (o : Option ℕ) (n : ℕ) → n ≡ arityCode o → n ≡ 0 → o ≡ none
@@ -64,15 +65,15 @@ module _ (w : List ℕ) (s : State) (room : Room w s) where
 
   pub tensor-without : (right n : ℕ) (r : State) → n ≡ 0 → r ≡ failed s → Tensors right n w r
   tensor-without right n r z q = (
-    λ o t u e a. fail-begins w s room (tensor t u) (tensorNext o t u) (λ g k h. ap (λ (x : Option ℕ). tensorNext x t u g k) (code-none o n a z)) r q,
+    λ o t u e a. fail-begins w s room (tensor t u) (tensorNext o t u) (λ π g k h. ap (λ (x : Option ℕ). tensorNext x t u π g k) (code-none o n a z)) r q,
     fail-grown w s room r q,
   )
 
   pub tensor-short : (right n : ℕ) (r : State) → (n ≡ 0 → ⊥) → s .count < n - 1 → r ≡ failed s → Tensors right n w r
   tensor-short right n r z c q = (
     λ o t u e a. fail-begins w s room (tensor t u) (tensorNext o t u)
-        (λ g k h. ap (λ (x : Option ℕ). tensorNext x t u g k) (code-some o n a z)
-        ∙ ap (λ (b : Bool). enter (cond b (some (splitAt (n - 1) g)) none) k (λ p. next t (p .leftGoals) (tensorLeft u (p .rightGoals) ∷ k)))
+        (λ π g k h. ap (λ (x : Option ℕ). tensorNext x t u π g k) (code-some o n a z)
+        ∙ ap (λ (b : Bool). enter (cond b (some (splitAt (n - 1) g)) none) k (λ p. next (past π 3) t (p .leftGoals) (tensorLeft (past π (3 + size t)) u (p .rightGoals) ∷ k)))
         (lt-leb (n - 1) (length g) (omega (arith, c, count-of g (h)))))
         r q,
     fail-grown w s room r q,
@@ -94,25 +95,26 @@ module _ (w : List ℕ) (s : State) (room : Room w s) where
       let push = only-push w s room y (only .same-length) f in
       let tag : getD z (s .out) 0 ≡ 20 = push .kept .below (s .out) (omega (arith, room .output-fits, room .frames-low)) ∙ header-tag w (s .out) 20 0 (omega (arith, room .output-fits, room .space)) in
       subst (λ (x : List ℕ). ((t u : Term) → right ≡ s .at + 3 + size t → Begins w s x r (tensor t u) (tensorNext (some n) t u)) × Grown w s x r) (sym q) (
-        λ t u e table job g k h.
+        λ t u e table job π g k h.
             let all : GoalsIs z (s .arena) (s .start) (s .count) g =
             goals-under w s room y (only .same-length) f (s .start) (s .count) g (goals-stay w s room y 3 only (omega arith) g (h .goals)) in
             let left : GoalsIs z (s .arena) (s .start) n (take n g) =
             record { low = all .low; high = omega (arith, all .high, c); few = omega (arith, all .few, c); are = sym (take-goals z (s .start) n (s .count) c) ∙ ap (λ (l : List Goal). take n l) (all .are) } in
             let others : GoalsIs z (s .arena) (s .start + n * 2) (s .count - n) (drop n g) =
             record { low = omega (arith, all .low); high = omega (arith, all .high, c); few = omega (arith, all .few); are = sym (drop-goals z (s .start) n (s .count) c) ∙ ap (λ (l : List Goal). drop n l) (all .are) } in
-            let so : tensorNext (some n) t u g k ≡ next t (take n g) (tensorLeft u (drop n g) ∷ k) =
-            ap (λ (b : Bool). enter (cond b (some (splitAt n g)) none) k (λ p. next t (p .leftGoals) (tensorLeft u (p .rightGoals) ∷ k)))
+            let so : tensorNext (some n) t u π g k ≡ next (past π 3) t (take n g) (tensorLeft (past π (3 + size t)) u (drop n g) ∷ k) =
+            ap (λ (b : Bool). enter (cond b (some (splitAt n g)) none) k (λ p. next (past π 3) t (p .leftGoals) (tensorLeft (past π (3 + size t)) u (p .rightGoals) ∷ k)))
             (le-leb n (length g) (omega (arith, c, count-of g (h .goals)))) in
             subst (λ (x : Config). Holds table job z r x) (sym so)
             (record {
               mode-is = refl;
+              place-is = place-on s π 3 (s .at + 3) (h .place-is) refl;
               stands = h .stands .1;
               goals = left;
-              frames = push-here w s room y (only .same-length) f table job (s .out + 3) (tensorLeft u (drop n g)) k refl
+              frames = push-here w s room y (only .same-length) f table job (s .out + 3) (tensorLeft (past π (3 + size t)) u (drop n g)) k refl
                   (frames-stay w s room y 3 only (omega arith) table job k (h .frames))
-                  (refl, refl, tag, subst (λ (p : ℕ). Stands (source table job (s .file)) p u) (sym e) (h .stands .2), others);
-              sizes = enter-sizes w s room (tensorLeft u (drop n g)) k 3 n (s .out + 3) (h .sizes) (omega arith) (omega arith);
+                  (refl, refl, tag, subst (λ (p : ℕ). Stands (source table job (s .file)) p u) (sym e) (h .stands .2), others, place-on s π (3 + size t) right (h .place-is) (omega (arith, e)));
+              sizes = enter-sizes w s room (tensorLeft (past π (3 + size t)) u (drop n g)) k 3 n (s .out + 3) (h .sizes) (omega arith) (omega arith);
             }),
         enter-grown w s room y (only .same-length) f (beyond-output w s room y 3 only (omega arith)) 3 n (s .out + 3),
       )
@@ -142,7 +144,7 @@ module _ (w : List ℕ) (s : State) (room : Room w s) where
       let val : word v (s .out + 3) ≡ name =
       same-word y v 0 (s .out + 5) (s .out + 3) out-same (omega arith) (omega arith) ∙ ap (λ (x : List ℕ). word x (s .out + 3)) q₂
       ∙ word-same y₁ (s .out + 3) name (omega (arith, l₁, room .output-fits, room .space)) in (
-        λ a e table job g k h. record {
+        λ a e table job π g k h. record {
           mode-is = refl;
           from = s .out;
           stands = (head, val ∙ e);
@@ -167,7 +169,7 @@ module _ (w : List ℕ) (s : State) (room : Room w s) where
 
     pub rule-fails : (r : State) → (s .count ≡ 1 → ⊥) → r ≡ failed s → UsesRule w r
     rule-fails r c q = (
-      λ T a st e. fail-begins w s room (atomic a) (ruleNext T a) (λ g k h. by-none w (s .start) (s .count) (ruleGives T a) (λ o. done (finished (atomic a) o) k) g (h .are) (not-one-at w (s .start) _ (s .count) c)) r q,
+      λ T a st e. fail-begins w s room (atomic a) (ruleNext T a) (λ π g k h. by-none w (s .start) (s .count) (ruleGives T a) (λ o. done (finished (atomic a) o) k) g (h .are) (not-one-at w (s .start) _ (s .count) c)) r q,
       fail-grown w s room r q,
     )
 
@@ -176,7 +178,7 @@ module _ (w : List ℕ) (s : State) (room : Room w s) where
       unfolding ruleFound
       rule-missing r m q = (
         λ T a st i. fail-begins w s room (atomic a) (ruleNext T a)
-            (λ g k h. ap (λ (x : Option (List Goal)). done (finished (atomic a) x) k) (rule-gives bytes first name goal o f w (s .start) (s .count) c e T a g st i (h .are) ∙ ap (λ (x : RuleFound). foundPremises (ruleFound bytes x)) m)) r q,
+            (λ π g k h. ap (λ (x : Option (List Goal)). done (finished (atomic a) x) k) (rule-gives bytes first name goal o f w (s .start) (s .count) c e T a g st i (h .are) ∙ ap (λ (x : RuleFound). foundPremises (ruleFound bytes x)) m)) r q,
         fail-grown w s room r q,
       )
 
@@ -184,8 +186,8 @@ module _ (w : List ℕ) (s : State) (room : Room w s) where
         pub rule-used : (v : List ℕ) (r : State) → ((a : RuleName) → name .0 ≡ a .0 → Begins w s v r (atomic a) (atomicNext a (some (goalsAt bytes place n)))) → Grown w s v r → UsesRule v r
         unfolding ruleFound
         rule-used v r b gr = (
-          λ T a st i table job g k h. subst (λ (x : Option (List Goal)). Holds table job v r (done (finished (atomic a) x) k))
-              (sym (rule-gives bytes first name goal o f w (s .start) (s .count) c e T a g st i (h .goals .are) ∙ ap (λ (x : RuleFound). foundPremises (ruleFound bytes x)) m)) (b a i table job g k h),
+          λ T a st i table job π g k h. subst (λ (x : Option (List Goal)). Holds table job v r (done (finished (atomic a) x) k))
+              (sym (rule-gives bytes first name goal o f w (s .start) (s .count) c e T a g st i (h .goals .are) ∙ ap (λ (x : RuleFound). foundPremises (ruleFound bytes x)) m)) (b a i table job π g k h),
           gr,
         )
 
@@ -195,20 +197,21 @@ module _ (w : List ℕ) (s : State) (room : Room w s) where
     Unfolds r = ((T : Table) (d : TacticNo) (job : List ℕ) → TableStands bytes first T → number .0 ≡ d .0 → BeginsIn bytes job w s w r (defined d) (definedNext T d)) × Grown w s w r
 
     pub body-missing : (r : State) → o ≡ B.Missing → r ≡ failed s → Unfolds r
-    unfolding BodyStands
+    unfolding BodyStands BodyPlaced
     body-missing r m q = (
-      λ T d job st i g k h. subst (λ (x : Option Term). Holds bytes job w r (enter x k (λ t. next t g k))) (sym (body-stands bytes first number o f T d B.Missing st i m)) (fail-holds w s room bytes job (defined d) g k r q h),
+      λ T d job st i π g k h. subst (λ (x : Option Term). Holds bytes job w r (enter x k (λ t. next (record { file = 0; at = bodyPlace T d }) t g k))) (sym (body-stands bytes first number o f T d B.Missing st i m)) (fail-holds w s room bytes job π (defined d) g k r q h),
       fail-grown w s room r q,
     )
 
     pub body-found : (place : ℕ) → o ≡ B.At place → Unfolds (unfolded s place)
-    unfolding BodyStands Holds
+    unfolding BodyStands BodyPlaced Holds
     body-found place m = (
-      λ T d job st i g k h.
+      λ T d job st i π g k h.
           let b = body-stands bytes first number o f T d (B.At place) st i m in
-          subst (λ (x : Option Term). Holds bytes job w (unfolded s place) (enter x k (λ t. next t g k))) (sym (b .1))
+          subst (λ (x : Option Term). Holds bytes job w (unfolded s place) (enter x k (λ t. next (record { file = 0; at = bodyPlace T d }) t g k))) (sym (b .1))
           (record {
             mode-is = refl;
+            place-is = ap (λ (x : ℕ). record { file = 0; at = x }) (body-placed bytes first number o f T d (B.At place) st i m);
             stands = b .2;
             goals = h .goals;
             frames = h .frames;

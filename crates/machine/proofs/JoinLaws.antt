@@ -58,14 +58,14 @@ module _ (w : List ℕ) (s : State) (wait : Waiting w s) (m : s .mode ≡ 1) (f 
 
   -- a statement of every ending and every frame is one of a proof and a tensor whose right term ended
   if-beside : (P : Ending → M.Frame → Type 0) (table job : List ℕ) (k : List M.Frame)
-      → ((q : Term) (i : List Goal) (p : Term) (g : List Goal) → Beside table job q i p g k → P (proved p g) (tensorRight q i))
+      → ((π : M.Place) (q : Term) (i : List Goal) (p : Term) (g : List Goal) → Beside table job q i p g k → P (proved p g) (tensorRight π q i))
       → (z : Ending) (x : M.Frame) → Ends table job w s z (x ∷ k) → P z x
   unfolding FrameIs setAside
   if-beside P table job k h z x ends =
       if-proved table job w s (x ∷ k) (λ y. P y x) m
       (λ p g a. let t = innermost table job w s f (a .from) x k e (a .frames) in
       by-kind (λ y. Proved table job w s p g (y ∷ k) → FrameIs table job w (s .arena) f (a .from) y → P (proved p g) y) 5
-      (λ q i b o. h q i p g (record {
+      (λ π q i b o. h π q i p g (record {
         stands = subst (λ (y : ℕ). Stands w y p) (o .1) (a .stands);
         out-is = omega (arith, a .out-is, o .1);
         goals = a .goals;
@@ -79,7 +79,7 @@ module _ (w : List ℕ) (s : State) (wait : Waiting w s) (m : s .mode ≡ 1) (f 
       })) x (sym n ∙ t .kind) a (t .frame)) z ends
 
   pub joins : Joins w s f
-  joins = if-beside (λ z x. Joins w s f) (wait .table) (wait .job) (wait .frames) (λ q i p g b. record {
+  joins = if-beside (λ z x. Joins w s f) (wait .table) (wait .job) (wait .frames) (λ π q i p g b. record {
     left-few = b .gave .few;
     right-few = b .goals .few;
     left-high = b .gave .high;
@@ -103,7 +103,7 @@ module _ (w : List ℕ) (s : State) (wait : Waiting w s) (m : s .mode ≡ 1) (f 
   overflow-end r c o =
       subst (λ (y : State). Popped w s w y × Smaller w s w y) (sym o) (
         λ table job z x k h. if-beside (λ y j. Holds table job w (overflowed s) (pop y j k)) table job k
-            (λ q i p g b.
+            (λ π q i p g b.
             subst (λ (y : Ending). Ends table job w (overflowed s) y k)
             (sym (joined-or-not q p i g false (lt-leb (length (i ++ g)) 256 (omega (arith, c, counted i g (b .gave) (b .goals))))))
             (record {
@@ -172,7 +172,7 @@ module _ (w : List ℕ) (s : State) (wait : Waiting w s) (m : s .mode ≡ 1) (f 
     join-popped : Popped w s v (joined s f)
     unfolding Ends Holds pop Stands size
     join-popped table job z x k h = if-beside (λ y j. Holds table job v (joined s f) (pop y j k)) table job k
-        (λ q i p g b.
+        (λ π q i p g b.
         subst (λ (y : Ending). Ends table job v (joined s f) y k)
         (sym (joined-or-not q p i g true (le-leb (length (i ++ g)) 256 (omega (arith, c, counted i g (b .gave) (b .goals))))))
         (record {

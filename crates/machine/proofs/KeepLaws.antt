@@ -77,38 +77,41 @@ module _ (w v : List ℕ) where
     module _ (table job : List ℕ) where
       frame-is-kept : (x : M.Frame) (f : Frame) (o top : ℕ) → Kept o arena top w v → FrameIs table job w arena f o x → FrameIs table job v arena′ f o x
       unfolding FrameIs
-      frame-is-kept (labelled l) f o top k h = (
+      frame-is-kept (labelled π l) f o top k h = (
         h .0,
         h .1,
         k .output (f .mark) (omega (arith, h .1)) ∙ h .2,
         same-word w v 0 o (f .mark + 3) (λ i l r. k .output i r) (omega arith) (omega (arith, h .1)) ∙ h .3,
+        h .4,
       )
-      frame-is-kept (sequenceLeft u) f o top k h = (h .0, h .1, k .output (f .mark) (omega (arith, h .1)) ∙ h .2, h .3)
-      frame-is-kept (sequenceRight s) f o top k h = (
+      frame-is-kept (sequenceLeft π u) f o top k h = (h .0, h .1, k .output (f .mark) (omega (arith, h .1)) ∙ h .2, h .3, h .4)
+      frame-is-kept (sequenceRight π s) f o top k h = (
         h .0,
         h .1,
         k .output (f .mark) (omega (arith, h .1)) ∙ h .2,
         same-term w v (k .same-length) s 0 o (f .mark + 3) (λ i l r. k .output i r) (omega arith) (omega (arith, h .1)) (h .3),
+        h .4,
       )
-      frame-is-kept (tensorLeft u g) f o top k h =
-          (h .0, h .1, k .output (f .mark) (omega (arith, h .1)) ∙ h .2, h .3, goals-kept (f .start) (f .count) g (k .goals) (h .4))
-      frame-is-kept (tensorRight s g) f o top k h = (
+      frame-is-kept (tensorLeft π u g) f o top k h =
+          (h .0, h .1, k .output (f .mark) (omega (arith, h .1)) ∙ h .2, h .3, goals-kept (f .start) (f .count) g (k .goals) (h .4), h .5)
+      frame-is-kept (tensorRight π s g) f o top k h = (
         h .0,
         h .1,
         k .output (f .mark) (omega (arith, h .1)) ∙ h .2,
         same-term w v (k .same-length) s 0 o (f .mark + 3) (λ i l r. k .output i r) (omega arith) (omega (arith, h .1)) (h .3),
         goals-kept (f .start) (f .count) g (k .goals) (h .4),
+        h .5,
       )
-      frame-is-kept (alternationLeft u g) f o top k h = (h .0, h .1, h .2, goals-kept (f .start) (f .count) g (k .goals) (h .3))
+      frame-is-kept (alternationLeft π u g) f o top k h = (h .0, h .1, h .2, goals-kept (f .start) (f .count) g (k .goals) (h .3), h .4)
 
       mark-below : (x : M.Frame) (f : Frame) (o : ℕ) → FrameIs table job w arena f o x → f .mark ≤ o
       unfolding FrameIs
-      mark-below (labelled l) f o h = omega (arith, h .1)
-      mark-below (sequenceLeft u) f o h = omega (arith, h .1)
-      mark-below (sequenceRight s) f o h = omega (arith, h .1)
-      mark-below (tensorLeft u g) f o h = omega (arith, h .1)
-      mark-below (tensorRight s g) f o h = omega (arith, h .1)
-      mark-below (alternationLeft u g) f o h = omega (arith, h .1)
+      mark-below (labelled π l) f o h = omega (arith, h .1)
+      mark-below (sequenceLeft π u) f o h = omega (arith, h .1)
+      mark-below (sequenceRight π s) f o h = omega (arith, h .1)
+      mark-below (tensorLeft π u g) f o h = omega (arith, h .1)
+      mark-below (tensorRight π s g) f o h = omega (arith, h .1)
+      mark-below (alternationLeft π u g) f o h = omega (arith, h .1)
 
       pub frames-kept : (k : List M.Frame) (top o : ℕ) → Kept o arena top w v → FramesAt table job w arena k top o → FramesAt table job v arena′ k top o
       unfolding FramesAt

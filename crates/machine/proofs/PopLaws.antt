@@ -28,37 +28,37 @@ use Rattle.machine.proofs.WaitingLaws.{by-kind, kindOf, if-proved, if-f
 -- what the machine does with the frames that are left comes to the same
 pub settle-pop : (e : Ending) (x : M.Frame) (k : List M.Frame) → settle (pop e x k) ≡ unwind e (x ∷ k)
 unfolding settle pop unwind
-settle-pop e (labelled l) k = refl
-settle-pop (proved s g) (sequenceLeft u) k = refl
-settle-pop failed (sequenceLeft u) k = refl
-settle-pop (ended c) (sequenceLeft u) k = refl
-settle-pop e (sequenceRight s) k = refl
-settle-pop (proved s g) (tensorLeft u h) k = refl
-settle-pop failed (tensorLeft u h) k = refl
-settle-pop (ended c) (tensorLeft u h) k = refl
-settle-pop e (tensorRight s g) k = refl
-settle-pop (proved s g) (alternationLeft u h) k = refl
-settle-pop failed (alternationLeft u h) k = refl
-settle-pop (ended c) (alternationLeft u h) k = refl
+settle-pop e (labelled π l) k = refl
+settle-pop (proved s g) (sequenceLeft π u) k = refl
+settle-pop failed (sequenceLeft π u) k = refl
+settle-pop (ended c) (sequenceLeft π u) k = refl
+settle-pop e (sequenceRight π s) k = refl
+settle-pop (proved s g) (tensorLeft π u h) k = refl
+settle-pop failed (tensorLeft π u h) k = refl
+settle-pop (ended c) (tensorLeft π u h) k = refl
+settle-pop e (tensorRight π s g) k = refl
+settle-pop (proved s g) (alternationLeft π u h) k = refl
+settle-pop failed (alternationLeft π u h) k = refl
+settle-pop (ended c) (alternationLeft π u h) k = refl
 
 -- a failure passes every frame but that of an alternation, the limit passes every frame
 failure-passes : (x : M.Frame) (k : List M.Frame) → (kindOf x ≡ 6 → ⊥) → pop failed x k ≡ done failed k
 unfolding pop kindOf
-failure-passes (labelled l) k n = refl
-failure-passes (sequenceLeft u) k n = refl
-failure-passes (sequenceRight s) k n = refl
-failure-passes (tensorLeft u g) k n = refl
-failure-passes (tensorRight s g) k n = refl
-failure-passes (alternationLeft u g) k n = absurd (n refl)
+failure-passes (labelled π l) k n = refl
+failure-passes (sequenceLeft π u) k n = refl
+failure-passes (sequenceRight π s) k n = refl
+failure-passes (tensorLeft π u g) k n = refl
+failure-passes (tensorRight π s g) k n = refl
+failure-passes (alternationLeft π u g) k n = absurd (n refl)
 
 limit-passes : (c : Cause) (x : M.Frame) (k : List M.Frame) → pop (ended c) x k ≡ done (ended c) k
 unfolding pop
-limit-passes c (labelled l) k = refl
-limit-passes c (sequenceLeft u) k = refl
-limit-passes c (sequenceRight s) k = refl
-limit-passes c (tensorLeft u g) k = refl
-limit-passes c (tensorRight s g) k = refl
-limit-passes c (alternationLeft u g) k = refl
+limit-passes c (labelled π l) k = refl
+limit-passes c (sequenceLeft π u) k = refl
+limit-passes c (sequenceRight π s) k = refl
+limit-passes c (tensorLeft π u g) k = refl
+limit-passes c (tensorRight π s g) k = refl
+limit-passes c (alternationLeft π u g) k = refl
 
 module _ (w : List ℕ) (s : State) where
   lost-leave : (mode : ℕ) (table job : List ℕ) (x : M.Frame) (k : List M.Frame) → Lost mode table job w s (x ∷ k) → Lost mode table job w (leave s) k
@@ -102,8 +102,9 @@ module _ (w : List ℕ) (s : State) where
           if-failed table job w s (x ∷ k) (λ y. Holds table job w (resume s f) (pop y x k)) m
           (λ l. let i = innermost table job w s f (l .from) x k e (l .frames) in
           by-kind (λ y. Lost 2 table job w s (y ∷ k) → FrameIs table job w (s .arena) f (l .from) y → Holds table job w (resume s f) (pop failed y k)) 6
-          (λ u g a t. record {
+          (λ π u g a t. record {
             mode-is = refl;
+            place-is = t .4;
             stands = t .2;
             goals = t .3;
             frames = i .rest;
@@ -123,7 +124,7 @@ module _ (w : List ℕ) (s : State) where
         if-proved table job w s (x ∷ k) (λ y. Holds table job w (leave s) (pop y x k)) m
         (λ p g a. let i = innermost table job w s f (a .from) x k e (a .frames) in
         by-kind (λ y. Proved table job w s p g (y ∷ k) → FrameIs table job w (s .arena) f (a .from) y → Holds table job w (leave s) (pop (proved p g) y k)) 6
-        (λ u j b t. record {
+        (λ π u j b t. record {
           mode-is = b .mode-is;
           from = a .from;
           stands = a .stands;
@@ -136,14 +137,14 @@ module _ (w : List ℕ) (s : State) where
     -- a label's or a sequence's field is closed: its length is stored
     module _ (wait : Waiting w s) (m : s .mode ≡ 1) (n₂ : f .kind ≡ 2 → ⊥) (n₄ : f .kind ≡ 4 → ⊥) (n₅ : f .kind ≡ 5 → ⊥) (n₆ : f .kind ≡ 6 → ⊥) where
       -- what is said of labels and of the right terms of sequences
-      if-closing : (P : M.Frame → Type 0) → ((l : _) → P (labelled l)) → ((q : Term) → P (sequenceRight q)) → (x : M.Frame) → f .kind ≡ kindOf x → P x
+      if-closing : (P : M.Frame → Type 0) → ((π : M.Place) (l : _) → P (labelled π l)) → ((π : M.Place) (q : Term) → P (sequenceRight π q)) → (x : M.Frame) → f .kind ≡ kindOf x → P x
       unfolding kindOf
-      if-closing P a b (labelled l) i = a l
-      if-closing P a b (sequenceLeft u) i = absurd (n₂ i)
-      if-closing P a b (sequenceRight q) i = b q
-      if-closing P a b (tensorLeft u g) i = absurd (n₄ i)
-      if-closing P a b (tensorRight q g) i = absurd (n₅ i)
-      if-closing P a b (alternationLeft u g) i = absurd (n₆ i)
+      if-closing P a b (labelled π l) i = a π l
+      if-closing P a b (sequenceLeft π u) i = absurd (n₂ i)
+      if-closing P a b (sequenceRight π q) i = b π q
+      if-closing P a b (tensorLeft π u g) i = absurd (n₄ i)
+      if-closing P a b (tensorRight π q g) i = absurd (n₅ i)
+      if-closing P a b (alternationLeft π u g) i = absurd (n₆ i)
 
       pub close-room : f .mark + 3 ≤ s .out
       unfolding FrameIs
@@ -151,7 +152,7 @@ module _ (w : List ℕ) (s : State) where
           if-proved (wait .table) (wait .job) w s (wait .frame ∷ wait .frames) (λ z. f .mark + 3 ≤ s .out) m
           (λ p g a. let i = innermost (wait .table) (wait .job) w s f (a .from) (wait .frame) (wait .frames) e (a .frames) in
           if-closing (λ y. FrameIs (wait .table) (wait .job) w (s .arena) f (a .from) y → f .mark + 3 ≤ s .out)
-          (λ l t. omega (arith, a .out-is, t .1)) (λ q t. omega (arith, a .out-is, t .1)) (wait .frame) (i .kind) (i .frame)) (wait .ending) (wait .ends)
+          (λ π l t. omega (arith, a .out-is, t .1)) (λ π q t. omega (arith, a .out-is, t .1)) (wait .frame) (i .kind) (i .frame)) (wait .ending) (wait .ends)
 
       fits : Fits w s
       fits = waiting-fits w s wait
@@ -191,7 +192,7 @@ module _ (w : List ℕ) (s : State) where
           if-proved table job w s (x ∷ k) (λ y. Holds table job v (leave s) (pop y x k)) m
           (λ p g a. let i = innermost table job w s f (a .from) x k e (a .frames) in
           if-closing (λ y. Proved table job w s p g (y ∷ k) → FrameIs table job w (s .arena) f (a .from) y → Holds table job v (leave s) (pop (proved p g) y k))
-          (λ l b t. record {
+          (λ π l b t. record {
             mode-is = b .mode-is;
             from = f .mark;
             stands = (
@@ -204,7 +205,7 @@ module _ (w : List ℕ) (s : State) where
             frames = frames-stay table job k (i .rest);
             sizes = record { output-fits = b .sizes .output-fits; goals-fit = omega (arith, b .sizes .goals-fit); frames-fit = omega (arith, b .sizes .frames-fit) };
           })
-          (λ q b t. record {
+          (λ π q b t. record {
             mode-is = b .mode-is;
             from = f .mark;
             stands = (

@@ -40,17 +40,17 @@ unfolding settle
 settle-enter none k f = refl
 settle-enter (some a) k f = refl
 
-settle-begun : (T : Table) (t : Term) (g : List Goal) (k : List M.Frame) → settle (begun T t g k) ≡ M.begin T t g k
+settle-begun : (T : Table) (π : M.Place) (t : Term) (g : List Goal) (k : List M.Frame) → settle (begun T π t g k) ≡ M.begin T π t g k
 unfolding settle begun M.begin
-settle-begun T (atomic a) g k = refl
-settle-begun T id g k = refl
-settle-begun T (label l t) g k = settle-enter (oneGoal g) k _
-settle-begun T (sequence t u) g k = refl
-settle-begun T (tensor t u) g k = settle-enter (splitBy (tacticArity T t) g) k _
-settle-begun T empty g k = refl
-settle-begun T (alternation t u) g k = refl
-settle-begun T (assert γ) g k = refl
-settle-begun T (defined d) g k = settle-enter (findBody T d) k _
+settle-begun T π (atomic a) g k = refl
+settle-begun T π id g k = refl
+settle-begun T π (label l t) g k = settle-enter (oneGoal g) k _
+settle-begun T π (sequence t u) g k = refl
+settle-begun T π (tensor t u) g k = settle-enter (splitBy (tacticArity T t) g) k _
+settle-begun T π empty g k = refl
+settle-begun T π (alternation t u) g k = refl
+settle-begun T π (assert γ) g k = refl
+settle-begun T π (defined d) g k = settle-enter (findBody T d) k _
 
 module _ (bytes : List ℕ) (first : ℕ) (src w : List ℕ) (s : State) where
   -- what is given
@@ -85,6 +85,7 @@ module _ (bytes : List ℕ) (first : ℕ) (src w : List ℕ) (s : State) where
       bytes = bytes;
       job = q .job;
       so = q .so;
+      place = q .place;
       term = q .term;
       goals = q .goals;
       frames = q .frames;
@@ -94,58 +95,58 @@ module _ (bytes : List ℕ) (first : ℕ) (src w : List ℕ) (s : State) where
   -- by the tag: what was said of the form is said of the term
   module _ (v : List ℕ) (r : State) where
     -- what is to be shown of the term
-    abbrev Goes : (T : Table) → (job : List ℕ) → List Goal → List M.Frame → Term → Type 0
-    Goes T job g k x = Stands src (s .at) x → Runs bytes job w s x g k → Holds bytes job v r (begun T x g k)
+    abbrev Goes : (T : Table) → (job : List ℕ) → M.Place → List Goal → List M.Frame → Term → Type 0
+    Goes T job π g k x = Stands src (s .at) x → Runs bytes job w s π x g k → Holds bytes job v r (begun T π x g k)
 
     -- where it stands
-    there : (job : List ℕ) (t : Term) (g : List Goal) (k : List M.Frame) → source bytes job (s .file) ≡ src → Runs bytes job w s t g k → Stands src (s .at) t
-    there job t g k so h = in-file bytes job src (s .file) (s .at) t so (h .stands)
+    there : (job : List ℕ) (π : M.Place) (t : Term) (g : List Goal) (k : List M.Frame) → source bytes job (s .file) ≡ src → Runs bytes job w s π t g k → Stands src (s .at) t
+    there job π t g k so h = in-file bytes job src (s .file) (s .at) t so (h .stands)
 
     pub id-any : getD src (s .at) 0 ≡ 17 → Begins w s v r id idNext → BeginsAny bytes first src w s v r
     unfolding begun
-    id-any e b T job t g k st so ar h = let y = there job t g k so h in by-tag src (s .at) (Goes T job g k) 17 (λ z i. b bytes job g k i) e t y y h
+    id-any e b T job π t g k st so ar h = let y = there job π t g k so h in by-tag src (s .at) (Goes T job π g k) 17 (λ z i. b bytes job π g k i) e t y y h
 
     pub empty-any : getD src (s .at) 0 ≡ 21 → Begins w s v r empty emptyNext → BeginsAny bytes first src w s v r
     unfolding begun
-    empty-any e b T job t g k st so ar h = let y = there job t g k so h in by-tag src (s .at) (Goes T job g k) 21 (λ z i. b bytes job g k i) e t y y h
+    empty-any e b T job π t g k st so ar h = let y = there job π t g k so h in by-tag src (s .at) (Goes T job π g k) 21 (λ z i. b bytes job π g k i) e t y y h
 
     pub atomic-any : getD src (s .at) 0 ≡ 16 → (value : ℕ) → value ≡ word src (s .at + 3)
         → ((T : Table) (a : RuleName) → TableStands bytes first T → value ≡ a .0 → Begins w s v r (atomic a) (ruleNext T a)) → BeginsAny bytes first src w s v r
     unfolding begun
-    atomic-any e value val b T job t g k st so ar h =
-        let y = there job t g k so h in by-tag src (s .at) (Goes T job g k) 16 (λ a x z i. b T a st (val ∙ x .value-is) bytes job g k i) e t y y h
+    atomic-any e value val b T job π t g k st so ar h =
+        let y = there job π t g k so h in by-tag src (s .at) (Goes T job π g k) 16 (λ a x z i. b T a st (val ∙ x .value-is) bytes job π g k i) e t y y h
 
     pub label-any : getD src (s .at) 0 ≡ 18 → (value : ℕ) → value ≡ word src (s .at + 3)
         → ((l : Label) (t : Term) → value ≡ l .0 → Begins w s v r (label l t) (labelNext l t)) → BeginsAny bytes first src w s v r
     unfolding begun Stands
-    label-any e value val b T job t g k st so ar h =
-        let y = there job t g k so h in by-tag src (s .at) (Goes T job g k) 18 (λ l u o z i. b l u (val ∙ z .1) bytes job g k i) e t y y h
+    label-any e value val b T job π t g k st so ar h =
+        let y = there job π t g k so h in by-tag src (s .at) (Goes T job π g k) 18 (λ l u o z i. b l u (val ∙ z .1) bytes job π g k i) e t y y h
 
     pub assert-any : getD src (s .at) 0 ≡ 23 → (value : ℕ) → value ≡ word src (s .at + 3)
         → ((T : Table) (γ : Goal) → value ≡ γ .0 → Begins w s v r (assert γ) (assertNext T γ)) → BeginsAny bytes first src w s v r
     unfolding begun
-    assert-any e value val b T job t g k st so ar h =
-        let y = there job t g k so h in by-tag src (s .at) (Goes T job g k) 23 (λ γ x z i. b T γ (val ∙ x .value-is) bytes job g k i) e t y y h
+    assert-any e value val b T job π t g k st so ar h =
+        let y = there job π t g k so h in by-tag src (s .at) (Goes T job π g k) 23 (λ γ x z i. b T γ (val ∙ x .value-is) bytes job π g k i) e t y y h
 
     pub defined-any : getD src (s .at) 0 ≡ 24 → (value : ℕ) → value ≡ word src (s .at + 3)
         → ((T : Table) (d : TacticNo) (job : List ℕ) → TableStands bytes first T → value ≡ d .0 → BeginsIn bytes job w s v r (defined d) (definedNext T d)) → BeginsAny bytes first src w s v r
     unfolding begun
-    defined-any e value val b T job t g k st so ar h =
-        let y = there job t g k so h in by-tag src (s .at) (Goes T job g k) 24 (λ d x z i. b T d job st (val ∙ x .value-is) g k i) e t y y h
+    defined-any e value val b T job π t g k st so ar h =
+        let y = there job π t g k so h in by-tag src (s .at) (Goes T job π g k) 24 (λ d x z i. b T d job st (val ∙ x .value-is) π g k i) e t y y h
 
     pub pair-any : BeginsPair src w s v r → BeginsAny bytes first src w s v r
-    pair-any b T job t g k st so ar h = b bytes job T t g k so ar h
+    pair-any b T job π t g k st so ar h = b bytes job T π t g k so ar h
 
     -- the next term is there at once
     pub steps-next : BeginsAny bytes first src w s v r → r .mode ≡ 0 → Stepped bytes first src w s v r
-    steps-next b m T job t g k st so ar h =
-        subst (λ (κ : M.Control). Shows bytes job v r κ) (settle-begun T t g k) (after-next v r bytes job (begun T t g k) (b T job t g k st so ar h) m)
+    steps-next b m T job π t g k st so ar h =
+        subst (λ (κ : M.Control). Shows bytes job v r κ) (settle-begun T π t g k) (after-next v r bytes job (begun T π t g k) (b T job π t g k st so ar h) m)
 
     -- or the frames are unwound
     module _ (b : BeginsAny bytes first src w s v r) (m : r .mode ≡ 0 → ⊥) where
       pub unwinding : Given bytes first src w s → Grown w s v r → Unwinding v r
       unwinding q gr =
-          let c = after-done v r bytes (q .job) (begun (q .table) (q .term) (q .goals) (q .frames)) (b (q .table) (q .job) (q .term) (q .goals) (q .frames) (q .table-stands) (q .so) (q .known) (q .runs)) m in
+          let c = after-done v r bytes (q .job) (begun (q .table) (q .place) (q .term) (q .goals) (q .frames)) (b (q .table) (q .job) (q .place) (q .term) (q .goals) (q .frames) (q .table-stands) (q .so) (q .known) (q .runs)) m in
           record {
             few-steps = omega (arith, gr .one-step, q .steps-left);
             space = omega (arith, gr .same-length, q .space);
@@ -157,9 +158,9 @@ module _ (bytes : List ℕ) (first : ℕ) (src w : List ℕ) (s : State) where
           }
 
       pub steps-end : (y : List ℕ) (z : State) → Unwound v r y z → Stepped bytes first src w s y z
-      steps-end y z u T job t g k st so ar h =
-          let c = after-done v r bytes job (begun T t g k) (b T job t g k st so ar h) m in
-          subst (λ (κ : M.Control). Shows bytes job y z κ) (c .same ∙ settle-begun T t g k) (u bytes job (c .ending) (c .frames) (c .ends))
+      steps-end y z u T job π t g k st so ar h =
+          let c = after-done v r bytes job (begun T π t g k) (b T job π t g k st so ar h) m in
+          subst (λ (κ : M.Control). Shows bytes job y z κ) (c .same ∙ settle-begun T π t g k) (u bytes job (c .ending) (c .frames) (c .ends))
 
 pub grown-end : (w : List ℕ) (s : State) (v : List ℕ) (r : State) (y : List ℕ) (z : State) → Grown w s v r → Fewer v r y z → Grown w s y z
 grown-end w s v r y z a b = record {
@@ -197,25 +198,25 @@ module _ (src w : List ℕ) (s : State) (tag : ℕ) (q : PairStands src w s tag)
   pair-left = let i = pair-inner in (i .0, i .2 .0)
 
   module _ (v : List ℕ) (r : State) (right : ℕ) (rt : (t u : Term) → Pair src (s .at) t u → right ≡ s .at + 3 + size t) where
-    abbrev PairGoes : (bytes job : List ℕ) → Table → List Goal → List M.Frame → Term → Type 0
-    PairGoes bytes job T g k x = Runs bytes job w s x g k → Holds bytes job v r (begun T x g k)
+    abbrev PairGoes : (bytes job : List ℕ) → Table → M.Place → List Goal → List M.Frame → Term → Type 0
+    PairGoes bytes job T π g k x = Runs bytes job w s π x g k → Holds bytes job v r (begun T π x g k)
 
-    pair-there : (bytes job : List ℕ) (t : Term) (g : List Goal) (k : List M.Frame) → source bytes job (s .file) ≡ src → Runs bytes job w s t g k → Stands src (s .at) t
-    pair-there bytes job t g k so h = in-file bytes job src (s .file) (s .at) t so (h .stands)
+    pair-there : (bytes job : List ℕ) (π : M.Place) (t : Term) (g : List Goal) (k : List M.Frame) → source bytes job (s .file) ≡ src → Runs bytes job w s π t g k → Stands src (s .at) t
+    pair-there bytes job π t g k so h = in-file bytes job src (s .file) (s .at) t so (h .stands)
 
     pub sequence-pair : tag ≡ 19 → ((t u : Term) → right ≡ s .at + 3 + size t → Begins w s v r (sequence t u) (sequenceNext t u)) → BeginsPair src w s v r
     unfolding begun
-    sequence-pair e b bytes job T t g k so ar h =
-        by-tag src (s .at) (PairGoes bytes job T g k) 19 (λ a u z i. b a u (rt a u (pair-of src (s .at) a u z)) bytes job g k i) (q .tag-is ∙ e) t (pair-there bytes job t g k so h) h
+    sequence-pair e b bytes job T π t g k so ar h =
+        by-tag src (s .at) (PairGoes bytes job T π g k) 19 (λ a u z i. b a u (rt a u (pair-of src (s .at) a u z)) bytes job π g k i) (q .tag-is ∙ e) t (pair-there bytes job π t g k so h) h
 
     pub tensor-pair : tag ≡ 20 → (n : ℕ) → ((known : TacticNo → Option ℕ) (t : Term) → ArityTable w known → Stands src (s .at + 3) t → n ≡ arityCode (arityIn known t))
         → ((o : Option ℕ) (t u : Term) → right ≡ s .at + 3 + size t → n ≡ arityCode o → Begins w s v r (tensor t u) (tensorNext o t u)) → BeginsPair src w s v r
     unfolding begun tacticArity
-    tensor-pair e n arity b bytes job T t g k so ar h =
-        by-tag src (s .at) (PairGoes bytes job T g k) 20
-        (λ a u z i. b (tacticArity T a) a u (rt a u (pair-of src (s .at) a u z)) (arity (arities T) a ar (z .first)) bytes job g k i) (q .tag-is ∙ e) t (pair-there bytes job t g k so h) h
+    tensor-pair e n arity b bytes job T π t g k so ar h =
+        by-tag src (s .at) (PairGoes bytes job T π g k) 20
+        (λ a u z i. b (tacticArity T a) a u (rt a u (pair-of src (s .at) a u z)) (arity (arities T) a ar (z .first)) bytes job π g k i) (q .tag-is ∙ e) t (pair-there bytes job π t g k so h) h
 
     pub alternation-pair : (tag ≡ 19 → ⊥) → (tag ≡ 20 → ⊥) → ((t u : Term) → right ≡ s .at + 3 + size t → Begins w s v r (alternation t u) (alternationNext t u)) → BeginsPair src w s v r
     unfolding begun
-    alternation-pair x y b bytes job T t g k so ar h =
-        by-inner (PairGoes bytes job T g k) (λ e. absurd (x e)) (λ e. absurd (y e)) (λ a u z i. b a u (rt a u z) bytes job g k i) t (pair-there bytes job t g k so h) h
+    alternation-pair x y b bytes job T π t g k so ar h =
+        by-inner (PairGoes bytes job T π g k) (λ e. absurd (x e)) (λ e. absurd (y e)) (λ a u z i. b a u (rt a u z) bytes job π g k i) t (pair-there bytes job π t g k so h) h

@@ -75,15 +75,17 @@ module _ (w : List ℕ) (s : State) (wait : Waiting w s) (m : s .mode ≡ 1) whe
         if-proved table job w s (x ∷ k) (λ j. Holds table job v (turn s f) (pop j x k)) m
         (λ p g a. let i = innermost table job w s f (a .from) x k e (a .frames) in
         by-kind (λ j. Proved table job w s p g (j ∷ k) → FrameIs table job w (s .arena) f (a .from) j → Holds table job v (turn s f) (pop (proved p g) j k)) 2
-        (λ u b t. record {
+        (λ π u b t. record {
           mode-is = refl;
+          place-is = t .4;
           stands = t .3;
           goals = goals-stay (s .start) (s .count) g (b .goals);
-          frames = frames-stay table job (sequenceRight p) k (omega (arith, t .1, a .out-is)) (i .rest) (
+          frames = frames-stay table job (sequenceRight π p) k (omega (arith, t .1, a .out-is)) (i .rest) (
             y,
             omega (arith, t .1, a .out-is),
             tag-stays 19 (omega (arith, t .1, a .out-is)) (t .2),
             term-stays p (f .mark + 3) (omega (arith, t .1, a .out-is)) (subst (λ (o : ℕ). Stands w o p) (t .1) (a .stands)),
+            t .4,
           );
           sizes = record { output-fits = b .sizes .output-fits; goals-fit = omega (arith, b .sizes .goals-fit); frames-fit = b .sizes .frames-fit };
         }) x (sym n ∙ i .kind) a (i .frame)) z h
@@ -95,16 +97,18 @@ module _ (w : List ℕ) (s : State) (wait : Waiting w s) (m : s .mode ≡ 1) whe
         if-proved table job w s (x ∷ k) (λ j. Holds table job v (beside s f) (pop j x k)) m
         (λ p g a. let i = innermost table job w s f (a .from) x k e (a .frames) in
         by-kind (λ j. Proved table job w s p g (j ∷ k) → FrameIs table job w (s .arena) f (a .from) j → Holds table job v (beside s f) (pop (proved p g) j k)) 4
-        (λ u j b t. record {
+        (λ π u j b t. record {
           mode-is = refl;
+          place-is = t .5;
           stands = t .3;
           goals = goals-stay (f .start) (f .count) j (t .4);
-          frames = frames-stay table job (tensorRight p g) k (omega (arith, t .1, a .out-is)) (i .rest) (
+          frames = frames-stay table job (tensorRight π p g) k (omega (arith, t .1, a .out-is)) (i .rest) (
             y,
             omega (arith, t .1, a .out-is),
             tag-stays 20 (omega (arith, t .1, a .out-is)) (t .2),
             term-stays p (f .mark + 3) (omega (arith, t .1, a .out-is)) (subst (λ (o : ℕ). Stands w o p) (t .1) (a .stands)),
             goals-stay (s .start) (s .count) g (b .goals),
+            t .5,
           );
           sizes = record { output-fits = b .sizes .output-fits; goals-fit = omega (arith, b .sizes .goals-fit); frames-fit = b .sizes .frames-fit };
         }) x (sym n ∙ i .kind) a (i .frame)) z h

@@ -51,12 +51,12 @@ module _ (w : List ℕ) (s : State) where
 
   pub after-done : (table job : List ℕ) (c : Config) → Holds table job w s c → (s .mode ≡ 0 → ⊥) → Reached table job w s (settle c)
   unfolding Holds settle
-  after-done table job (next t g k) h n = absurd (n (h .mode-is))
+  after-done table job (next π t g k) h n = absurd (n (h .mode-is))
   after-done table job (done e k) h n = record { ending = e; frames = k; ends = h; same = refl }
 
   pub after-next : (table job : List ℕ) (c : Config) → Holds table job w s c → s .mode ≡ 0 → Shows table job w s (settle c)
   unfolding Holds settle Shows
-  after-next table job (next t g k) h m = h
+  after-next table job (next π t g k) h m = h
   after-next table job (done e k) h m = absurd (not-running table job e k h m)
 
 module _ (w₀ : List ℕ) (s₀ : State) (w : List ℕ) (s : State) (way : Towards w₀ s₀ w s) (few : Fewer w₀ s₀ w s) where

@@ -26,40 +26,40 @@ use Rattle.machine.proofs.KeepLaws.{frames-top, frame-mark}
 
 -- the kind of the frame of a waiting term
 unfoldable pub kindOf : M.Frame → ℕ
-kindOf (labelled l) = 1
-kindOf (sequenceLeft u) = 2
-kindOf (sequenceRight s) = 3
-kindOf (tensorLeft u g) = 4
-kindOf (tensorRight s g) = 5
-kindOf (alternationLeft u g) = 6
+kindOf (labelled π l) = 1
+kindOf (sequenceLeft π u) = 2
+kindOf (sequenceRight π s) = 3
+kindOf (tensorLeft π u g) = 4
+kindOf (tensorRight π s g) = 5
+kindOf (alternationLeft π u g) = 6
 
 pub kind-is : (table job w : List ℕ) (arena : ℕ) (f : Frame) (o : ℕ) (x : M.Frame) → FrameIs table job w arena f o x → f .kind ≡ kindOf x
 unfolding FrameIs kindOf
-kind-is table job w arena f o (labelled l) h = h .0
-kind-is table job w arena f o (sequenceLeft u) h = h .0
-kind-is table job w arena f o (sequenceRight s) h = h .0
-kind-is table job w arena f o (tensorLeft u g) h = h .0
-kind-is table job w arena f o (tensorRight s g) h = h .0
-kind-is table job w arena f o (alternationLeft u g) h = h .0
+kind-is table job w arena f o (labelled π l) h = h .0
+kind-is table job w arena f o (sequenceLeft π u) h = h .0
+kind-is table job w arena f o (sequenceRight π s) h = h .0
+kind-is table job w arena f o (tensorLeft π u g) h = h .0
+kind-is table job w arena f o (tensorRight π s g) h = h .0
+kind-is table job w arena f o (alternationLeft π u g) h = h .0
 
 -- what is to be shown of a waiting term of a kind, chosen by computing
 abbrev pub Case : (P : M.Frame → Type 0) → ℕ → Type 0
 Case P k =
-    cond (eqb k 1) ((l : Label) → P (labelled l))
-    (cond (eqb k 2) ((u : Term) → P (sequenceLeft u))
-    (cond (eqb k 3) ((s : Term) → P (sequenceRight s))
-    (cond (eqb k 4) ((u : Term) (g : List Goal) → P (tensorLeft u g))
-    (cond (eqb k 5) ((s : Term) (g : List Goal) → P (tensorRight s g))
-    ((u : Term) (g : List Goal) → P (alternationLeft u g))))))
+    cond (eqb k 1) ((π : M.Place) (l : Label) → P (labelled π l))
+    (cond (eqb k 2) ((π : M.Place) (u : Term) → P (sequenceLeft π u))
+    (cond (eqb k 3) ((π : M.Place) (s : Term) → P (sequenceRight π s))
+    (cond (eqb k 4) ((π : M.Place) (u : Term) (g : List Goal) → P (tensorLeft π u g))
+    (cond (eqb k 5) ((π : M.Place) (s : Term) (g : List Goal) → P (tensorRight π s g))
+    ((π : M.Place) (u : Term) (g : List Goal) → P (alternationLeft π u g))))))
 
 pub by-kind : (P : M.Frame → Type 0) (k : ℕ) → Case P k → (x : M.Frame) → k ≡ kindOf x → P x
 unfolding kindOf
-by-kind P k c (labelled l) e = subst (Case P) e c l
-by-kind P k c (sequenceLeft u) e = subst (Case P) e c u
-by-kind P k c (sequenceRight s) e = subst (Case P) e c s
-by-kind P k c (tensorLeft u g) e = subst (Case P) e c u g
-by-kind P k c (tensorRight s g) e = subst (Case P) e c s g
-by-kind P k c (alternationLeft u g) e = subst (Case P) e c u g
+by-kind P k c (labelled π l) e = subst (Case P) e c π l
+by-kind P k c (sequenceLeft π u) e = subst (Case P) e c π u
+by-kind P k c (sequenceRight π s) e = subst (Case P) e c π s
+by-kind P k c (tensorLeft π u g) e = subst (Case P) e c π u g
+by-kind P k c (tensorRight π s g) e = subst (Case P) e c π s g
+by-kind P k c (alternationLeft π u g) e = subst (Case P) e c π u g
 
 -- which ending it is
 module _ (table job w : List ℕ) (s : State) (k : List M.Frame) (P : Ending → Type 0) where

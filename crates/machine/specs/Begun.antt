@@ -8,14 +8,15 @@ use Rattle.format.specs.declared.values.Goal.{Goal}
 use Rattle.format.specs.declared.values.Label.{Label}
 use Rattle.format.specs.declared.values.TacticNo.{TacticNo}
 use Rattle.format.specs.Limits.{mostSteps}
-use Rattle.format.specs.Terms.{Term, atomic, id, label, sequence, tensor, empty, alternation, assert, defined}
+use Rattle.format.specs.Terms.{Term, atomic, id, label, sequence, tensor, empty, alternation, assert, defined, size}
 use Rattle.tables.specs.Tables.{Table}
 use Rattle.tables.specs.Lookup.{findBody}
+use Rattle.tables.specs.Places.{bodyPlace}
 use Rattle.hitac.specs.TacticArity.{tacticArity}
 use Rattle.hitac.specs.Outcomes as outcome
 use Rattle.hitac.specs.Outcomes.{ruleGives, oneGoal, noGoal, assertGives, splitBy, finished}
 use Rattle.hitac.specs.Machine as M
-use Rattle.hitac.specs.Machine.{labelled, sequenceLeft, tensorLeft, alternationLeft}
+use Rattle.hitac.specs.Machine.{past, labelled, sequenceLeft, tensorLeft, alternationLeft}
 use Rattle.arities.specs.Layout.{outputEnd, goalsEnd, framesEnd, spaceEnd}
 use Rattle.frames.specs.declared.Frame.{Frame}
 use Rattle.machine.specs.declared.state.State.{State}
@@ -27,47 +28,47 @@ enter none k f = done outcome.failed k
 enter (some a) k f = f a
 
 -- what is next after each form of term
-abbrev pub atomicNext : RuleName → Option (List Goal) → List Goal → List M.Frame → Config
-atomicNext a o g k = done (finished (atomic a) o) k
+abbrev pub atomicNext : RuleName → Option (List Goal) → M.Place → List Goal → List M.Frame → Config
+atomicNext a o π g k = done (finished (atomic a) o) k
 
-abbrev pub ruleNext : Table → RuleName → List Goal → List M.Frame → Config
-ruleNext T a g k = done (finished (atomic a) (ruleGives T a g)) k
+abbrev pub ruleNext : Table → RuleName → M.Place → List Goal → List M.Frame → Config
+ruleNext T a π g k = done (finished (atomic a) (ruleGives T a g)) k
 
-abbrev pub idNext : List Goal → List M.Frame → Config
-idNext g k = done (finished id (oneGoal g)) k
+abbrev pub idNext : M.Place → List Goal → List M.Frame → Config
+idNext π g k = done (finished id (oneGoal g)) k
 
-abbrev pub labelNext : Label → Term → List Goal → List M.Frame → Config
-labelNext l t g k = enter (oneGoal g) k λ h. next t h (labelled l ∷ k)
+abbrev pub labelNext : Label → Term → M.Place → List Goal → List M.Frame → Config
+labelNext l t π g k = enter (oneGoal g) k λ h. next (past π 5) t h (labelled (past π 5) l ∷ k)
 
-abbrev pub sequenceNext : Term → Term → List Goal → List M.Frame → Config
-sequenceNext t u g k = next t g (sequenceLeft u ∷ k)
+abbrev pub sequenceNext : Term → Term → M.Place → List Goal → List M.Frame → Config
+sequenceNext t u π g k = next (past π 3) t g (sequenceLeft (past π (3 + size t)) u ∷ k)
 
-abbrev pub tensorNext : Option ℕ → Term → Term → List Goal → List M.Frame → Config
-tensorNext o t u g k = enter (splitBy o g) k λ p. next t (p .leftGoals) (tensorLeft u (p .rightGoals) ∷ k)
+abbrev pub tensorNext : Option ℕ → Term → Term → M.Place → List Goal → List M.Frame → Config
+tensorNext o t u π g k = enter (splitBy o g) k λ p. next (past π 3) t (p .leftGoals) (tensorLeft (past π (3 + size t)) u (p .rightGoals) ∷ k)
 
-abbrev pub emptyNext : List Goal → List M.Frame → Config
-emptyNext g k = done (finished empty (noGoal g)) k
+abbrev pub emptyNext : M.Place → List Goal → List M.Frame → Config
+emptyNext π g k = done (finished empty (noGoal g)) k
 
-abbrev pub alternationNext : Term → Term → List Goal → List M.Frame → Config
-alternationNext t u g k = next t g (alternationLeft u g ∷ k)
+abbrev pub alternationNext : Term → Term → M.Place → List Goal → List M.Frame → Config
+alternationNext t u π g k = next (past π 3) t g (alternationLeft (past π (3 + size t)) u g ∷ k)
 
-abbrev pub assertNext : Table → Goal → List Goal → List M.Frame → Config
-assertNext T γ g k = done (finished id (assertGives T γ g)) k
+abbrev pub assertNext : Table → Goal → M.Place → List Goal → List M.Frame → Config
+assertNext T γ π g k = done (finished id (assertGives T γ g)) k
 
-abbrev pub definedNext : Table → TacticNo → List Goal → List M.Frame → Config
-definedNext T d g k = enter (findBody T d) k λ t. next t g k
+abbrev pub definedNext : Table → TacticNo → M.Place → List Goal → List M.Frame → Config
+definedNext T d π g k = enter (findBody T d) k λ t. next (record { file = 0; at = bodyPlace T d }) t g k
 
 -- a term begun, before the terms that wait are looked at
-unfoldable pub begun : Table → Term → List Goal → List M.Frame → Config
-begun T (atomic a) g k = ruleNext T a g k
-begun T id g k = idNext g k
-begun T (label l t) g k = labelNext l t g k
-begun T (sequence t u) g k = sequenceNext t u g k
-begun T (tensor t u) g k = tensorNext (tacticArity T t) t u g k
-begun T empty g k = emptyNext g k
-begun T (alternation t u) g k = alternationNext t u g k
-begun T (assert γ) g k = assertNext T γ g k
-begun T (defined d) g k = definedNext T d g k
+unfoldable pub begun : Table → M.Place → Term → List Goal → List M.Frame → Config
+begun T π (atomic a) g k = ruleNext T a π g k
+begun T π id g k = idNext π g k
+begun T π (label l t) g k = labelNext l t π g k
+begun T π (sequence t u) g k = sequenceNext t u π g k
+begun T π (tensor t u) g k = tensorNext (tacticArity T t) t u π g k
+begun T π empty g k = emptyNext π g k
+begun T π (alternation t u) g k = alternationNext t u π g k
+begun T π (assert γ) g k = assertNext T γ π g k
+begun T π (defined d) g k = definedNext T d π g k
 
 -- room for one more term
 pub record Room (w : List ℕ) (s : State) : Type 0 where
@@ -79,10 +80,10 @@ pub record Room (w : List ℕ) (s : State) : Type 0 where
   pub space : spaceEnd ≤ length w
 
 -- what beginning a term does
-abbrev pub BeginsIn : (table job : List ℕ) → List ℕ → State → List ℕ → State → Term → (List Goal → List M.Frame → Config) → Type 0
-BeginsIn table job w s v r t c = (g : List Goal) (k : List M.Frame) → Runs table job w s t g k → Holds table job v r (c g k)
+abbrev pub BeginsIn : (table job : List ℕ) → List ℕ → State → List ℕ → State → Term → (M.Place → List Goal → List M.Frame → Config) → Type 0
+BeginsIn table job w s v r t c = (π : M.Place) (g : List Goal) (k : List M.Frame) → Runs table job w s π t g k → Holds table job v r (c π g k)
 
-abbrev pub Begins : List ℕ → State → List ℕ → State → Term → (List Goal → List M.Frame → Config) → Type 0
+abbrev pub Begins : List ℕ → State → List ℕ → State → Term → (M.Place → List Goal → List M.Frame → Config) → Type 0
 Begins w s v r t c = (table job : List ℕ) → BeginsIn table job w s v r t c
 
 -- the term fails
@@ -105,7 +106,7 @@ abbrev pub alternationFrame : State → (right : ℕ) → Frame
 alternationFrame s right = record { kind = 6; file = s .file; at = right; count = s .count; start = s .start; mark = s .out }
 
 abbrev pub labelFrame : State → Frame
-labelFrame s = record { kind = 1; file = s .file; at = 0; count = 0; start = 0; mark = s .out }
+labelFrame s = record { kind = 1; file = s .file; at = s .at + 5; count = 0; start = 0; mark = s .out }
 
 abbrev pub tensorFrame : State → (right left : ℕ) → Frame
 tensorFrame s right n = record { kind = 4; file = s .file; at = right; count = s .count - n; start = s .start + n * 2; mark = s .out }

@@ -14,22 +14,22 @@ use Rattle.machine.specs.Shows.{Config, next, done, Ends, Holds, Shows}
 
 -- one frame taken off
 unfoldable pub pop : Ending → M.Frame → List M.Frame → Config
-pop e (labelled l) k = done (inLabel l e) k
-pop (proved s g) (sequenceLeft u) k = next u g (sequenceRight s ∷ k)
-pop failed (sequenceLeft u) k = done failed k
-pop (ended c) (sequenceLeft u) k = done (ended c) k
-pop e (sequenceRight s) k = done (afterLeft s e) k
-pop (proved s g) (tensorLeft u h) k = next u h (tensorRight s g ∷ k)
-pop failed (tensorLeft u h) k = done failed k
-pop (ended c) (tensorLeft u h) k = done (ended c) k
-pop e (tensorRight s g) k = done (besideLeft s g e) k
-pop (proved s g) (alternationLeft u h) k = done (proved s g) k
-pop failed (alternationLeft u h) k = next u h k
-pop (ended c) (alternationLeft u h) k = done (ended c) k
+pop e (labelled π l) k = done (inLabel l e) k
+pop (proved s g) (sequenceLeft π u) k = next π u g (sequenceRight π s ∷ k)
+pop failed (sequenceLeft π u) k = done failed k
+pop (ended c) (sequenceLeft π u) k = done (ended c) k
+pop e (sequenceRight π s) k = done (afterLeft s e) k
+pop (proved s g) (tensorLeft π u h) k = next π u h (tensorRight π s g ∷ k)
+pop failed (tensorLeft π u h) k = done failed k
+pop (ended c) (tensorLeft π u h) k = done (ended c) k
+pop e (tensorRight π s g) k = done (besideLeft s g e) k
+pop (proved s g) (alternationLeft π u h) k = done (proved s g) k
+pop failed (alternationLeft π u h) k = next π u h k
+pop (ended c) (alternationLeft π u h) k = done (ended c) k
 
 -- where the machine stands after that
 unfoldable pub settle : Config → M.Control
-settle (next t g k) = running t g k
+settle (next π t g k) = running π t g k
 settle (done e k) = unwind e k
 
 -- the numbers of a state by the regions of the work space

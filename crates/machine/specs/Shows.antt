@@ -25,14 +25,21 @@ pub record GoalsIs (w : List ℕ) (arena start count : ℕ) (g : List Goal) : Ty
   pub few : count ≤ 256
   pub are : goalsAt w start count ≡ g
 
+-- the place that a frame names, and that of the term to begin
+abbrev pub placeOf : Frame → M.Place
+placeOf f = record { file = f .file; at = f .at }
+
+abbrev pub here : State → M.Place
+here s = record { file = s .file; at = s .at }
+
 -- a frame of the code is a waiting term; o is where the output of the inner term begins
 unfoldable pub FrameIs : (table job w : List ℕ) → (arena : ℕ) → Frame → (o : ℕ) → M.Frame → Type 0
-FrameIs table job w arena f o (labelled l) = (f .kind ≡ 1) × (o ≡ f .mark + 5) × (getD w (f .mark) 0 ≡ 18) × (word w (f .mark + 3) ≡ l .0)
-FrameIs table job w arena f o (sequenceLeft u) = (f .kind ≡ 2) × (o ≡ f .mark + 3) × (getD w (f .mark) 0 ≡ 19) × Stands (source table job (f .file)) (f .at) u
-FrameIs table job w arena f o (sequenceRight s) = (f .kind ≡ 3) × (o ≡ f .mark + 3 + size s) × (getD w (f .mark) 0 ≡ 19) × Stands w (f .mark + 3) s
-FrameIs table job w arena f o (tensorLeft u h) = (f .kind ≡ 4) × (o ≡ f .mark + 3) × (getD w (f .mark) 0 ≡ 20) × Stands (source table job (f .file)) (f .at) u × GoalsIs w arena (f .start) (f .count) h
-FrameIs table job w arena f o (tensorRight s g) = (f .kind ≡ 5) × (o ≡ f .mark + 3 + size s) × (getD w (f .mark) 0 ≡ 20) × Stands w (f .mark + 3) s × GoalsIs w arena (f .start) (f .count) g
-FrameIs table job w arena f o (alternationLeft u h) = (f .kind ≡ 6) × (o ≡ f .mark) × Stands (source table job (f .file)) (f .at) u × GoalsIs w arena (f .start) (f .count) h
+FrameIs table job w arena f o (labelled π l) = (f .kind ≡ 1) × (o ≡ f .mark + 5) × (getD w (f .mark) 0 ≡ 18) × (word w (f .mark + 3) ≡ l .0) × (placeOf f ≡ π)
+FrameIs table job w arena f o (sequenceLeft π u) = (f .kind ≡ 2) × (o ≡ f .mark + 3) × (getD w (f .mark) 0 ≡ 19) × Stands (source table job (f .file)) (f .at) u × (placeOf f ≡ π)
+FrameIs table job w arena f o (sequenceRight π s) = (f .kind ≡ 3) × (o ≡ f .mark + 3 + size s) × (getD w (f .mark) 0 ≡ 19) × Stands w (f .mark + 3) s × (placeOf f ≡ π)
+FrameIs table job w arena f o (tensorLeft π u h) = (f .kind ≡ 4) × (o ≡ f .mark + 3) × (getD w (f .mark) 0 ≡ 20) × Stands (source table job (f .file)) (f .at) u × GoalsIs w arena (f .start) (f .count) h × (placeOf f ≡ π)
+FrameIs table job w arena f o (tensorRight π s g) = (f .kind ≡ 5) × (o ≡ f .mark + 3 + size s) × (getD w (f .mark) 0 ≡ 20) × Stands w (f .mark + 3) s × GoalsIs w arena (f .start) (f .count) g × (placeOf f ≡ π)
+FrameIs table job w arena f o (alternationLeft π u h) = (f .kind ≡ 6) × (o ≡ f .mark) × Stands (source table job (f .file)) (f .at) u × GoalsIs w arena (f .start) (f .count) h × (placeOf f ≡ π)
 
 -- the waiting terms, innermost first, from the top of the frames on
 unfoldable pub FramesAt : (table job w : List ℕ) → (arena : ℕ) → List M.Frame → (top o : ℕ) → Type 0
@@ -42,12 +49,12 @@ FramesAt table job w arena (x ∷ k) top o = FrameIs table job w arena (frameAt 
 -- The bytes of goals set aside for lists that are still to be joined. A term begun brings 264 bytes: a rule takes at most 16 of them for its premises,
 -- so that a term which ended has 248 left. A tensor keeps its own 264 and its left term's 248: the 512 that its joined list may take.
 abbrev pub frameAside : M.Frame → ℕ
-frameAside (labelled l) = 0
-frameAside (sequenceLeft u) = 0
-frameAside (sequenceRight s) = 0
-frameAside (tensorLeft u g) = 264
-frameAside (tensorRight s g) = 512
-frameAside (alternationLeft u g) = 0
+frameAside (labelled π l) = 0
+frameAside (sequenceLeft π u) = 0
+frameAside (sequenceRight π s) = 0
+frameAside (tensorLeft π u g) = 264
+frameAside (tensorRight π s g) = 512
+frameAside (alternationLeft π u g) = 0
 
 unfoldable pub setAside : List M.Frame → ℕ
 setAside [] = 0
@@ -60,8 +67,9 @@ pub record Sizes (s : State) (k : List M.Frame) (left : ℕ) : Type 0 where
   pub frames-fit : framesEnd ≤ s .top + 14 * s .steps
 
 -- a term that is to begin
-pub record Runs (table job w : List ℕ) (s : State) (t : Term) (g : List Goal) (k : List M.Frame) : Type 0 where
+pub record Runs (table job w : List ℕ) (s : State) (π : M.Place) (t : Term) (g : List Goal) (k : List M.Frame) : Type 0 where
   pub mode-is : s .mode ≡ 0
+  pub place-is : here s ≡ π
   pub stands : Stands (source table job (s .file)) (s .at) t
   pub goals : GoalsIs w (s .arena) (s .start) (s .count) g
   pub frames : FramesAt table job w (s .arena) k (s .top) (s .out)
@@ -97,14 +105,14 @@ Ends table job w s (ended c) k = Overflowed table job w s c k
 
 -- between two frames: a term to begin, or a term that ended
 pub data Config : Type 0 where
-  next : Term → List Goal → List M.Frame → Config
+  next : M.Place → Term → List Goal → List M.Frame → Config
   done : Ending → List M.Frame → Config
 
 unfoldable pub Holds : (table job w : List ℕ) → State → Config → Type 0
-Holds table job w s (next t g k) = Runs table job w s t g k
+Holds table job w s (next π t g k) = Runs table job w s π t g k
 Holds table job w s (done e k) = Ends table job w s e k
 
 -- where the machine stands
 unfoldable pub Shows : (table job w : List ℕ) → State → M.Control → Type 0
-Shows table job w s (running t g k) = Runs table job w s t g k
+Shows table job w s (running π t g k) = Runs table job w s π t g k
 Shows table job w s (stopped e) = Ends table job w s e []

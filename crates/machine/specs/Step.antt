@@ -32,24 +32,25 @@ pub record Given (bytes : List ℕ) (first : ℕ) (src w : List ℕ) (s : State)
   pub known : ArityTable w (arities table)
   pub job : List ℕ
   pub so : source bytes job (s .file) ≡ src
+  pub place : M.Place
   pub term : Term
   pub goals : List Goal
   pub frames : List M.Frame
-  pub runs : Runs bytes job w s term goals frames
+  pub runs : Runs bytes job w s place term goals frames
 
 -- what is said of every state that the code may stand for
-abbrev pub ForAny : (bytes : List ℕ) → (first : ℕ) → (src w : List ℕ) → State → (List ℕ → Table → Term → List Goal → List M.Frame → Type 0) → Type 0
+abbrev pub ForAny : (bytes : List ℕ) → (first : ℕ) → (src w : List ℕ) → State → (List ℕ → Table → M.Place → Term → List Goal → List M.Frame → Type 0) → Type 0
 ForAny bytes first src w s P =
-    (T : Table) (job : List ℕ) (t : Term) (g : List Goal) (k : List M.Frame) → TableStands bytes first T → source bytes job (s .file) ≡ src → ArityTable w (arities T)
-    → Runs bytes job w s t g k → P job T t g k
+    (T : Table) (job : List ℕ) (π : M.Place) (t : Term) (g : List Goal) (k : List M.Frame) → TableStands bytes first T → source bytes job (s .file) ≡ src → ArityTable w (arities T)
+    → Runs bytes job w s π t g k → P job T π t g k
 
 -- one term begun
 abbrev pub BeginsAny : (bytes : List ℕ) → (first : ℕ) → (src w : List ℕ) → State → List ℕ → State → Type 0
-BeginsAny bytes first src w s v r = ForAny bytes first src w s (λ job T t g k. Holds bytes job v r (begun T t g k))
+BeginsAny bytes first src w s v r = ForAny bytes first src w s (λ job T π t g k. Holds bytes job v r (begun T π t g k))
 
 -- "A step begins one term and leaves the next state": what the code shows is where the machine stands next
 abbrev pub Stepped : (bytes : List ℕ) → (first : ℕ) → (src w : List ℕ) → State → List ℕ → State → Type 0
-Stepped bytes first src w s v r = ForAny bytes first src w s (λ job T t g k. Shows bytes job v r (M.begin T t g k))
+Stepped bytes first src w s v r = ForAny bytes first src w s (λ job T π t g k. Shows bytes job v r (M.begin T π t g k))
 
 -- what beginning a term with two inner terms is given and does
 pub record PairStands (src w : List ℕ) (s : State) (tag : ℕ) : Type 0 where
@@ -60,12 +61,13 @@ pub record PairStands (src w : List ℕ) (s : State) (tag : ℕ) : Type 0 where
   pub bytes : List ℕ
   pub job : List ℕ
   pub so : source bytes job (s .file) ≡ src
+  pub place : M.Place
   pub term : Term
   pub goals : List Goal
   pub frames : List M.Frame
-  pub runs : Runs bytes job w s term goals frames
+  pub runs : Runs bytes job w s place term goals frames
 
 abbrev pub BeginsPair : (src w : List ℕ) → State → List ℕ → State → Type 0
 BeginsPair src w s v r =
-    (bytes job : List ℕ) (T : Table) (t : Term) (g : List Goal) (k : List M.Frame) → source bytes job (s .file) ≡ src → ArityTable w (arities T)
-    → Runs bytes job w s t g k → Holds bytes job v r (begun T t g k)
+    (bytes job : List ℕ) (T : Table) (π : M.Place) (t : Term) (g : List Goal) (k : List M.Frame) → source bytes job (s .file) ≡ src → ArityTable w (arities T)
+    → Runs bytes job w s π t g k → Holds bytes job v r (begun T π t g k)

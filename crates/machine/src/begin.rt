@@ -190,7 +190,7 @@ impl State {
     }
 
     fn begin_label(self, name: Label, work: &mut [u8]) -> State
-        requires { ⌜ Room (now work) self × (self .at < 65536) ⌝ }
+        requires { ⌜ Room (now work) self × (self .at + 5 < 65536) ⌝ }
         ensures begun { λ r. ⌜ ((l : Label) (t : Term) → name .0 ≡ l .0 → Begins (now (work .entry)) self (now (work .exit)) r (label l t) (labelNext l t)) ⌝ }
         ensures grown { λ r. ⌜ Grown (now (work .entry)) self (now (work .exit)) r ⌝ }
     {
@@ -200,12 +200,13 @@ impl State {
         let file = self.file;
         let out = self.out;
         let top = self.top - 14;
+        let inner = self.at + 5;
         put_header(work, out, 18, 0);
         store16(work, out + 3, name.0);
         let f = Frame {
             kind: LABELLED,
             file,
-            at: 0,
+            at: inner as u16,
             count: 0,
             start: 0,
             mark: out as u16,
@@ -214,7 +215,7 @@ impl State {
         State {
             mode: RUNNING,
             file,
-            at: self.at + 5,
+            at: inner,
             start: self.start,
             count: self.count,
             top,

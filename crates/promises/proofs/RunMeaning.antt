@@ -22,12 +22,12 @@ use Rattle.hitac.proofs.BigStep.{ends-evaluates, ends-evaluates-freely}
 use Rattle.hitac.proofs.MachineMeaning.{one-end}
 use Rattle.hitac.proofs.RunLaws.{more-budget}
 use Rattle.entries.specs.LentSpace.{Written, writeOut, writeIn}
-use Rattle.entries.specs.Run.{runResult, runOutcome, runWork, runTactic}
+use Rattle.entries.specs.Run.{begins, runResult, runOutcome, runWork, runTactic}
 use Rattle.promises.specs.RunMeaning as meaning
 use Rattle.promises.proofs.RunPromises.{outcome, still-running, answer-of, table-refused, job-refused}
 
 pub one-end-of-a-run : meaning.One-end
-one-end-of-a-run t T e a g n m x y r r′ = one-end T (reads-unique-rules t T e) (reads-unique-definitions t T e) a g r r′
+one-end-of-a-run t T e a g n m x y r r′ = one-end T (reads-unique-rules t T e) (reads-unique-definitions t T e) (record { file = 0; at = 0 }) a g r r′
 
 pub run-evaluates : meaning.Run-evaluates
 run-evaluates T a s g h n r = (ends-evaluates r, ends-evaluates-freely r)
@@ -50,17 +50,17 @@ module _ (t f : List ℕ) (b c : ℕ) (h : b ≤ c) (l : c ≤ mostSteps) (w o :
     -- a run that has ended stays; one that has not is 24
     module _ (T : Table) (j : Job) (e : readTable t ≡ gives T) (g : readJob f ≡ gives j) where
       abbrev σ : State
-      σ = run T b (start (j .term) (j .goals))
+      σ = run T b (begins j)
 
       by-control : (κ : Control) → σ .control ≡ κ → runOutcome t f c ≡ runOutcome t f b
       unfolding runResult number
       by-control (stopped x) q =
           let r : σ ≡ after (σ .steps) (stopped x) = ap (after (σ .steps)) q in
-          let s = more-budget T b c (start (j .term) (j .goals)) (σ .steps) x r h in
+          let s = more-budget T b c (begins j) (σ .steps) x r h in
           outcome t f c T j l e g ∙ ap (runResult j) (s ∙ sym r) ∙ sym (outcome t f b T j (omega arith) e g)
-      by-control (running a k v) q =
+      by-control (running π a k v) q =
           let p = outcome t f b T j (omega arith) e g ∙ ap (runResult j) (ap (after (σ .steps)) q) in
-          let r = p ∙ still-running t f b T j (omega arith) e g (running a k v) tt (σ .steps) in
+          let r = p ∙ still-running t f b T j (omega arith) e g (running π a k v) tt (σ .steps) in
           let spent = answer-of t f b T j (omega arith) e g w o enough budgetSpent (σ .steps) r in
           absurd (unspent (ap (λ (x : answer.Answer). x .number) spent))
 

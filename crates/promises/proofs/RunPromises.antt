@@ -19,6 +19,7 @@ use Rattle.tables.specs.ReadTables.{readTable}
 use Rattle.tables.proofs.ReadsTable.{reads-unique-rules, reads-unique-definitions, reads-few-premises, reads-table}
 use Rattle.tables.proofs.RefusedTable.{table-place}
 use Rattle.files.specs.Jobs.{Job, readJob}
+use Rattle.files.specs.Counts.{jobTermPlace}
 use Rattle.files.specs.Within.{ProofWithin, JobWithin}
 use Rattle.files.proofs.ReadsJob.{reads-job}
 use Rattle.files.proofs.ReadsProof.{proof-back}
@@ -30,14 +31,14 @@ use Rattle.hitac.specs.Validates.{AtMost256, Validates}
 use Rattle.hitac.proofs.BigStep.{ends-evaluates, evaluates-validates}
 use Rattle.hitac.proofs.RunBounds.{proof-fields, proof-goals}
 use Rattle.hitac.proofs.ValidatesLaws.{validates-hiproof}
-use Rattle.hitac.specs.Machine.{Control, running, stopped, State, after, Running, run, start}
+use Rattle.hitac.specs.Machine.{Place, Control, running, stopped, State, after, Running, run, start}
 use Rattle.hitac.specs.Outcomes.{Ending, proved, failed, ended}
 use Rattle.hitac.proofs.MachineMeaning.{run↔ends, run-ending, running↔no-end}
 use Rattle.hitac.proofs.RunLaws.{spent-steps, run-steps}
 use Rattle.answers.specs.Answers as answer
 use Rattle.entries.specs.Outcomes.{Outcome, success, refusal}
 use Rattle.entries.specs.LentSpace.{Written, writeOut, writeIn}
-use Rattle.entries.specs.Run.{runEnd, runResult, runOutcome, runWork, runTactic}
+use Rattle.entries.specs.Run.{begins, runEnd, runResult, runOutcome, runWork, runTactic}
 use Rattle.promises.specs.Accepted.{Accepted}
 use Rattle.promises.specs.Ended as ended-specs
 use Rattle.promises.specs.Results.{resultOf, wroteAfter}
@@ -45,9 +46,13 @@ use Rattle.promises.specs.RunPromises.{RunAnswers, Run-answers, Run-acce
 use Rattle.promises.proofs.LentLaws.{Answers, ends-written}
 use Rattle.promises.proofs.RunWithin.{evaluated-values}
 
+-- where a job's term stands
+abbrev at-job : Job → Place
+at-job j = record { file = 1; at = jobTermPlace j }
+
 module _ (t f : List ℕ) (b : ℕ) (T : Table) (j : Job) (l : b ≤ mostSteps) (e : readTable t ≡ gives T) (g : readJob f ≡ gives j) where
   abbrev σ : State
-  σ = run T b (start (j .term) (j .goals))
+  σ = run T b (begins j)
 
   rules : UniqueRules T
   rules = reads-unique-rules t T e
@@ -62,18 +67,18 @@ module _ (t f : List ℕ) (b : ℕ) (T : Table) (j : Job) (l : b ≤ mostSteps) 
   -- the outcome of a run that has ended
   ended-so : (n : ℕ) (x : End) → Ends T (j .goals) (j .term) n x → n ≤ b → runOutcome t f b ≡ runEnd j n (stopped (endingOf x))
   unfolding runResult
-  ended-so n x d h = outcome ∙ ap (runResult j) (run↔ends T rules definitions (j .term) (j .goals) b n x .1 (d, h))
+  ended-so n x d h = outcome ∙ ap (runResult j) (run↔ends T rules definitions (at-job j) (j .term) (j .goals) b n x .1 (d, h))
 
   -- and of one that has not
   pub still-running : (κ : Control) → Running κ → (n : ℕ) → runEnd j n κ ≡ refusal budgetSpent 0 0 n
   unfolding runEnd
-  still-running (running u h w) r n = refl
+  still-running (running π u h w) r n = refl
 
   spent-so : ((n : ℕ) (x : End) → Ends T (j .goals) (j .term) n x → n ≤ b → ⊥) → runOutcome t f b ≡ refusal budgetSpent 0 0 b
   unfolding runResult
   spent-so none =
-      let r = running↔no-end T rules definitions (j .term) (j .goals) b .1 none in
-      outcome ∙ still-running (σ .control) r (σ .steps) ∙ ap (λ (n : ℕ). refusal budgetSpent 0 0 n) (spent-steps T b (j .term) (j .goals) r)
+      let r = running↔no-end T rules definitions (at-job j) (j .term) (j .goals) b .1 none in
+      outcome ∙ still-running (σ .control) r (σ .steps) ∙ ap (λ (n : ℕ). refusal budgetSpent 0 0 n) (spent-steps T b (at-job j) (j .term) (j .goals) r)
 
   pub answer-of : (w o : List ℕ) → runWork ≤ length w → (c : Cause) (n : ℕ) → runOutcome t f b ≡ refusal c 0 0 n → runTactic t f b w o .answer ≡ answer.refusal (number c) 0 0 n
   unfolding runTactic writeIn writeOut
@@ -98,7 +103,7 @@ module _ (t f : List ℕ) (b : ℕ) (T : Table) (j : Job) (l : b ≤ mostSteps) 
 
   -- demand 1, for a run that was begun
   steps-few : σ .steps ≤ b
-  steps-few = run-steps T b (j .term) (j .goals)
+  steps-few = run-steps T b (at-job j) (j .term) (j .goals)
 
   abbrev May : Outcome (List ℕ) → Type 0
   May = Answers t f (RunRefuses b)
@@ -115,11 +120,11 @@ module _ (t f : List ℕ) (b : ℕ) (T : Table) (j : Job) (l : b ≤ mostSteps) 
 
   by-control : (κ : Control) → σ .control ≡ κ → May (runEnd j (σ .steps) κ)
   unfolding runEnd Answers number
-  by-control (running u h w) q = own budgetSpent (σ .steps) (omega arith) (omega arith) steps-few
+  by-control (running π u h w) q = own budgetSpent (σ .steps) (omega arith) (omega arith) steps-few
   by-control (stopped (proved s h)) q = tt
   by-control (stopped failed) q = own tacticFailed (σ .steps) (omega arith) (omega arith) steps-few
   by-control (stopped (ended c)) q =
-      let r = run-ending T rules definitions (j .term) (j .goals) b (σ .steps) (ended c) (ap (λ (κ : Control). after (σ .steps) κ) q) in
+      let r = run-ending T rules definitions (at-job j) (j .term) (j .goals) b (σ .steps) (ended c) (ap (λ (κ : Control). after (σ .steps) κ) q) in
       let k = only-22 c (r .0) (r .1) in
       own c (σ .steps) (k .0) (k .1) steps-few
 
@@ -139,8 +144,8 @@ module _ (t f : List ℕ) (table-bytes : Bytes t) (job-bytes : Bytes f) (T : Tab
     evaluates : Evaluates T AtMost256 n (j .goals) (j .term) s h
     evaluates = ends-evaluates d
 
-    ran : run T n (start (j .term) (j .goals)) ≡ after n (stopped (proved s h))
-    ran = run↔ends T (reads-unique-rules t T e) (reads-unique-definitions t T e) (j .term) (j .goals) n n (proof s h) .1 (d, omega arith)
+    ran : run T n (begins j) ≡ after n (stopped (proved s h))
+    ran = run↔ends T (reads-unique-rules t T e) (reads-unique-definitions t T e) (at-job j) (j .term) (j .goals) n n (proof s h) .1 (d, omega arith)
 
     values : TermValues s × GoalValues h
     values = evaluated-values T (reads-table t T table-bytes .0 e .1) evaluates (job-within .term-values) (job-within .goal-values)
@@ -153,9 +158,9 @@ module _ (t f : List ℕ) (table-bytes : Bytes t) (job-bytes : Bytes f) (T : Tab
       few-goals = job-within .few-goals;
       goal-values = job-within .goal-values;
       hiproof = validates-hiproof validates;
-      few-fields = omega (arith, proof-fields T n (j .term) (j .goals) ran, l);
+      few-fields = omega (arith, proof-fields T n (at-job j) (j .term) (j .goals) ran, l);
       term-values = values .0;
-      few-remaining = proof-goals T n (j .term) (j .goals) (λ a γ k m. reads-few-premises t T e _ m) (job-within .few-goals) ran;
+      few-remaining = proof-goals T n (at-job j) (j .term) (j .goals) (λ a γ k m. reads-few-premises t T e _ m) (job-within .few-goals) ran;
       remaining-values = values .1;
     }
 

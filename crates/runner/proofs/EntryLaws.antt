@@ -15,7 +15,7 @@ use Rattle.answers.specs.declared.Answer.{Answer}
 use Rattle.answers.specs.Answers as said
 use Rattle.entries.specs.Outcomes.{Outcome, refusal, noFile}
 use Rattle.entries.specs.LentSpace.{Written}
-use Rattle.entries.specs.Run.{runResult, runOutcome}
+use Rattle.entries.specs.Run.{begins, runResult, runOutcome}
 use Rattle.entries.specs.Left.{kept, leftIn}
 use Rattle.entries.proofs.LeftLaws.{refuses}
 use Rattle.arities.specs.Layout.{spaceEnd}
@@ -25,7 +25,7 @@ use Rattle.runner.specs.Jobs.{JobGiven, JobRan}
 
 -- what follows the reading
 abbrev pub runs : (budget : ℕ) → Table → Job → Outcome (List ℕ)
-runs b T j = runResult j (M.run T b (M.start (j .term) (j .goals)))
+runs b T j = runResult j (M.run T b (begins j))
 
 module _ (t s : List ℕ) (b : ℕ) where
   too-large : mostSteps < b → runOutcome t s b ≡ refusal budgetTooLarge noFile 0 0

@@ -23,7 +23,7 @@ use Rattle.hitac.specs.Machine.{running, stopped, after}
 use Rattle.answers.specs.declared.Answer.{Answer}
 use Rattle.answers.specs.Answers as said
 use Rattle.entries.specs.Outcomes.{success}
-use Rattle.entries.specs.Run.{runEnd, runResult}
+use Rattle.entries.specs.Run.{begins, runEnd, runResult}
 use Rattle.entries.specs.Left.{kept, leftIn}
 use Rattle.entries.proofs.LeftLaws.{refuses}
 use Rattle.arities.specs.Layout.{outputEnd, framesEnd}
@@ -60,6 +60,7 @@ start-end job parts w v q e =
       no-steps = refl;
       runs = λ table j st p. record {
         mode-is = refl;
+        place-is = ap (λ (i : ℕ). record { file = 1; at = i }) (sym (term-place job j st parts p));
         stands = term-stands job j st parts p;
         goals = record { low = omega arith; high = omega arith; few = few .0; are = goals-copied job j st parts p w v outputEnd e (omega (arith, few, q .space)) };
         frames = (refl, refl);
@@ -71,7 +72,7 @@ start-end job parts w v q e =
 module _ (job w : List ℕ) (s : State) (o : List ℕ) (r : Answer) where
   pub spent-end : s .mode ≡ 0 → r ≡ said.refusal 24 0 0 (s .steps) → Finishes job w s o r o
   unfolding runEnd number
-  spent-end m q table j κ st h = if-running table job w s (λ x. kept r o ≡ leftIn o (runEnd j (s .steps) x)) m (λ t g k i. refuses budgetSpent 24 0 0 (s .steps) r o refl q) κ h
+  spent-end m q table j κ st h = if-running table job w s (λ x. kept r o ≡ leftIn o (runEnd j (s .steps) x)) m (λ π t g k i. refuses budgetSpent 24 0 0 (s .steps) r o refl q) κ h
 
   pub failed-end : (s .mode ≡ 0 → ⊥) → s .mode ≡ 2 → r ≡ said.refusal 23 0 0 (s .steps) → Finishes job w s o r o
   unfolding runEnd number
@@ -163,6 +164,7 @@ module _ (bytes : List ℕ) (first definitions : ℕ) (job : List ℕ) (parts : 
         table = q .table;
         table-stands = q .table-stands;
         known = arities-there (q .table) (q .table-stands) (q .unique) (q .count-is);
+        place = record { file = 1; at = jobTermPlace (q .the-job) };
         term = q .the-job .term;
         goals = q .the-job .goals;
         frames = [];
@@ -172,11 +174,11 @@ module _ (bytes : List ℕ) (first definitions : ℕ) (job : List ℕ) (parts : 
       module _ (w₃ : List ℕ) (r : State) (a : Ran bytes first job w₂ s budget w₃ r) where
         -- what the last state shows
         last : (T : Table) (j : Job) → TableStands bytes first T → UniqueDefinitions T → definitions ≡ length (T .definitions) → JobStands job j → jobPartsOf j ≡ parts
-            → ShowsState bytes job w₃ r (M.run T budget (M.start (j .term) (j .goals)))
+            → ShowsState bytes job w₃ r (M.run T budget (begins j))
         unfolding M.start
         last T j st unique c js p =
-            subst (λ (n : ℕ). ShowsState bytes job w₃ r (M.run T budget (after n (running (j .term) (j .goals) [])))) (b .no-steps)
-            (a .shows T (j .term) (j .goals) [] st (arities-there T st unique c) (b .runs bytes j js p))
+            subst (λ (n : ℕ). ShowsState bytes job w₃ r (M.run T budget (after n (running (record { file = 1; at = jobTermPlace j }) (j .term) (j .goals) [])))) (b .no-steps)
+            (a .shows T (record { file = 1; at = jobTermPlace j }) (j .term) (j .goals) [] st (arities-there T st unique c) (b .runs bytes j js p))
 
         pub finish-given : FinishGiven job (parts .term) w₃ r
         finish-given =
@@ -188,7 +190,7 @@ module _ (bytes : List ℕ) (first definitions : ℕ) (job : List ℕ) (parts : 
               job-stands = q .job-stands;
               term-is = term-place job (q .the-job) (q .job-stands) parts (q .parts-are);
               table = bytes;
-              control = M.run (q .table) budget (M.start (q .the-job .term) (q .the-job .goals)) .control;
+              control = M.run (q .table) budget (begins (q .the-job)) .control;
               shows = l .shows;
             }
 
@@ -196,5 +198,5 @@ module _ (bytes : List ℕ) (first definitions : ℕ) (job : List ℕ) (parts : 
         unfolding runResult
         job-end o x v h T j st unique c js p =
             let l = last T j st unique c js p in
-            let σ = M.run T budget (M.start (j .term) (j .goals)) in
+            let σ = M.run T budget (begins j) in
             subst (λ (n : ℕ). kept x v ≡ leftIn o (runEnd j n (σ .control))) (l .steps-are) (h bytes j (σ .control) js (l .shows))

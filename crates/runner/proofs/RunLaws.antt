@@ -38,8 +38,8 @@ Far w₀ w = (i : ℕ) → framesEnd ≤ i → getD w i 0 ≡ getD w₀ i 0
 
 -- what holds at every turn
 pub record Way (bytes : List ℕ) (first : ℕ) (job w₀ : List ℕ) (s₀ : State) (budget : ℕ) (w : List ℕ) (s : State) (left : ℕ) : Type 0 where
-  pub onward : (T : Table) (t : Term) (g : List Goal) (k : List M.Frame) → TableStands bytes first T → ArityTable w₀ (arities T) → Runs bytes job w₀ s₀ t g k
-      → Onward bytes job w s T left (run T budget (after (s₀ .steps) (running t g k)))
+  pub onward : (T : Table) (π : M.Place) (t : Term) (g : List Goal) (k : List M.Frame) → TableStands bytes first T → ArityTable w₀ (arities T) → Runs bytes job w₀ s₀ π t g k
+      → Onward bytes job w s T left (run T budget (after (s₀ .steps) (running π t g k)))
   pub far : Far w₀ w
   pub same-length : length w ≡ length w₀
   pub few-steps : s .steps + left ≤ s₀ .steps + budget
@@ -48,13 +48,13 @@ pub known-same : (w₀ w : List ℕ) (known : TacticNo → Option ℕ) → Far w
 known-same w₀ w known f h d b =
     same-word w₀ w (framesEnd + d * 2) (framesEnd + d * 2 + 2) (framesEnd + d * 2) (λ i l r. f i (omega arith)) (omega arith) (omega arith) ∙ h d b
 
-run-one : (T : Table) (left n : ℕ) (t : Term) (g : List Goal) (k : List M.Frame) → 0 < left → run T left (after n (running t g k)) ≡ run T (left - 1) (after (n + 1) (M.begin T t g k))
+run-one : (T : Table) (left n : ℕ) (π : M.Place) (t : Term) (g : List Goal) (k : List M.Frame) → 0 < left → run T left (after n (running π t g k)) ≡ run T (left - 1) (after (n + 1) (M.begin T π t g k))
 unfolding run step stepFrom
-run-one T zero n t g k h = absurd (omega arith)
-run-one T (suc left) n t g k h =
+run-one T zero n π t g k h = absurd (omega arith)
+run-one T (suc left) n π t g k h =
     let e : left ≡ suc left - 1 = omega arith in
     let f : suc n ≡ n + 1 = omega arith in
-    ap (λ (j : ℕ). run T j (after (suc n) (M.begin T t g k))) e ∙ ap (λ (j : ℕ). run T (suc left - 1) (after j (M.begin T t g k))) f
+    ap (λ (j : ℕ). run T j (after (suc n) (M.begin T π t g k))) e ∙ ap (λ (j : ℕ). run T (suc left - 1) (after j (M.begin T π t g k))) f
 
 run-none : (T : Table) (left : ℕ) (σ : M.State) → left ≤ 0 → run T left σ ≡ σ
 unfolding run
@@ -62,21 +62,21 @@ run-none T zero σ h = refl
 run-none T (suc left) σ h = absurd (omega arith)
 
 -- a state in which a term is to begin, and one in which none is
-pub if-running : (bytes job w : List ℕ) (s : State) (P : Control → Type 0) → s .mode ≡ 0 → ((t : Term) (g : List Goal) (k : List M.Frame) → Runs bytes job w s t g k → P (running t g k))
+pub if-running : (bytes job w : List ℕ) (s : State) (P : Control → Type 0) → s .mode ≡ 0 → ((π : M.Place) (t : Term) (g : List Goal) (k : List M.Frame) → Runs bytes job w s π t g k → P (running π t g k))
     → (κ : Control) → Shows bytes job w s κ → P κ
 unfolding Shows
-if-running bytes job w s P m f (running t g k) h = f t g k h
+if-running bytes job w s P m f (running π t g k) h = f π t g k h
 if-running bytes job w s P m f (stopped e) h = absurd (not-running w s bytes job e _ h m)
 
 pub if-stopped : (bytes job w : List ℕ) (s : State) (P : Control → Type 0) → (s .mode ≡ 0 → ⊥) → ((e : Ending) → Ends bytes job w s e [] → P (stopped e)) → (κ : Control) → Shows bytes job w s κ → P κ
 unfolding Shows
-if-stopped bytes job w s P n f (running t g k) h = absurd (n (h .mode-is))
+if-stopped bytes job w s P n f (running π t g k) h = absurd (n (h .mode-is))
 if-stopped bytes job w s P n f (stopped e) h = f e h
 
 pub way-start : (bytes : List ℕ) (first : ℕ) (job w : List ℕ) (s : State) (budget : ℕ) → Way bytes first job w s budget w s budget
 unfolding Shows
 way-start bytes first job w s budget = record {
-  onward = λ T t g k st known h. record { control = running t g k; shows = h; same = refl };
+  onward = λ T π t g k st known h. record { control = running π t g k; shows = h; same = refl };
   far = λ i b. refl;
   same-length = refl;
   few-steps = omega arith;
@@ -88,8 +88,8 @@ module _ (bytes : List ℕ) (first : ℕ) (job w₀ : List ℕ) (s₀ : State) (
   ran-end n = record {
     same-length = way .same-length;
     few-steps = omega (arith, way .few-steps);
-    shows = λ T t g k st known h.
-        let o = way .onward T t g k st known h in
+    shows = λ T π t g k st known h.
+        let o = way .onward T π t g k st known h in
         let rest : after (s .steps) (o .control) ≡ run T left (after (s .steps) (o .control)) =
         if-stopped bytes job w s (λ κ. after (s .steps) κ ≡ run T left (after (s .steps) κ)) n (λ e h. sym (run-stopped T left (s .steps) e)) (o .control) (o .shows) in
         subst (λ (σ : M.State). ShowsState bytes job w s σ) (rest ∙ o .same) (record { steps-are = refl; shows = o .shows });
@@ -100,16 +100,16 @@ module _ (bytes : List ℕ) (first : ℕ) (job w₀ : List ℕ) (s₀ : State) (
   ran-out z = record {
     same-length = way .same-length;
     few-steps = omega (arith, way .few-steps);
-    shows = λ T t g k st known h.
-        let o = way .onward T t g k st known h in
+    shows = λ T π t g k st known h.
+        let o = way .onward T π t g k st known h in
         subst (λ (σ : M.State). ShowsState bytes job w s σ) (sym (run-none T left (after (s .steps) (o .control)) z) ∙ o .same) (record { steps-are = refl; shows = o .shows });
   }
 
   module _ (more : 0 < left) (m : s .mode ≡ 0) where
     pub given : Started bytes first job w₀ s₀ budget → Given bytes first (source bytes job (s .file)) w s
     given q =
-        let o = way .onward (q .table) (q .term) (q .goals) (q .frames) (q .table-stands) (q .known) (q .runs) in
-        if-running bytes job w s (λ κ. Given bytes first (source bytes job (s .file)) w s) m (λ t g k h. record {
+        let o = way .onward (q .table) (q .place) (q .term) (q .goals) (q .frames) (q .table-stands) (q .known) (q .runs) in
+        if-running bytes job w s (λ κ. Given bytes first (source bytes job (s .file)) w s) m (λ π t g k h. record {
           steps-left = omega (arith, more, way .few-steps, q .steps-left);
           space = omega (arith, way .same-length, q .space);
           src-small = source-small bytes job (s .file) 65536 (q .table-small) (q .job-small);
@@ -118,6 +118,7 @@ module _ (bytes : List ℕ) (first : ℕ) (job w₀ : List ℕ) (s₀ : State) (
           known = known-same w₀ w (arities (q .table)) (way .far) (q .known);
           job = job;
           so = refl;
+          place = π;
           term = t;
           goals = g;
           frames = k;
@@ -126,13 +127,13 @@ module _ (bytes : List ℕ) (first : ℕ) (job w₀ : List ℕ) (s₀ : State) (
 
     pub way-next : (v : List ℕ) (r : State) → Stepped bytes first (source bytes job (s .file)) w s v r → Grown w s v r → Way bytes first job w₀ s₀ budget v r (left - 1)
     way-next v r st gr = record {
-      onward = λ T t g k stands known h.
-          let o = way .onward T t g k stands known h in
-          if-running bytes job w s (λ κ. run T left (after (s .steps) κ) ≡ run T budget (after (s₀ .steps) (running t g k)) → Onward bytes job v r T (left - 1) (run T budget (after (s₀ .steps) (running t g k)))) m
-          (λ t′ g′ k′ h′ e. record {
-            control = M.begin T t′ g′ k′;
-            shows = st T job t′ g′ k′ stands refl (known-same w₀ w (arities T) (way .far) known) h′;
-            same = ap (λ (n : ℕ). run T (left - 1) (after n (M.begin T t′ g′ k′))) (gr .one-step) ∙ sym (run-one T left (s .steps) t′ g′ k′ more) ∙ e;
+      onward = λ T π t g k stands known h.
+          let o = way .onward T π t g k stands known h in
+          if-running bytes job w s (λ κ. run T left (after (s .steps) κ) ≡ run T budget (after (s₀ .steps) (running π t g k)) → Onward bytes job v r T (left - 1) (run T budget (after (s₀ .steps) (running π t g k)))) m
+          (λ π′ t′ g′ k′ h′ e. record {
+            control = M.begin T π′ t′ g′ k′;
+            shows = st T job π′ t′ g′ k′ stands refl (known-same w₀ w (arities T) (way .far) known) h′;
+            same = ap (λ (n : ℕ). run T (left - 1) (after n (M.begin T π′ t′ g′ k′))) (gr .one-step) ∙ sym (run-one T left (s .steps) π′ t′ g′ k′ more) ∙ e;
           }) (o .control) (o .shows) (o .same);
       far = λ i b. gr .beyond i b ∙ way .far i b;
       same-length = gr .same-length ∙ way .same-length;

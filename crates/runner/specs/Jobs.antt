@@ -13,7 +13,7 @@ use Rattle.files.specs.Standing.{JobStands}
 use Rattle.files.specs.Shapes.{jobPartsOf}
 use Rattle.hitac.specs.Machine as M
 use Rattle.answers.specs.declared.Answer.{Answer}
-use Rattle.entries.specs.Run.{runEnd, runResult}
+use Rattle.entries.specs.Run.{begins, runEnd, runResult}
 use Rattle.entries.specs.Left.{kept, leftIn}
 use Rattle.arities.specs.Layout.{framesEnd, spaceEnd}
 use Rattle.machine.specs.declared.state.State.{State}
@@ -30,7 +30,7 @@ pub record Starts (job : List ℕ) (parts : JobParts) (w v : List ℕ) (r : Stat
   pub same-length : length v ≡ length w
   pub beyond : (i : ℕ) → framesEnd ≤ i → getD v i 0 ≡ getD w i 0
   pub no-steps : r .steps ≡ 0
-  pub runs : (table : List ℕ) (j : Job) → JobStands job j → jobPartsOf j ≡ parts → Runs table job v r (j .term) (j .goals) []
+  pub runs : (table : List ℕ) (j : Job) → JobStands job j → jobPartsOf j ≡ parts → Runs table job v r (record { file = 1; at = jobTermPlace j }) (j .term) (j .goals) []
 
 -- the end of a run
 pub record FinishGiven (job : List ℕ) (term : ℕ) (w : List ℕ) (s : State) : Type 0 where
@@ -63,4 +63,4 @@ pub record JobGiven (bytes : List ℕ) (first definitions : ℕ) (job : List ℕ
 abbrev pub JobRan : (bytes : List ℕ) → (first definitions : ℕ) → (job : List ℕ) → JobParts → (budget : ℕ) → List ℕ → Answer → List ℕ → Type 0
 JobRan bytes first definitions job parts budget o r v =
     (T : Table) (j : Job) → TableStands bytes first T → UniqueDefinitions T → definitions ≡ length (T .definitions) → JobStands job j → jobPartsOf j ≡ parts
-    → kept r v ≡ leftIn o (runResult j (M.run T budget (M.start (j .term) (j .goals))))
+    → kept r v ≡ leftIn o (runResult j (M.run T budget (begins j)))

@@ -28,14 +28,15 @@ pub record Started (bytes : List ℕ) (first : ℕ) (job w : List ℕ) (s : Stat
   pub table : Table
   pub table-stands : TableStands bytes first table
   pub known : ArityTable w (arities table)
+  pub place : M.Place
   pub term : Term
   pub goals : List Goal
   pub frames : List M.Frame
-  pub runs : Runs bytes job w s term goals frames
+  pub runs : Runs bytes job w s place term goals frames
 
 -- a run: what the code shows is the machine's state after at most so many steps
 pub record Ran (bytes : List ℕ) (first : ℕ) (job w : List ℕ) (s : State) (budget : ℕ) (v : List ℕ) (r : State) : Type 0 where
   pub same-length : length v ≡ length w
   pub few-steps : r .steps ≤ s .steps + budget
-  pub shows : (T : Table) (t : Term) (g : List Goal) (k : List M.Frame) → TableStands bytes first T → ArityTable w (arities T) → Runs bytes job w s t g k
-      → ShowsState bytes job v r (M.run T budget (M.after (s .steps) (M.running t g k)))
+  pub shows : (T : Table) (π : M.Place) (t : Term) (g : List Goal) (k : List M.Frame) → TableStands bytes first T → ArityTable w (arities T) → Runs bytes job w s π t g k
+      → ShowsState bytes job v r (M.run T budget (M.after (s .steps) (M.running π t g k)))

@@ -5,6 +5,7 @@ pub mod StateLaws
 pub mod RowLaws
 pub mod TableLaws
 pub mod LookupLaws
+pub mod PlaceLaws
 pub mod SearchLaws
 pub mod RunLaws
 pub mod RepeatLaws

@@ -19,6 +19,7 @@ use Rattle.tables.specs.declared.lookup.BodyFound.{BodyFound}
 use Rattle.tables.specs.declared.lookup.BodyFound.the-variants as B
 use Rattle.tables.specs.Tables.{Table}
 use Rattle.tables.specs.Lookup.{FoundRule, foundRule, findRule, findBody}
+use Rattle.tables.specs.Places.{bodyPlace}
 use Rattle.tables.specs.Standing.{TableStands}
 
 -- the rule at a place has that name and that goal
@@ -45,6 +46,11 @@ unfoldable pub BodyStands : List ℕ → BodyFound → Option Term → Type 0
 BodyStands s B.Missing o = o ≡ none
 BodyStands s (B.At place) o = (t : Term) × (o ≡ some t) × Stands s place t
 
+-- at the place of the first definition of that tactic
+unfoldable pub BodyPlaced : BodyFound → (place : ℕ) → Type 0
+BodyPlaced B.Missing p = Unit {0}
+BodyPlaced (B.At place) p = place ≡ p
+
 -- the answer of the search for a definition: that of every table that stands in these bytes
 abbrev pub FindsBody : List ℕ → (first : ℕ) → TacticNo → BodyFound → Type 0
-FindsBody s first n r = (T : Table) → TableStands s first T → BodyStands s r (findBody T n)
+FindsBody s first n r = (T : Table) → TableStands s first T → BodyStands s r (findBody T n) × BodyPlaced r (bodyPlace T n)

@@ -1,5 +1,6 @@
 pub mod Tables
 pub mod Lookup
+pub mod Places
 pub mod Repeats
 pub mod ReadTables
 pub mod TableBytes

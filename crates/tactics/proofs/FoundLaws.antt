@@ -15,7 +15,8 @@ use Rattle.tables.specs.declared.lookup.BodyFound.{BodyFound}
 use Rattle.tables.specs.Tables.{Table}
 use Rattle.tables.specs.Lookup.{findRule, findBody}
 use Rattle.tables.specs.Standing.{TableStands}
-use Rattle.tables.specs.Found.{ruleFound, FindsRule, FoundInside, BodyStands, FindsBody}
+use Rattle.tables.specs.Found.{ruleFound, FindsRule, FoundInside, BodyStands, BodyPlaced, FindsBody}
+use Rattle.tables.specs.Places.{bodyPlace}
 use Rattle.hitac.specs.Outcomes.{foundPremises, ruleGives}
 use Rattle.tactics.proofs.FormLaws.{one-at}
 
@@ -34,9 +35,16 @@ module _ (bytes : List ℕ) (first : ℕ) (name : RuleName) (goal : Goal) (o : R
   unfolding FoundInside
   rule-inside number place n m = subst (λ (x : RuleFound). FoundInside bytes x) m (f .inside)
 
--- the body of a defined tactic
-pub body-stands : (bytes : List ℕ) (first : ℕ) (number : TacticNo) (o : BodyFound) → FindsBody bytes first number o
-    → (T : Table) (d : TacticNo) (x : BodyFound) → TableStands bytes first T → number .0 ≡ d .0 → o ≡ x → BodyStands bytes x (findBody T d)
-body-stands bytes first number o f T d x st i m =
-    let same : number ≡ d = λ j. record { 0 = i j } in
-    subst (λ (y : BodyFound). BodyStands bytes y (findBody T d)) m (subst (λ (y : TacticNo). BodyStands bytes o (findBody T y)) same (f T st))
+-- the body of a defined tactic, and its place
+module _ (bytes : List ℕ) (first : ℕ) (number : TacticNo) (o : BodyFound) (f : FindsBody bytes first number o) (T : Table) (d : TacticNo) (x : BodyFound) (st : TableStands bytes first T) (i : number .0 ≡ d .0) (m : o ≡ x) where
+  finds-body : BodyStands bytes x (findBody T d) × BodyPlaced x (bodyPlace T d)
+  finds-body =
+      let same : number ≡ d = λ j. record { 0 = i j } in
+      subst (λ (y : BodyFound). BodyStands bytes y (findBody T d) × BodyPlaced y (bodyPlace T d)) m
+      (subst (λ (y : TacticNo). BodyStands bytes o (findBody T y) × BodyPlaced o (bodyPlace T y)) same (f T st))
+
+  pub body-stands : BodyStands bytes x (findBody T d)
+  body-stands = finds-body .0
+
+  pub body-placed : BodyPlaced x (bodyPlace T d)
+  body-placed = finds-body .1

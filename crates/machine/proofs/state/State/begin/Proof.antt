@@ -99,8 +99,10 @@ label-at-requires c κs =
 begin-label-requires : tie.Need-begin-label-requires
 begin-label-requires c κs =
     let a = c .before .before .before .before .before .before .before .before .before .before .args in
-    let p = c .before .before .before .before .before .before .before .before .before .before .pre in
-    (given-room (a .table .now) (a .first) (a .src .now) (a .work .now) (a .self) p, omega (arith, given-at (a .table .now) (a .first) (a .src .now) (a .work .now) (a .self) p, p .src-small))
+    let p = c .before .before .before .before .before .before .before .before .before .before .pre in (
+      given-room (a .table .now) (a .first) (a .src .now) (a .work .now) (a .self) p,
+      omega (arith, value-room (a .src .now) (a .self .at) (p .term) (given-stands (a .table .now) (a .first) (a .src .now) (a .work .now) (a .self) p) (c .before .before .before .before .before .if1 .left) (c .before .before .before .before .if2 .left), p .src-small),
+    )
 
 same-length-4 : tie.Need-same-length-4
 same-length-4 c = c .before .before .begin-label .ensures .1 .same-length

@@ -3,12 +3,12 @@
 use mathlib.Core.Path.{ap, _∙_}
 use mathlib.Core.List.{List}
 use Prim.Native.Nat.{ℕ, _+_, _-_}
+use native.Mathlib.Omega.{arith}
 use Rattle.words.specs.Word.{putWord}
 use Rattle.tactics.proofs.numbers.put_header.Reads as put-header-reads
 use Rattle.frames.specs.Frames.{putFrame}
 use Rattle.machine.specs.Begun.{labelFrame}
 use Rattle.machine.proofs.BeginLaws.{label-fails, label-end}
-use native.Mathlib.Omega.{arith}
 use borrow.Author.Needs.{needs}
 use Rattle.machine.proofs.state.State.begin_label.Statement.{statement}
 use Rattle.machine.proofs.state.State.begin_label.Tie as tie
@@ -30,29 +30,32 @@ returns c =
 sub-top : tie.Need-sub-top
 sub-top c = omega (arith, c .before .before .before .before .pre)
 
+add-inner : tie.Need-add-inner
+add-inner c = omega (arith, c .before .before .before .before .before .pre)
+
 put-header-requires : tie.Need-put-header-requires
 put-header-requires c κs = search needs
 
 add-store16 : tie.Need-add-store16
-add-store16 c = omega (arith, c .before .before .before .before .before .before .before .before .before .pre)
+add-store16 c = omega (arith, c .before .before .before .before .before .before .before .before .before .before .pre)
 
 store16-requires : tie.Need-store16-requires
 store16-requires c κs = search needs
 
-cast-t15 : tie.Need-cast-t15
-cast-t15 c = omega (arith, c .before .before .before .before .before .before .before .before .before .before .before .before .pre)
+cast-t16 : tie.Need-cast-t16
+cast-t16 c = omega (arith, c .before .before .before .before .before .before .before .before .before .before .before .before .before .pre)
+
+cast-t17 : tie.Need-cast-t17
+cast-t17 c = omega (arith, c .before .before .before .before .before .before .before .before .before .before .before .before .before .pre)
 
 store-frame-requires : tie.Need-store-frame-requires
 store-frame-requires c κs = search needs
 
-add-t14 : tie.Need-add-t14
-add-t14 c = omega (arith, c .before .before .before .before .before .before .before .before .before .before .before .before .before .before .before .before .before .pre)
+add-t15 : tie.Need-add-t15
+add-t15 c = omega (arith, c .before .before .before .before .before .before .before .before .before .before .before .before .before .before .before .before .before .pre)
 
-add-t18 : tie.Need-add-t18
-add-t18 c = omega (arith, c .before .before .before .before .before .before .before .before .before .before .before .before .before .before .before .before .before .pre)
-
-add-t19 : tie.Need-add-t19
-add-t19 c = omega (arith, c .before .before .before .before .before .before .before .before .before .before .before .before .before .before .before .before .before .before .pre)
+add-t20 : tie.Need-add-t20
+add-t20 c = omega (arith, c .before .before .before .before .before .before .before .before .before .before .before .before .before .before .before .before .before .before .pre)
 
 same-length : tie.Need-same-length
 same-length c = search needs
@@ -62,8 +65,8 @@ returns-2 c =
     let a = c .before .before .before .before .before .before .before .before .before .before .before .before .before .before .before .before .before .before .args in
     let p = c .before .before .before .before .before .before .before .before .before .before .before .before .before .before .before .before .before .before .pre in
     label-end (a .work .now) (a .self) (p .0) (a .name .0) _ (c .before .before .before .before .before .before .before .before .before .before .before .before .before .before .before .if1 .left)
-    (c .before .before .before .before .store-frame .ensures ∙ ap (λ (x : List ℕ). putFrame x (a .self .top - 14) (labelFrame (a .self)))
-    (c .before .before .before .before .before .before .before .before .store16 .ensures ∙ ap (λ (x : List ℕ). putWord x (a .self .out + 3) (a .name .0)) (c .before .before .before .before .before .before .before .before .before .before .before .before .put-header .ensures)))
+    (c .before .before .before .store-frame .ensures ∙ ap (λ (x : List ℕ). putFrame x (a .self .top - 14) (labelFrame (a .self)))
+    (c .before .before .before .before .before .before .before .store16 .ensures ∙ ap (λ (x : List ℕ). putWord x (a .self .out + 3) (a .name .0)) (c .before .before .before .before .before .before .before .before .before .before .before .put-header .ensures)))
 
 pub begin-label-spec : {M : Type 1} → statement M
 begin-label-spec =
@@ -72,13 +75,14 @@ begin-label-spec =
     fail-requires
     returns
     sub-top
+    add-inner
     put-header-requires
     add-store16
     store16-requires
-    cast-t15
+    cast-t16
+    cast-t17
     store-frame-requires
-    add-t14
-    add-t18
-    add-t19
+    add-t15
+    add-t20
     same-length
     returns-2)
