@@ -35,4 +35,5 @@ pub mod MachineMeaning
 pub mod BigStep
 pub mod HiproofRuns
 pub mod RunBounds
+pub mod SharedGoals
 pub mod HaltBounds

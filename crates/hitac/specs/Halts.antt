@@ -1,6 +1,7 @@
 -- Document 02, P1: what a halted run holds, as its saved state gives it: "the fields finished so far, and the waiting terms, each with its goals still
 -- to come, innermost last".
 use Prim.Native.Nat.{ℕ, suc, _+_, _-_, _≤_}
+use mathlib.Core.Path.{_≡_}
 use mathlib.Core.List.{List, [], _∷_, _++_}
 use lib.ListN.{length, take}
 use Rattle.format.specs.declared.values.Goal.{Goal}
@@ -44,6 +45,30 @@ heldOf x (sequenceRight π s) = 0
 heldOf x (tensorLeft π u h) = x + length h
 heldOf x (tensorRight π s h) = x
 heldOf x (alternationLeft π u h) = length h
+
+-- those goals themselves, as one who reads a saved state rebuilds them from the own goals of each waiting term, from the innermost on; of the term to begin
+-- they are all its goals
+abbrev pub heldGoals : (inside : List Goal) → Frame → List Goal
+heldGoals y (labelled π l) = y
+heldGoals y (sequenceLeft π u) = y
+heldGoals y (sequenceRight π s) = []
+heldGoals y (tensorLeft π u h) = y ++ h
+heldGoals y (tensorRight π s h) = y
+heldGoals y (alternationLeft π u h) = ownGoals (length y) (alternationLeft π u h) ++ y
+
+-- what is rebuilt of an alternation is its whole list of goals, on which its right term is to begin
+abbrev pub Rebuilt : (inside : List Goal) → Frame → Type 0
+Rebuilt y (labelled π l) = Unit {0}
+Rebuilt y (sequenceLeft π u) = Unit {0}
+Rebuilt y (sequenceRight π s) = Unit {0}
+Rebuilt y (tensorLeft π u h) = Unit {0}
+Rebuilt y (tensorRight π s h) = Unit {0}
+Rebuilt y (alternationLeft π u h) = h ≡ heldGoals y (alternationLeft π u h)
+
+-- the same of every alternation that waits: the waiting terms share their goals with those inside them
+unfoldable pub Shared : (inside : List Goal) → List Frame → Type 0
+Shared y [] = Unit {0}
+Shared y (f ∷ w) = Rebuilt y f × Shared (heldGoals y f) w
 
 -- all own goals of the waiting terms, innermost first
 unfoldable pub ownCount : (inside : ℕ) → List Frame → ℕ
