@@ -2,3 +2,5 @@ pub mod LeftLaws
 pub mod Worked
 pub mod SameGoals
 pub mod ProofFiles
+pub mod SavedStateLaws
+pub mod SameBytes
