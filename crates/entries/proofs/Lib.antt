@@ -4,3 +4,4 @@ pub mod SameGoals
 pub mod ProofFiles
 pub mod SavedStateLaws
 pub mod SameBytes
+pub mod HaltingLaws

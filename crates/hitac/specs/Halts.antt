@@ -2,7 +2,9 @@
 -- to come, innermost last".
 use Prim.Native.Nat.{ℕ, suc, _+_, _-_, _≤_}
 use mathlib.Core.Path.{_≡_}
+use mathlib.Core.Bool.{cond}
 use mathlib.Core.List.{List, [], _∷_, _++_}
+use lib.Dec.{eqb}
 use lib.ListN.{length, take}
 use Rattle.format.specs.declared.values.Goal.{Goal}
 use Rattle.format.specs.Terms.{Term, size, fields}
@@ -46,26 +48,27 @@ heldOf x (tensorLeft π u h) = x + length h
 heldOf x (tensorRight π s h) = x
 heldOf x (alternationLeft π u h) = length h
 
--- those goals themselves, as one who reads a saved state rebuilds them from the own goals of each waiting term, from the innermost on; of the term to begin
--- they are all its goals
+-- those goals themselves, as one who reads a saved state rebuilds them at a waiting term: from its stage and its own goals, which are saved, and from the goals
+-- rebuilt inside it; those of the term to begin are all saved
+abbrev pub rebuilt : (inside : List Goal) → (stage : ℕ) → (own : List Goal) → List Goal
+rebuilt y k g = cond (eqb k 3) [] (cond (eqb k 4) (y ++ g) (cond (eqb k 6) (g ++ y) y))
+
 abbrev pub heldGoals : (inside : List Goal) → Frame → List Goal
-heldGoals y (labelled π l) = y
-heldGoals y (sequenceLeft π u) = y
-heldGoals y (sequenceRight π s) = []
-heldGoals y (tensorLeft π u h) = y ++ h
-heldGoals y (tensorRight π s h) = y
-heldGoals y (alternationLeft π u h) = ownGoals (length y) (alternationLeft π u h) ++ y
+heldGoals y f = rebuilt y (stage f) (ownGoals (length y) f)
 
--- what is rebuilt of an alternation is its whole list of goals, on which its right term is to begin
+-- these are all goals of an alternation, on which its right term is to begin
+abbrev pub IsWhole : Frame → List Goal → Type 0
+IsWhole (labelled π l) g = Unit {0}
+IsWhole (sequenceLeft π u) g = Unit {0}
+IsWhole (sequenceRight π s) g = Unit {0}
+IsWhole (tensorLeft π u h) g = Unit {0}
+IsWhole (tensorRight π s h) g = Unit {0}
+IsWhole (alternationLeft π u h) g = h ≡ g
+
 abbrev pub Rebuilt : (inside : List Goal) → Frame → Type 0
-Rebuilt y (labelled π l) = Unit {0}
-Rebuilt y (sequenceLeft π u) = Unit {0}
-Rebuilt y (sequenceRight π s) = Unit {0}
-Rebuilt y (tensorLeft π u h) = Unit {0}
-Rebuilt y (tensorRight π s h) = Unit {0}
-Rebuilt y (alternationLeft π u h) = h ≡ heldGoals y (alternationLeft π u h)
+Rebuilt y f = IsWhole f (heldGoals y f)
 
--- the same of every alternation that waits: the waiting terms share their goals with those inside them
+-- of every alternation that waits all goals are rebuilt: the waiting terms share their goals with those inside them
 unfoldable pub Shared : (inside : List Goal) → List Frame → Type 0
 Shared y [] = Unit {0}
 Shared y (f ∷ w) = Rebuilt y f × Shared (heldGoals y f) w
