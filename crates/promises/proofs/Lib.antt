@@ -14,6 +14,11 @@ pub mod NoBytesPromises
 pub mod RunWithin
 pub mod RunPromises
 pub mod RunMeaning
+pub mod HaltingCases
+pub mod HaltingPromises
+pub mod ResumeCases
+pub mod ResumePromises
+pub mod OwnGoals
 pub mod SearchPromises
 pub mod ReadTextPromises
 pub mod WriteTextPromises

@@ -47,7 +47,7 @@ use Rattle.promises.proofs.LentLaws.{Answers, ends-written}
 use Rattle.promises.proofs.RunWithin.{evaluated-values}
 
 -- where a job's term stands
-abbrev at-job : Job → Place
+abbrev pub at-job : Job → Place
 at-job j = record { file = 1; at = jobTermPlace j }
 
 module _ (t f : List ℕ) (b : ℕ) (T : Table) (j : Job) (l : b ≤ mostSteps) (e : readTable t ≡ gives T) (g : readJob f ≡ gives j) where
@@ -211,6 +211,9 @@ module _ (t f : List ℕ) (b : ℕ) where
   by-budget (yes h) = subst Ok (sym (over-budget h)) too-large
   by-budget (no h) = by-table (omega arith) (readTable t) refl
 
+  pub run-outcome : Ok (runOutcome t f b)
+  run-outcome = by-budget (decLt mostSteps b)
+
 pub run-ends : Run-ends
 unfolding runTactic
-run-ends t f b w o = ends-written t f w o (RunRefuses b) runWork (runOutcome t f b) (by-budget t f b (decLt mostSteps b))
+run-ends t f b w o = ends-written t f w o (RunRefuses b) runWork (runOutcome t f b) (run-outcome t f b)

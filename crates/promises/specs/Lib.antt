@@ -13,6 +13,9 @@ pub mod RulesPromises
 pub mod NoBytesPromises
 pub mod RunPromises
 pub mod RunMeaning
+pub mod HaltingPromises
+pub mod ResumePromises
+pub mod OwnGoals
 pub mod SearchPromises
 pub mod ReadTextPromises
 pub mod WriteTextPromises
