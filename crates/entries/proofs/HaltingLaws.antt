@@ -3,8 +3,8 @@
 use Prim.Native.Nat.{ℕ, _+_, _≤_, _<_}
 use native.Mathlib.Omega.{arith}
 use native.Mathlib.Decide.{decLt}
-use mathlib.Core.Path.{_≡_, refl, sym, ap, _∙_}
-use mathlib.Core.Bool.{Bool, true, false, cond, _||_}
+use mathlib.Core.Path.{_≡_, refl, _∙_}
+use mathlib.Core.Bool.{Bool, true, false, cond}
 use mathlib.Core.List.{List}
 use mathlib.Core.Option.{some}
 use lib.Dec.{ltb}
@@ -19,11 +19,11 @@ use Rattle.files.specs.Jobs.{Job, readJob}
 use Rattle.hitac.specs.Machine.{run}
 use Rattle.answers.specs.Answers as answer
 use Rattle.lent_frames.specs.declared.LentFrame.{LentFrame}
-use Rattle.entries.specs.Outcomes.{Outcome, refusal, inFile}
-use Rattle.entries.specs.LentSpace.{Written, writeOut}
+use Rattle.entries.specs.Outcomes.{refusal, inFile}
+use Rattle.entries.specs.LentSpace.{writeOut}
 use Rattle.entries.specs.Run.{begins, runResult, runOutcome}
 use Rattle.entries.specs.SavedState.{savedSize, savedState}
-use Rattle.entries.specs.Halting.{HaltingOutcome, unbegun, ranFor, withJob, withFiles, withinLimit, haltingOutcome, stepsOf, genuine, goingOn, resumeOutcome, haltingWork, mostFrames, Halting, clearedFrames, saveIn, spacesAfter, anyShort, haltIn}
+use Rattle.entries.specs.Halting.{HaltingOutcome, unbegun, ranFor, withJob, withFiles, withinLimit, haltingOutcome, stepsOf, genuine, goingOn, haltingWork, mostFrames, Halting, clearedFrames, saveIn, spacesAfter, haltIn}
 use Rattle.entries.proofs.SameBytes.{saved-equal, equal-saved}
 
 module _ (work : List ℕ) (frames : List LentFrame) (out state : List ℕ) where

@@ -1,15 +1,15 @@
 -- The saved state of a halted run: how long its contents are, that they fit into the size that docs/ names, and that its first two bytes are its step count.
 -- Assumes nothing.
-use Prim.Native.Nat.{ℕ, suc, _+_, _-_, _*_, _/_, _%_, _≤_, _<_}
+use Prim.Native.Nat.{ℕ, _+_, _-_, _*_, _/_, _%_, _≤_, _<_}
 use native.Mathlib.Omega.{arith}
 use mathlib.Core.Path.{_≡_, refl, sym, subst, ap, _∙_}
 use mathlib.Core.List.{List, [], _∷_, _++_}
-use mathlib.Core.Option.{none, some, Option·none-ne-some}
+use mathlib.Core.Option.{some, Option·none-ne-some}
 use lib.ListN.{length, replicate, length-append, length-replicate}
 use borrow.Author.Tests.{le-ltb}
 use Rattle.words.specs.Word.{word}
 use Rattle.format.specs.declared.values.Goal.{Goal}
-use Rattle.format.specs.Encoding.{wordBytes, goalBytes}
+use Rattle.format.specs.Encoding.{wordBytes}
 use Rattle.format.specs.Limits.{mostSteps}
 use Rattle.format.specs.Results.{gives}
 use Rattle.format.specs.Terms.{Term}
@@ -79,7 +79,7 @@ pub steps-read : (n : ℕ) (s : List ℕ) → n < 65536 → stepsOf (wordBytes n
 unfolding stepsOf word
 steps-read n s h = rw (le-ltb (length (n / 256 ∷ n % 256 ∷ s)) 2 (omega arith)) (omega arith)
 
-some-of : {x y : List ℕ} → some x ≡ some y → x ≡ y
+pub some-of : {x y : List ℕ} → some x ≡ some y → x ≡ y
 some-of q = cc
 
 -- A table and a job that were read, and at most as many steps as are allowed.

@@ -18,7 +18,7 @@ use Rattle.tables.specs.Places.{bodyPlace}
 use Rattle.hitac.specs.TacticArity.{tacticArity}
 use Rattle.hitac.specs.Outcomes.{Ending, proved, failed, ended, ruleGives, oneGoal, noGoal, assertGives, splitAt, splitBy, finished, inLabel, afterLeft, besideLeft}
 use Rattle.hitac.specs.Machine.{Place, past, Frame, labelled, sequenceLeft, sequenceRight, tensorLeft, tensorRight, alternationLeft, Control, running, stopped, State, after, unwind, enterOrFail, begin, stepFrom, step, run, start}
-use Rattle.hitac.specs.Halts.{ownGoals, heldOf, heldGoals, Rebuilt, Shared}
+use Rattle.hitac.specs.Halts.{heldOf, heldGoals, Rebuilt, Shared}
 
 -- the last goals of a list, and those before them
 last-of : (p y : List Goal) → p ++ y ≡ take (length (p ++ y) - length y) (p ++ y) ++ y

@@ -1,13 +1,13 @@
 -- Document 02, P1: what a halted run holds, as its saved state gives it: "the fields finished so far, and the waiting terms, each with its goals still
 -- to come, innermost last".
-use Prim.Native.Nat.{ℕ, suc, _+_, _-_, _≤_}
+use Prim.Native.Nat.{ℕ, _+_, _-_}
 use mathlib.Core.Path.{_≡_}
 use mathlib.Core.Bool.{cond}
 use mathlib.Core.List.{List, [], _∷_, _++_}
 use lib.Dec.{eqb}
 use lib.ListN.{length, take}
 use Rattle.format.specs.declared.values.Goal.{Goal}
-use Rattle.format.specs.Terms.{Term, size, fields}
+use Rattle.format.specs.Terms.{size}
 use Rattle.hitac.specs.RunSizes.{frameFields}
 use Rattle.hitac.specs.Machine.{Place, Frame, labelled, sequenceLeft, sequenceRight, tensorLeft, tensorRight, alternationLeft}
 

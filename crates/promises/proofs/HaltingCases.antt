@@ -1,18 +1,18 @@
 -- What a call that may halt comes to, before lent space is looked at and after: a halt, which is 24 and has a saved state, or an end or a refusal, which is not
 -- and has none. Assumes nothing.
-use Prim.Native.Nat.{ℕ, _+_, _≤_, _<_}
+use Prim.Native.Nat.{ℕ, _≤_, _<_}
 use native.Mathlib.Omega.{arith}
 use native.Mathlib.Decide.{decLt}
 use mathlib.Core.Path.{_≡_, refl, sym, subst, ap, _∙_}
 use mathlib.Core.Logic.{_⊎_, inl, inr}
 use mathlib.Core.Bool.{Bool, true, false, cond}
 use mathlib.Core.List.{List, _++_}
-use mathlib.Core.Option.{Option, none, some, Option·none-ne-some}
+use mathlib.Core.Option.{none, some, Option·none-ne-some}
 use lib.Dec.{ltb}
 use lib.ListN.{length, take, drop, replicate}
 use lib.Seq.{take-at}
 use Rattle.format.specs.Limits.{mostSteps}
-use Rattle.format.specs.Refusals.{Cause, number, joinedTooLong, budgetSpent, budgetTooLarge, stateNotGenuine}
+use Rattle.format.specs.Refusals.{number, joinedTooLong, budgetSpent, budgetTooLarge}
 use Rattle.format.specs.Results.{Result, gives, refused}
 use Rattle.tables.specs.Tables.{Table}
 use Rattle.tables.specs.ReadTables.{readTable}

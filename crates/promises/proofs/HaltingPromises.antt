@@ -1,5 +1,5 @@
 -- The promises of run_halting: by what it comes to, and by the entry run. Assumes nothing.
-use Prim.Native.Nat.{ℕ, _≤_, _<_}
+use Prim.Native.Nat.{ℕ, _≤_}
 use native.Mathlib.Omega.{arith}
 use mathlib.Core.Path.{_≡_, refl, sym, subst, ap, _∙_}
 use mathlib.Core.List.{List, [], _++_}
@@ -17,20 +17,20 @@ use Rattle.hitac.proofs.RunLaws.{more-budget}
 use Rattle.answers.specs.Answers as answer
 use Rattle.lent_frames.specs.declared.LentFrame.{LentFrame}
 use Rattle.lent_frames.specs.Frames.{noFrame}
-use Rattle.entries.specs.Outcomes.{Outcome, success, refusal}
+use Rattle.entries.specs.Outcomes.{refusal}
 use Rattle.entries.specs.LentSpace.{Written, writeOut, writeIn}
 use Rattle.entries.specs.Run.{begins, runEnd, runResult, runOutcome, runWork, runTactic}
 use Rattle.entries.specs.SavedState.{savedSize, zerosTo, savedIn, savedState}
-use Rattle.entries.specs.Halting.{HaltingOutcome, unbegun, ranFor, withJob, withFiles, haltingOutcome, Halting, saveIn, haltIn, runHalting}
-use Rattle.entries.proofs.HaltingLaws.{enough-or-not, lent-enough, lent-short, over-limit, table-refused, job-refused, both-read, halting-run}
+use Rattle.entries.specs.Halting.{HaltingOutcome, ranFor, haltingOutcome, Halting, saveIn, haltIn, runHalting}
+use Rattle.entries.proofs.HaltingLaws.{enough-or-not, lent-enough, lent-short, table-refused, job-refused, both-read, halting-run}
 use Rattle.entries.proofs.SavedStateLaws.{zeros-length, contents-fit}
 use Rattle.promises.specs.Ended as ended
 use Rattle.promises.specs.RunPromises.{RunRefuses}
 use Rattle.promises.specs.HaltingPromises as promise
-use Rattle.promises.specs.HaltingPromises.{Enough, untouched, HaltsAfter, EndsHalting}
+use Rattle.promises.specs.HaltingPromises.{Enough, HaltsAfter, EndsHalting}
 use Rattle.promises.proofs.LentLaws.{Answers, ends-written}
 use Rattle.promises.proofs.RunPromises.{at-job, run-outcome}
-use Rattle.promises.proofs.HaltingCases.{Comes, comes-halted, comes-ended, RunMay, Refused, run-unlisted, halting-comes, other-number, writes-state, saved-answer, unsaved}
+use Rattle.promises.proofs.HaltingCases.{Comes, comes-halted, comes-ended, RunMay, run-unlisted, halting-comes, other-number, writes-state, saved-answer, unsaved}
 
 -- HALTS AS RUN: with spaces that suffice, all but the second space and the frames is as in the entry run.
 pub halts-as-run : promise.Halts-as-run

@@ -1,12 +1,12 @@
 -- From what is saved of the waiting terms all goals of each alternation are rebuilt: by the theorem of hitac that goals are shared, and as many are rebuilt as are
 -- counted. Assumes nothing.
 use Prim.Native.Nat.{ℕ}
-use mathlib.Core.Path.{_≡_, refl, subst, ap, sym, _∙_}
+use mathlib.Core.Path.{subst, sym}
 use mathlib.Core.List.{List, [], _∷_}
 use lib.ListN.{length}
 use Rattle.format.specs.declared.values.Goal.{Goal}
 use Rattle.hitac.specs.Machine.{Frame}
-use Rattle.hitac.specs.Halts.{stage, ownGoals, heldOf, rebuilt, heldGoals, IsWhole, Shared}
+use Rattle.hitac.specs.Halts.{heldGoals, Shared}
 use Rattle.hitac.proofs.SharedGoals.{held-length, run-shared}
 use Rattle.promises.specs.OwnGoals.{Rebuilds, Own-goals}
 use Rattle.promises.proofs.RunPromises.{at-job}

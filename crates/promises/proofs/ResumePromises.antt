@@ -1,6 +1,6 @@
 -- The promises of resume: what is read of a saved state is its step count, after so many steps the machine stands where it halted, and from there it is a single run.
 -- Assumes nothing.
-use Prim.Native.Nat.{ℕ, _+_, _*_, _≤_, _<_}
+use Prim.Native.Nat.{ℕ, _+_, _≤_}
 use native.Mathlib.Omega.{arith}
 use mathlib.Core.Path.{_≡_, refl, sym, subst, ap, _∙_}
 use mathlib.Core.Logic.{inl, inr}
@@ -23,10 +23,10 @@ use Rattle.lent_frames.specs.declared.LentFrame.{LentFrame}
 use Rattle.entries.specs.Outcomes.{Outcome, success, refusal}
 use Rattle.entries.specs.LentSpace.{writeOut}
 use Rattle.entries.specs.Run.{begins}
-use Rattle.entries.specs.SavedState.{savedSize, zerosTo, savedState}
+use Rattle.entries.specs.SavedState.{savedSize, savedState}
 use Rattle.entries.specs.Halting.{HaltingOutcome, unbegun, ranFor, haltingOutcome, stepsOf, genuine, resumeOutcome, Halting, saveIn, haltIn, runHalting, resumeRun}
 use Rattle.entries.proofs.HaltingLaws.{enough-or-not, lent-enough, lent-short, both-read, halting-run, genuine-saved, saved-genuine}
-use Rattle.entries.proofs.SavedStateLaws.{saved-length, saved-steps}
+use Rattle.entries.proofs.SavedStateLaws.{some-of, saved-length, saved-steps}
 use Rattle.promises.specs.Ended as ended
 use Rattle.promises.specs.Ended.{EndedWriting, ended-wrote, ended-output, ended-unstarted}
 use Rattle.promises.specs.RunPromises.{RunRefuses}
@@ -37,15 +37,12 @@ use Rattle.promises.proofs.LentLaws.{Answers}
 use Rattle.promises.proofs.RunPromises.{run-outcome}
 use Rattle.promises.proofs.HaltingCases.{Comes, comes-halted, comes-ended, RunMay, ResumeMay, run-unlisted, resume-unlisted, halting-comes, other-number, writes-state, saved-first, saved-answer}
 use Rattle.promises.proofs.HaltingPromises.{not-24, ends-halting, not-short, same-halting, same-call}
-use Rattle.promises.proofs.ResumeCases.{is-false, resume-over, resume-table, resume-job, resume-forged, resume-run, Resumes, over, in-table, in-job, forged, as-run, resumes, resume-comes}
+use Rattle.promises.proofs.ResumeCases.{resume-over, resume-table, resume-job, resume-forged, resume-run, Resumes, over, in-table, in-job, forged, as-run, resumes, resume-comes}
 
 -- STEPS: b is the number in the first two bytes, and 0 of a state that is shorter.
 pub steps-of : promise.Steps-of
 unfolding stepsOf word
 steps-of s = (λ l. rw (lt-ltb (length s) 2 l), λ x y. rw (le-ltb (length (x ∷ y ∷ s)) 2 (omega arith)) (omega arith))
-
-some-of : {x y : List ℕ} → some x ≡ some y → x ≡ y
-some-of q = cc
 
 module _ (t f : List ℕ) (T : Table) (j : Job) (e : readTable t ≡ gives T) (g : readJob f ≡ gives j) where
   saved-is : (b : ℕ) → b ≤ mostSteps → haltingOutcome t f b .saved ≡ savedState (run T b (begins j))
@@ -80,7 +77,7 @@ pub other-size : promise.Other-size
 other-size t f s T j e g k q = saved-length t f T j e g (stepsOf s) k s (genuine-saved T j s q)
 
 -- GOES ON: after a halt at b, going on with c is a run with b + c, with all of the answer and every byte of the lent spaces.
-pub record Halt (t f : List ℕ) (b : ℕ) (s : List ℕ) : Type 0 where
+record Halt (t f : List ℕ) (b : ℕ) (s : List ℕ) : Type 0 where
   table : Table
   job : Job
   table-read : readTable t ≡ gives table
