@@ -1,5 +1,6 @@
 pub mod LeftLaws
 pub mod Worked
+pub mod WorkedHalts
 pub mod SameGoals
 pub mod ProofFiles
 pub mod SavedStateLaws

@@ -12,3 +12,4 @@ pub mod PrintedLine
 pub mod CheckProgram
 pub mod Lines
 pub mod Worked
+pub mod WorkedHalts

@@ -3,16 +3,20 @@ use Prim.Native.Nat.{ℕ}
 use mathlib.Core.Path.{_≡_}
 use mathlib.Core.Bool.{Bool}
 use mathlib.Core.List.{List, [], _∷_}
+use mathlib.Core.Option.{some}
 use lib.ListN.{length}
+use Rattle.format.specs.Refusals.{budgetSpent}
 use Rattle.format.specs.Results.{Result}
 use Rattle.tables.specs.Tables.{Table}
 use Rattle.files.specs.Derivations.{Derivation}
 use Rattle.answers.specs.declared.Answer.{Answer}
-use Rattle.entries.specs.Outcomes.{Outcome}
+use Rattle.entries.specs.Outcomes.{Outcome, refusal, noFile}
 use Rattle.entries.specs.LentSpace.{Counts, Checked, countedAnswer, Written, writeOut}
 use Rattle.entries.specs.Check.{onProof, proofCounts, forestFile, check}
 use Rattle.entries.specs.CheckFlat.{checkFlatOutcome, writeOutcome, writtenFile}
 use Rattle.entries.specs.Run.{runOutcome, runTactic}
+use Rattle.entries.specs.SavedState.{savedSize, zerosTo}
+use Rattle.entries.specs.Halting.{HaltingOutcome, unbegun, haltingOutcome, stepsOf, resumeOutcome}
 use Rattle.entries.specs.Search.{searchOutcome, searchTactic}
 use Rattle.entries.specs.Texts.{readTextOutcome, writeTextOutcome}
 use Rattle.entries.specs.PrintedLine.{printedLine}
@@ -29,6 +33,10 @@ pub data Line : Type 0 where
   runs : (table job : List ℕ) → (budget : ℕ) → Outcome (List ℕ) → Line
   runsInto : (table job : List ℕ) → (budget : ℕ) → (work out : List ℕ) → Written → Line
   runsWith : (table job : List ℕ) → (budget : ℕ) → (work out : List ℕ) → Written → Line
+  halts : (table job : List ℕ) → (budget : ℕ) → (contents : List ℕ) → Line
+  endsUnhalted : (table job : List ℕ) → (budget : ℕ) → Outcome (List ℕ) → Line
+  stepsIn : (saved : List ℕ) → (steps : ℕ) → Line
+  resumes : (table job saved : List ℕ) → (budget : ℕ) → HaltingOutcome → Line
   searches : (table job : List ℕ) → (height budget : ℕ) → Outcome (List ℕ) → Line
   searchesInto : (table job : List ℕ) → (height budget : ℕ) → (work out : List ℕ) → Written → Line
   searchesWith : (table job : List ℕ) → (height budget : ℕ) → (work out : List ℕ) → Written → Line
@@ -36,6 +44,10 @@ pub data Line : Type 0 where
   prints : (table proof : List ℕ) → (opened : Bool) → (line : List ℕ) → Line
   readsText : (text : List ℕ) → Outcome (List ℕ) → Line
   writesText : (term : List ℕ) → Outcome (List ℕ) → Line
+
+-- a halt after so many steps, with these bytes and zeros behind them
+abbrev pub haltedWith : (steps : ℕ) → (contents : List ℕ) → HaltingOutcome
+haltedWith n s = record { outcome = refusal budgetSpent noFile 0 n; saved = some (zerosTo savedSize s) }
 
 -- what the line says
 unfoldable pub Holds : Line → Type 0
@@ -51,6 +63,11 @@ Holds (runs t j b o) = runOutcome t j b ≡ o
 -- a run that was lent enough work space
 Holds (runsInto t j b w o x) = writeOut w o (runOutcome t j b) ≡ x
 Holds (runsWith t j b w o x) = runTactic t j b w o ≡ x
+-- a run that halts, and what its saved state holds before the zeros
+Holds (halts t j b s) = haltingOutcome t j b ≡ haltedWith b s
+Holds (endsUnhalted t j b o) = haltingOutcome t j b ≡ unbegun o
+Holds (stepsIn s n) = stepsOf s ≡ n
+Holds (resumes t j s c h) = resumeOutcome t j s c ≡ h
 Holds (searches t j h b o) = searchOutcome t j h b ≡ o
 -- a search that was lent enough work space
 Holds (searchesInto t j h b w o x) = writeOut w o (searchOutcome t j h b) ≡ x
