@@ -36,4 +36,5 @@ pub mod BigStep
 pub mod HiproofRuns
 pub mod RunBounds
 pub mod SharedGoals
+pub mod PlacedLaws
 pub mod HaltBounds

@@ -23,3 +23,4 @@ pub mod Evaluates
 pub mod EndingOf
 pub mod RunSizes
 pub mod Halts
+pub mod Placed

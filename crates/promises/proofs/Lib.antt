@@ -19,6 +19,7 @@ pub mod HaltingPromises
 pub mod ResumeCases
 pub mod ResumePromises
 pub mod OwnGoals
+pub mod SavedPlaces
 pub mod SearchPromises
 pub mod ReadTextPromises
 pub mod WriteTextPromises

@@ -16,6 +16,7 @@ pub mod RunMeaning
 pub mod HaltingPromises
 pub mod ResumePromises
 pub mod OwnGoals
+pub mod SavedPlaces
 pub mod SearchPromises
 pub mod ReadTextPromises
 pub mod WriteTextPromises

@@ -9,12 +9,17 @@ use native.Mathlib.Omega.{arith}
 use lib.Dec.{ltb}
 use lib.ListN.{length}
 use borrow.Author.Tests.{ltb-false, le-ltb}
+use Rattle.format.specs.declared.values.TacticNo.{TacticNo}
 use Rattle.format.specs.Limits.{mostBytes}
 use Rattle.format.specs.Refusals.{Cause, inputTooLong}
 use Rattle.format.specs.Results.{Result, gives, andThen}
 use Rattle.format.specs.Encoding.{Bytes}
+use Rattle.format.specs.Standing.{Stands}
+use Rattle.format.specs.Terms.{Term}
 use Rattle.format.proofs.ResultLaws.{never-gives, same-value, passed, and-gives}
 use Rattle.tables.specs.Tables.{Rule, Table, UniqueRules, UniqueDefinitions}
+use Rattle.tables.specs.Lookup.{findBody}
+use Rattle.tables.specs.Places.{bodyPlace}
 use Rattle.tables.specs.Repeats.{rulesSize, refuseAt, wholeTable}
 use Rattle.tables.specs.ReadTables.{readFields, readTable}
 use Rattle.tables.specs.TableBytes.{tableBytes}
@@ -23,6 +28,7 @@ use Rattle.tables.specs.Within.{TableWithin}
 use Rattle.tables.specs.Facts.{sixOf, sevenOf, eightOf, nineOf, TableFacts}
 use Rattle.tables.proofs.RowLaws.{row-le}
 use Rattle.tables.proofs.TableLaws.{fields-read, fields-stand}
+use Rattle.tables.proofs.PlaceLaws.{stands-there}
 use Rattle.tables.proofs.WholeLaws.{no-clash}
 use Rattle.tables.proofs.Clashes.{six-pairs, pairs-six, seven-pairs, pairs-seven, eight-pairs, pairs-eight, nine-pairs, pairs-nine}
 use Rattle.tables.proofs.Unique.{unique-rules, unique-definitions}
@@ -86,6 +92,11 @@ module _ (s : List ℕ) (T : Table) (reads : readTable s ≡ gives T) where
   -- every rule has at most eight premises
   pub reads-few-premises : (r : Rule) → List·Memᴰ r (T .rules) → length (r .premises) ≤ 8
   reads-few-premises r m = few-in-row s r (T .rules) 0 (rulesSize (T .rules)) (table-facts s T reads .stands .rules-stand) m
+
+  -- the body of a tactic stands at its place
+  pub reads-bodies : (n : TacticNo) (t : Term) → findBody T n ≡ some t → Stands s (bodyPlace T n) t
+  unfolding findBody bodyPlace
+  reads-bodies n t e = stands-there s n t (T .definitions) (rulesSize (T .rules)) (length s) (table-facts s T reads .stands .definitions-stand) e
 
 module _ (s : List ℕ) (T : Table) (bytes : Bytes s) where
   reads-within : readTable s ≡ gives T → (s ≡ tableBytes T) × TableWithin T
