@@ -25,14 +25,14 @@ use Rattle.hitac.specs.TacticArity.{arityIn, arityAfter, tacticArity}
 use Rattle.entries.specs.Lines.{Holds, AllHold, no-more, _&_}
 use Rattle.entries.specs.Run.{runEnd, runResult}
 use Rattle.entries.specs.SavedState.{finishedFields, waitingTerms, savedContents, savedIn, savedState}
-use Rattle.entries.specs.Halting.{ranFor, withJob, withFiles, withinLimit, haltingOutcome, stepsOf, sameBytes, isSaved, genuine, goingOn, resumeOutcome}
+use Rattle.entries.specs.Halting.{ranFor, withJob, withFiles, withinLimit, haltingOutcome, stepsOf, sameBytes, isSaved, genuine, goingOn, resumeOutcome, saveIn, haltIn, runHalting}
 use Rattle.entries.specs.Worked.{tableA}
 use Rattle.entries.specs.WorkedHalts.{jobShares, haltLines, resumeLines}
 use Rattle.entries.proofs.HaltingLaws.{halted-goes-on}
 
 pub halted : AllHold haltLines
-unfolding word termBytes goalBytes goalsAt goalsOf readGoals headerAt leaf pair closed contents termOf readTerm number andThen rows findRow rowOf kindOf leastOf mostOf innerOf lengthFits size fields findRuleIn findRule findBodyIn findBody matches bodyPlaceIn bodyPlace fullTable lowest ruleOf definitionOf fieldOf readField withRule withDefinition fieldsOf readFields readTable ruleSize definitionSize rulesSize placedRules placedTactics placedLabels labelsOf clashesAny firstClash repeatsRule recountsRule repeatsTactic repeatsLabel refuseAt wholeTable searchedTag stepAt besides clashAt places clashTold jobTermPlace lastTermOf readLastTerm jobOf readJob proofBytes unwind begin stepFrom step run start arityIn arityAfter tacticArity Holds runEnd runResult finishedFields waitingTerms savedContents savedIn savedState ranFor withJob withFiles withinLimit haltingOutcome haltLines
-halted = refl & refl & refl & refl & refl & refl & refl & refl & refl & refl & refl & refl & refl & refl & refl & refl & no-more
+unfolding word termBytes goalBytes goalsAt goalsOf readGoals headerAt leaf pair closed contents termOf readTerm number andThen rows findRow rowOf kindOf leastOf mostOf innerOf lengthFits size fields findRuleIn findRule findBodyIn findBody matches bodyPlaceIn bodyPlace fullTable lowest ruleOf definitionOf fieldOf readField withRule withDefinition fieldsOf readFields readTable ruleSize definitionSize rulesSize placedRules placedTactics placedLabels labelsOf clashesAny firstClash repeatsRule recountsRule repeatsTactic repeatsLabel refuseAt wholeTable searchedTag stepAt besides clashAt places clashTold jobTermPlace lastTermOf readLastTerm jobOf readJob proofBytes unwind begin stepFrom step run start arityIn arityAfter tacticArity Holds runEnd runResult finishedFields waitingTerms savedContents savedIn savedState ranFor withJob withFiles withinLimit haltingOutcome saveIn haltIn runHalting haltLines
+halted = refl & refl & refl & refl & refl & refl & refl & refl & refl & refl & refl & refl & refl & refl & refl & refl & refl & refl & refl & no-more
 
 pub resumed : AllHold resumeLines
 unfolding word termBytes goalBytes goalsAt goalsOf readGoals headerAt leaf pair closed contents termOf readTerm number andThen rows findRow rowOf kindOf leastOf mostOf innerOf lengthFits size fields findRuleIn findRule findBodyIn findBody matches bodyPlaceIn bodyPlace fullTable lowest ruleOf definitionOf fieldOf readField withRule withDefinition fieldsOf readFields readTable ruleSize definitionSize rulesSize placedRules placedTactics placedLabels labelsOf clashesAny firstClash repeatsRule recountsRule repeatsTactic repeatsLabel refuseAt wholeTable searchedTag stepAt besides clashAt places clashTold jobTermPlace lastTermOf readLastTerm jobOf readJob proofBytes unwind begin stepFrom step run start arityIn arityAfter tacticArity Holds runEnd runResult finishedFields waitingTerms savedContents savedIn savedState ranFor withJob withFiles withinLimit haltingOutcome stepsOf sameBytes isSaved genuine goingOn resumeOutcome resumeLines

@@ -3,20 +3,21 @@ use Prim.Native.Nat.{ℕ}
 use mathlib.Core.Path.{_≡_}
 use mathlib.Core.Bool.{Bool}
 use mathlib.Core.List.{List, [], _∷_}
-use mathlib.Core.Option.{some}
+use mathlib.Core.Option.{Option, some}
 use lib.ListN.{length}
 use Rattle.format.specs.Refusals.{budgetSpent}
 use Rattle.format.specs.Results.{Result}
 use Rattle.tables.specs.Tables.{Table}
 use Rattle.files.specs.Derivations.{Derivation}
 use Rattle.answers.specs.declared.Answer.{Answer}
+use Rattle.lent_frames.specs.declared.LentFrame.{LentFrame}
 use Rattle.entries.specs.Outcomes.{Outcome, refusal, noFile}
 use Rattle.entries.specs.LentSpace.{Counts, Checked, countedAnswer, Written, writeOut}
 use Rattle.entries.specs.Check.{onProof, proofCounts, forestFile, check}
 use Rattle.entries.specs.CheckFlat.{checkFlatOutcome, writeOutcome, writtenFile}
 use Rattle.entries.specs.Run.{runOutcome, runTactic}
 use Rattle.entries.specs.SavedState.{savedSize, zerosTo}
-use Rattle.entries.specs.Halting.{HaltingOutcome, unbegun, haltingOutcome, stepsOf, resumeOutcome}
+use Rattle.entries.specs.Halting.{HaltingOutcome, unbegun, haltingOutcome, stepsOf, resumeOutcome, Halting, saveIn, runHalting}
 use Rattle.entries.specs.Search.{searchOutcome, searchTactic}
 use Rattle.entries.specs.Texts.{readTextOutcome, writeTextOutcome}
 use Rattle.entries.specs.PrintedLine.{printedLine}
@@ -35,6 +36,8 @@ pub data Line : Type 0 where
   runsWith : (table job : List ℕ) → (budget : ℕ) → (work out : List ℕ) → Written → Line
   halts : (table job : List ℕ) → (budget : ℕ) → (contents : List ℕ) → Line
   endsUnhalted : (table job : List ℕ) → (budget : ℕ) → Outcome (List ℕ) → Line
+  saves : (state : List ℕ) → Option (List ℕ) → (after : List ℕ) → Line
+  haltsWith : (table job : List ℕ) → (budget : ℕ) → (work : List ℕ) → List LentFrame → (out state : List ℕ) → Halting → Line
   stepsIn : (saved : List ℕ) → (steps : ℕ) → Line
   resumes : (table job saved : List ℕ) → (budget : ℕ) → HaltingOutcome → Line
   searches : (table job : List ℕ) → (height budget : ℕ) → Outcome (List ℕ) → Line
@@ -66,6 +69,8 @@ Holds (runsWith t j b w o x) = runTactic t j b w o ≡ x
 -- a run that halts, and what its saved state holds before the zeros
 Holds (halts t j b s) = haltingOutcome t j b ≡ haltedWith b s
 Holds (endsUnhalted t j b o) = haltingOutcome t j b ≡ unbegun o
+Holds (saves st s x) = saveIn st s ≡ x
+Holds (haltsWith t j b w fs o st x) = runHalting t j b w fs o st ≡ x
 Holds (stepsIn s n) = stepsOf s ≡ n
 Holds (resumes t j s c h) = resumeOutcome t j s c ≡ h
 Holds (searches t j h b o) = searchOutcome t j h b ≡ o

@@ -1,12 +1,15 @@
 -- Document 02, P1: halted runs with all bytes of what they save, and going on. `proofs/WorkedHalts.antt` proves the lines.
 use Prim.Native.Nat.{ℕ}
 use mathlib.Core.List.{List, [], _∷_, _++_}
+use mathlib.Core.Option.{none, some}
 use lib.ListN.{replicate}
 use Rattle.format.specs.Refusals.{fieldTorn, budgetTooLarge, stateNotGenuine}
+use Rattle.answers.specs.Answers as answer
+use Rattle.lent_frames.specs.declared.LentFrame.{LentFrame}
 use Rattle.entries.specs.Outcomes.{success, refusal, tableFile, otherFile, noFile}
 use Rattle.entries.specs.SavedState.{savedSize, zerosTo}
 use Rattle.entries.specs.Halting.{unbegun}
-use Rattle.entries.specs.Lines.{Line, haltedWith, halts, endsUnhalted, stepsIn, resumes}
+use Rattle.entries.specs.Lines.{Line, haltedWith, halts, endsUnhalted, saves, haltsWith, stepsIn, resumes}
 use Rattle.entries.specs.Worked.{tableA}
 
 -- T3 on 10
@@ -20,6 +23,10 @@ jobShares = 3 ∷ 0 ∷ 4 ∷ 0 ∷ 20 ∷ 0 ∷ 30 ∷ 22 ∷ 0 ∷ 14 ∷ 20 �
 -- empty on no goals
 abbrev pub jobEmpty : List ℕ
 jobEmpty = 3 ∷ 0 ∷ 0 ∷ 21 ∷ 0 ∷ 0 ∷ []
+
+-- a frame that was lent with something in it
+abbrev pub aFrame : LentFrame
+aFrame = record { term = 7; goals = 7; count = 7; stage = 7 }
 
 unfoldable pub haltLines : List Line
 haltLines =
@@ -54,6 +61,11 @@ haltLines =
     -- 25 before any reading; 24 comes after the files are read
     ∷ endsUnhalted (1 ∷ []) [] 4097 (refusal budgetTooLarge noFile 0 0)
     ∷ endsUnhalted [] [] 0 (refusal fieldTorn otherFile 0 0)
+    -- "its state fills the first bytes .. and bytes past them untouched; no other answer touches it"
+    ∷ saves (7 ∷ 7 ∷ 7 ∷ []) (some (1 ∷ 2 ∷ [])) (1 ∷ 2 ∷ 7 ∷ [])
+    ∷ saves (7 ∷ 7 ∷ 7 ∷ []) none (7 ∷ 7 ∷ 7 ∷ [])
+    -- 29 before 25, and all four spaces stay as they were
+    ∷ haltsWith [] [] 4097 (7 ∷ []) (aFrame ∷ []) (7 ∷ []) (7 ∷ []) (record { answer = answer.refusal 29 0 0 0; work = 7 ∷ []; frames = aFrame ∷ []; out = 7 ∷ []; state = 7 ∷ [] })
     ∷ []
 
 unfoldable pub resumeLines : List Line
