@@ -3,7 +3,7 @@
 use Prim.Native.Nat.{ℕ, _+_, _≤_, _<_}
 use native.Mathlib.Omega.{arith}
 use native.Mathlib.Decide.{decLt}
-use mathlib.Core.Path.{_≡_, refl, ap, _∙_}
+use mathlib.Core.Path.{_≡_, refl, _∙_}
 use mathlib.Core.Bool.{Bool, true, false, cond}
 use mathlib.Core.List.{List}
 use mathlib.Core.Option.{some}
@@ -23,7 +23,7 @@ use Rattle.entries.specs.Outcomes.{refusal, inFile}
 use Rattle.entries.specs.LentSpace.{writeOut}
 use Rattle.entries.specs.Run.{begins, runResult, runOutcome}
 use Rattle.entries.specs.SavedState.{savedSize, savedState}
-use Rattle.entries.specs.Halting.{HaltingOutcome, unbegun, ranFor, withJob, withFiles, withinLimit, haltingOutcome, stepsOf, genuine, goingOn, resumeOutcome, haltingWork, mostFrames, Halting, clearedFrames, saveIn, spacesAfter, haltIn}
+use Rattle.entries.specs.Halting.{HaltingOutcome, unbegun, ranFor, withJob, withFiles, withinLimit, haltingOutcome, stepsOf, genuine, goingOn, haltingWork, mostFrames, Halting, clearedFrames, saveIn, spacesAfter, haltIn}
 use Rattle.entries.proofs.SameBytes.{saved-equal, equal-saved}
 
 module _ (work : List ℕ) (frames : List LentFrame) (out state : List ℕ) where
@@ -127,12 +127,3 @@ module _ (T : Table) (j : Job) (s : List ℕ) where
   pub not-genuine : (c : ℕ) → genuine T j s ≡ false → goingOn s c T j ≡ unbegun (refusal stateNotGenuine 0 0 0)
   unfolding goingOn
   not-genuine c q = rw q refl
-
--- after a halt at n, going on with c is a run of n + c
-pub halted-goes-on : (t f : List ℕ) (T : Table) (j : Job) → readTable t ≡ gives T → readJob f ≡ gives j → (n c : ℕ) → n + c ≤ mostSteps → (s : List ℕ) → stepsOf s ≡ n
-    → savedState (run T n (begins j)) ≡ some s → resumeOutcome t f s c ≡ ranFor T j (n + c)
-unfolding resumeOutcome
-halted-goes-on t f T j e g n c l s k q =
-    both-read t f (stepsOf s + c) (goingOn s c) (omega (arith, l, k)) T j e g
-    ∙ genuine-goes-on T j s c (saved-genuine T j s (ap (λ (m : ℕ). savedState (run T m (begins j))) k ∙ q))
-    ∙ ap (λ (m : ℕ). ranFor T j (m + c)) k

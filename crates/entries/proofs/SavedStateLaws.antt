@@ -41,7 +41,7 @@ finished-length (alternationLeft π u h) = refl
 pub fields-length : (w : List Frame) → length (finishedFields w) ≡ keptBytes w
 unfolding finishedFields keptBytes
 fields-length [] = refl
-fields-length (f ∷ w) = omega (arith, length-append (finishedFields w) (finishedField f), fields-length w, finished-length f)
+fields-length (f ∷ w) = rw length-append (omega (arith, fields-length w, finished-length f))
 
 pub term-length : (k : ℕ) (π : Place) (g : List Goal) → length (waitingTerm k π g) ≡ 6 + 2 * length g
 term-length k π g = omega (arith, length-goalBytes g)

@@ -1,7 +1,6 @@
 -- The worked lines of P1 hold: each is computed.
 -- Assumes nothing.
 use mathlib.Core.Path.{refl}
-use native.Mathlib.Omega.{arith}
 use Rattle.words.specs.Word.{word}
 use Rattle.format.specs.Encoding.{termBytes, goalBytes}
 use Rattle.format.specs.Goals.{goalsAt, goalsOf, readGoals}
@@ -26,9 +25,7 @@ use Rattle.entries.specs.Lines.{Holds, AllHold, no-more, _&_}
 use Rattle.entries.specs.Run.{runEnd, runResult}
 use Rattle.entries.specs.SavedState.{finishedFields, waitingTerms, savedContents, savedIn, savedState}
 use Rattle.entries.specs.Halting.{ranFor, withJob, withFiles, withinLimit, haltingOutcome, stepsOf, sameBytes, isSaved, genuine, goingOn, resumeOutcome, saveIn, haltIn, runHalting}
-use Rattle.entries.specs.Worked.{tableA}
-use Rattle.entries.specs.WorkedHalts.{jobShares, haltLines, resumeLines}
-use Rattle.entries.proofs.HaltingLaws.{halted-goes-on}
+use Rattle.entries.specs.WorkedHalts.{haltLines, resumeLines}
 
 pub halted : AllHold haltLines
 unfolding word termBytes goalBytes goalsAt goalsOf readGoals headerAt leaf pair closed contents termOf readTerm number andThen rows findRow rowOf kindOf leastOf mostOf innerOf lengthFits size fields findRuleIn findRule findBodyIn findBody matches bodyPlaceIn bodyPlace fullTable lowest ruleOf definitionOf fieldOf readField withRule withDefinition fieldsOf readFields readTable ruleSize definitionSize rulesSize placedRules placedTactics placedLabels labelsOf clashesAny firstClash repeatsRule recountsRule repeatsTactic repeatsLabel refuseAt wholeTable searchedTag stepAt besides clashAt places clashTold jobTermPlace lastTermOf readLastTerm jobOf readJob proofBytes unwind begin stepFrom step run start arityIn arityAfter tacticArity Holds runEnd runResult finishedFields waitingTerms savedContents savedIn savedState ranFor withJob withFiles withinLimit haltingOutcome saveIn haltIn runHalting haltLines
@@ -36,9 +33,4 @@ halted = refl & refl & refl & refl & refl & refl & refl & refl & refl & refl & r
 
 pub resumed : AllHold resumeLines
 unfolding word termBytes goalBytes goalsAt goalsOf readGoals headerAt leaf pair closed contents termOf readTerm number andThen rows findRow rowOf kindOf leastOf mostOf innerOf lengthFits size fields findRuleIn findRule findBodyIn findBody matches bodyPlaceIn bodyPlace fullTable lowest ruleOf definitionOf fieldOf readField withRule withDefinition fieldsOf readFields readTable ruleSize definitionSize rulesSize placedRules placedTactics placedLabels labelsOf clashesAny firstClash repeatsRule recountsRule repeatsTactic repeatsLabel refuseAt wholeTable searchedTag stepAt besides clashAt places clashTold jobTermPlace lastTermOf readLastTerm jobOf readJob proofBytes unwind begin stepFrom step run start arityIn arityAfter tacticArity Holds runEnd runResult finishedFields waitingTerms savedContents savedIn savedState ranFor withJob withFiles withinLimit haltingOutcome stepsOf sameBytes isSaved genuine goingOn resumeOutcome resumeLines
-resumed =
-    refl & refl & refl & refl & refl & refl & refl & refl & refl & refl & refl & refl & refl & refl
-    & halted-goes-on tableA jobShares _ _ refl refl 2 0 (omega arith) _ refl refl
-    & halted-goes-on tableA jobShares _ _ refl refl 2 1 (omega arith) _ refl refl
-    & halted-goes-on tableA jobShares _ _ refl refl 3 9 (omega arith) _ refl refl
-    & no-more
+resumed = refl & refl & refl & refl & refl & refl & refl & refl & refl & refl & refl & refl & refl & refl & refl & refl & refl & no-more
