@@ -1,0 +1,73 @@
+// The waiting terms of the machine gathered into lent frames, innermost first.
+ghost use mathlib.Core.Path.{_≡_};
+ghost use Prim.Native.Nat.{_+_, _≤_, _<_};
+ghost use lib.ListN.{length};
+ghost use Rattle.frames.specs.Frames.{frameAt};
+ghost use Rattle.saver.specs.Gather.{ownCountOf, heldAfter, gatheredOf, FrameFits};
+use frames::ALTERNATION_LEFT;
+use frames::SEQUENCE_RIGHT;
+use frames::TENSOR_LEFT;
+use frames::TENSOR_RIGHT;
+use frames::load_frame;
+use lent_frames::LentFrame;
+
+// A waiting term, and how many goals of its list it holds with the terms inside it.
+pub struct Gathered {
+    pub frame: LentFrame,
+    pub inside: usize,
+}
+
+// How many of a waiting term's goals no term inside it holds.
+fn own_count(kind: u16, count: u16, inside: usize) -> u16
+    requires { ⌜ (inside ≤ 65535) × (kind ≡ 6 → inside ≤ count) ⌝ }
+    ensures { λ r. ⌜ r ≡ ownCountOf kind count inside ⌝ }
+{
+    if kind == TENSOR_LEFT {
+        return count;
+    }
+    if kind == TENSOR_RIGHT {
+        return count;
+    }
+    if kind == ALTERNATION_LEFT {
+        return count - (inside as u16);
+    }
+    0
+}
+
+// How many goals of its list it holds, together with the terms inside it.
+fn held_after(kind: u16, count: u16, inside: usize) -> usize
+    requires { ⌜ inside ≤ 65535 ⌝ }
+    ensures { λ r. ⌜ r ≡ heldAfter kind count inside ⌝ }
+{
+    if kind == TENSOR_LEFT {
+        return inside + (count as usize);
+    }
+    if kind == ALTERNATION_LEFT {
+        return count as usize;
+    }
+    if kind == SEQUENCE_RIGHT {
+        return 0;
+    }
+    inside
+}
+
+// The waiting term at a place of the work space.
+pub fn gather_at(work: &[u8], at: usize, inside: usize) -> Gathered
+    requires { ⌜ (at + 13 < length (now work)) × FrameFits (frameAt (now work) at) inside ⌝ }
+    ensures { λ r. ⌜ r ≡ gatheredOf (frameAt (now (work .entry)) at) inside ⌝ }
+{
+    let f = load_frame(work, at);
+    let kind = f.kind;
+    let own = own_count(kind, f.count, inside);
+    let held = held_after(kind, f.count, inside);
+    let term = (f.file as u32) * 65536 + (f.at as u32);
+    Gathered {
+        frame: LentFrame {
+            term,
+            goals: f.start as u32,
+            count: own,
+            stage: kind,
+        },
+        inside: held,
+    }
+}
