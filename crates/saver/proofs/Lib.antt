@@ -1,2 +1,4 @@
+pub mod PutLaws
 pub mod GatherLaws
+pub mod WaitingLaws
 pub mod SavedLaws
