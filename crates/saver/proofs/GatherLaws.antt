@@ -1,10 +1,18 @@
--- The two counts of a waiting term, a law for each return. Assumes nothing.
-use Prim.Native.Nat.{ℕ, _+_, _*_, _-_, _≤_, _<_}
-use mathlib.Core.Path.{_≡_, refl, sym, ap, subst, _∙_}
+-- The two counts of a waiting term, a law for each return; and the turns of gathering, which keep what is gathered and what is still to come together.
+-- Assumes nothing.
+use Prim.Native.Nat.{ℕ, zero, suc, _+_, _*_, _-_, _≤_, _<_}
+use mathlib.Core.Path.{_≡_, refl, sym, ap, ap₂, subst, _∙_}
+use mathlib.Core.List.{List, [], _∷_, _++_, append-assoc, append-nil}
+use native.Mathlib.Omega.{arith}
+use lib.ListN.{length, set, take, drop, length-set, take-append-drop}
+use lib.Seq.{take-suc-set, drop-set-lt}
 use borrow.Author.Tests.{eq-eqb, ne-eqb}
+use Rattle.lent_frames.specs.declared.LentFrame.{LentFrame}
+use Rattle.arities.specs.Layout.{framesEnd}
 use Rattle.frames.specs.declared.Frame.{Frame}
+use Rattle.frames.specs.Frames.{frameAt}
 use Rattle.saver.specs.declared.gather.Gathered.{Gathered}
-use Rattle.saver.specs.Gather.{ownCountOf, heldAfter, lentFrame, gatheredOf, FrameFits}
+use Rattle.saver.specs.Gather.{ownCountOf, heldAfter, lentFrame, gatheredOf, FrameFits, gathered, AllFit, GatherGiven, Gathers}
 
 module _ (k c x : ℕ) where
   pub own-4 : k ≡ 4 → c ≡ ownCountOf k c x
@@ -52,3 +60,90 @@ module _ (f g : Frame) (x : ℕ) (e : f ≡ g) where
   unfolding gatheredOf lentFrame
   gather-end o h p r =
       (λ i. record { frame = record { term = f .file * 65536 + f .at; goals = f .start; count = p i; stage = f .kind }; inside = r i }) ∙ ap (λ (y : Frame). gatheredOf y x) e
+
+-- what holds at every turn: the frames gathered so far, with those still to come, are all of them
+pub record GatherTurn (w : List ℕ) (fs₀ : List LentFrame) (top inside : ℕ) (fs : List LentFrame) (n at x : ℕ) : Type 0 where
+  pub total : ℕ
+  pub left : ℕ
+  pub ends : top + 14 * total ≡ framesEnd
+  pub ends-here : at + 14 * left ≡ framesEnd
+  pub counted : n + left ≡ total
+  pub room : total ≤ length fs
+  pub space : framesEnd ≤ length w
+  pub fit : AllFit w at x left
+  pub same : take n fs ++ gathered w at x left ++ drop total fs ≡ gathered w top inside total ++ drop total fs₀
+
+pub gather-start : (w : List ℕ) (fs : List LentFrame) (top x : ℕ) → GatherGiven w fs top x → GatherTurn w fs top x fs 0 top x
+gather-start w fs top x h = record {
+  total = h .count;
+  left = h .count;
+  ends = h .ends;
+  ends-here = h .ends;
+  counted = omega arith;
+  room = h .room;
+  space = h .space;
+  fit = h .fit;
+  same = refl;
+}
+
+module _ (w : List ℕ) (fs₀ : List LentFrame) (top inside : ℕ) (fs : List LentFrame) (n at x : ℕ) (q : GatherTurn w fs₀ top inside fs n at x) where
+  -- a frame is still to come
+  one-left : at < framesEnd → (k : ℕ) × (q .left ≡ suc k)
+  one-left h = go (q .left) refl
+    where
+      go : (m : ℕ) → q .left ≡ m → (k : ℕ) × (q .left ≡ suc k)
+      go zero e = absurd (omega (arith, h, q .ends-here, e))
+      go (suc k) e = (k, e)
+
+  first-fits : (k : ℕ) → q .left ≡ suc k → FrameFits (frameAt w at) x × AllFit w (at + 14) (heldAfter (frameAt w at .kind) (frameAt w at .count) x) k
+  unfolding AllFit
+  first-fits k e = subst (λ (m : ℕ). AllFit w at x m) e (q .fit)
+
+  pub gather-at-given : at < framesEnd → (at + 13 < length w) × FrameFits (frameAt w at) x
+  gather-at-given h = let o = one-left h in (omega (arith, q .ends-here, o .1, q .space), first-fits (o .0) (o .1) .0)
+
+  pub gather-push-given : at < framesEnd → n < length fs
+  gather-push-given h = let o = one-left h in omega (arith, q .counted, q .room, o .1)
+
+  pub gather-next : at < framesEnd → (g : Gathered) → g ≡ gatheredOf (frameAt w at) x → (n′ : ℕ) → n′ ≡ n + 1 → (fs′ : List LentFrame) → fs′ ≡ set fs n (g .frame)
+      → GatherTurn w fs₀ top inside fs′ n′ (at + 14) (g .inside)
+  unfolding gathered gatheredOf
+  gather-next h g e n′ en fs′ ef =
+      let o = one-left h in
+      let k = o .0 in
+      let f = lentFrame (frameAt w at) x in
+      let y = heldAfter (frameAt w at .kind) (frameAt w at .count) x in
+      let set-is : fs′ ≡ set fs n f = ef ∙ ap (λ (z : Gathered). set fs n (z .frame)) e in
+      let len : length fs′ ≡ length fs = ap length set-is ∙ length-set fs n f in
+      let inner : n < length fs = gather-push-given h in
+      let one-more : suc n ≡ n′ = omega (arith, en) in
+      let front : take n′ fs′ ≡ take n fs ++ (f ∷ []) = ap₂ take (sym one-more) set-is ∙ take-suc-set fs n f inner in
+      let rest : drop (q .total) fs′ ≡ drop (q .total) fs = ap (drop (q .total)) set-is ∙ drop-set-lt (q .total) fs n f (omega (arith, q .counted, o .1)) in
+      let same : take n′ fs′ ++ gathered w (at + 14) y k ++ drop (q .total) fs′ ≡ gathered w top inside (q .total) ++ drop (q .total) fs₀ =
+      ap₂ (λ (a b : List LentFrame). a ++ gathered w (at + 14) y k ++ b) front rest
+      ∙ ap (λ (a : List LentFrame). a ++ drop (q .total) fs) (append-assoc (take n fs) (f ∷ []) (gathered w (at + 14) y k))
+      ∙ sym (ap (λ (m : ℕ). take n fs ++ gathered w at x m ++ drop (q .total) fs) (o .1))
+      ∙ q .same in
+      record {
+        total = q .total;
+        left = k;
+        ends = q .ends;
+        ends-here = omega (arith, q .ends-here, o .1);
+        counted = omega (arith, q .counted, o .1, en);
+        room = omega (arith, q .room, len);
+        space = q .space;
+        fit = subst (λ (z : Gathered). AllFit w (at + 14) (z .inside) k) (sym e) (first-fits k (o .1) .1);
+        same = subst (λ (z : Gathered). take n′ fs′ ++ gathered w (at + 14) (z .inside) k ++ drop (q .total) fs′ ≡ gathered w top inside (q .total) ++ drop (q .total) fs₀) (sym e) same;
+      }
+
+  pub gather-all : framesEnd ≤ at → Gathers w fs₀ top inside n fs
+  unfolding gathered
+  gather-all h m e =
+      let none : q .left ≡ 0 = omega (arith, h, q .ends-here) in
+      let total-is : q .total ≡ m = omega (arith, q .ends, e) in
+      let n-is : n ≡ m = omega (arith, q .counted, none, total-is) in
+      let here : take n fs ++ drop m fs ≡ gathered w top inside m ++ drop m fs₀ =
+      sym (ap (λ (a : List LentFrame). a ++ drop m fs) (append-nil (take n fs)))
+      ∙ subst (λ (j : ℕ). take n fs ++ gathered w at x j ++ drop m fs ≡ gathered w top inside m ++ drop m fs₀) none
+      (subst (λ (j : ℕ). take n fs ++ gathered w at x (q .left) ++ drop j fs ≡ gathered w top inside j ++ drop j fs₀) total-is (q .same)) in
+      (n-is, sym (take-append-drop m fs) ∙ ap (λ (j : ℕ). take j fs ++ drop m fs) (sym n-is) ∙ here)
