@@ -6,7 +6,7 @@ use mathlib.Core.List.{List, [], _∷_, _++_, append-assoc}
 use native.Mathlib.Omega.{arith}
 use native.Mathlib.Numerals.{add-one}
 use lib.ListN.{length, getD, set, take, drop, length-append, length-drop, take-append-drop}
-use lib.Seq.{paste, length-take-le, take-length, append-snoc, take-append-le, drop-append-le, set-split, take-take, drop-drop, take-at, drop-at, take-paste, drop-paste, length-paste}
+use lib.Seq.{paste, length-take-le, take-length, append-snoc, take-append-le, drop-append-le, set-split, take-take, getD-take, drop-drop, take-at, drop-at, take-paste, drop-paste, length-paste}
 use Rattle.words.specs.Word.{putWord}
 use Rattle.words.proofs.Copy.{paste-below, paste-above}
 use Rattle.format.specs.Encoding.{wordBytes}
@@ -112,3 +112,7 @@ block-same w v at from n e h k l = front v k ∙ ap (λ (x : List ℕ). take n (
         ap (λ (y : List ℕ). take n (drop from y)) (sym (take-append-drop at x))
         ∙ ap (take n) (drop-append-le from (take at x) (drop at x) (omega arith))
         ∙ take-append-le n (drop from (take at x)) (drop at x) (omega (arith, length-drop from (take at x)))
+
+-- two lists that are the same up to a place are so byte for byte
+pub same-below : (w v : List ℕ) (at : ℕ) → take at v ≡ take at w → (i : ℕ) → i < at → getD v i 0 ≡ getD w i 0
+same-below w v at e i h = sym (getD-take at v i 0 h) ∙ ap (λ (x : List ℕ). getD x i 0) e ∙ getD-take at w i 0 h
