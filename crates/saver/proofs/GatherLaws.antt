@@ -7,12 +7,16 @@ use native.Mathlib.Omega.{arith}
 use lib.ListN.{length, set, take, drop, length-set, take-append-drop}
 use lib.Seq.{take-suc-set, drop-set-lt}
 use borrow.Author.Tests.{eq-eqb, ne-eqb}
+use Rattle.words.specs.Word.{word}
+use Rattle.format.specs.Encoding.{Bytes}
+use Rattle.format.proofs.GoalBytes.{word-value}
 use Rattle.lent_frames.specs.declared.LentFrame.{LentFrame}
 use Rattle.arities.specs.Layout.{framesEnd}
+use Rattle.tactics.specs.Numbers.{long}
 use Rattle.frames.specs.declared.Frame.{Frame}
 use Rattle.frames.specs.Frames.{frameAt}
 use Rattle.saver.specs.declared.gather.Gathered.{Gathered}
-use Rattle.saver.specs.Gather.{ownCountOf, heldAfter, lentFrame, gatheredOf, FrameFits, gathered, AllFit, GatherGiven, Gathers}
+use Rattle.saver.specs.Gather.{ownCountOf, heldAfter, ownStart, lentFrame, gatheredOf, FrameFits, gathered, AllFit, GatherGiven, Gathers}
 
 module _ (k c x : ℕ) where
   pub own-4 : k ≡ 4 → c ≡ ownCountOf k c x
@@ -47,19 +51,31 @@ module _ (k c x : ℕ) where
   unfolding heldAfter
   held-same a b d = rw (ne-eqb k 4 a, ne-eqb k 6 b, ne-eqb k 3 d) refl
 
+module _ (c s : ℕ) where
+  pub start-none : c ≡ 0 → 0 ≡ ownStart c s
+  unfolding ownStart
+  start-none e = rw (eq-eqb c 0 e) refl
+
+  pub start-some : (c ≡ 0 → ⊥) → s ≡ ownStart c s
+  unfolding ownStart
+  start-some n = rw (ne-eqb c 0 n) refl
+
 -- a frame that was loaded
 module _ (f g : Frame) (x : ℕ) (e : f ≡ g) where
   pub fits-own : FrameFits g x → (x ≤ 65535) × (f .kind ≡ 6 → x ≤ f .count)
   fits-own h = let i : FrameFits f x = subst (λ (y : Frame). FrameFits y x) (sym e) h in (i .few, i .shared)
 
-  pub fits-low : FrameFits g x → f .start < 4294967296
-  fits-low h = subst (λ (y : Frame). FrameFits y x) (sym e) h .low
-
-  pub gather-end : (o h : ℕ) → o ≡ ownCountOf (f .kind) (f .count) x → h ≡ heldAfter (f .kind) (f .count) x
-      → _≡_ {A = Gathered} (record { frame = record { term = f .file * 65536 + f .at; goals = f .start; count = o; stage = f .kind }; inside = h }) (gatheredOf g x)
+  pub gather-end : (o h s : ℕ) → o ≡ ownCountOf (f .kind) (f .count) x → h ≡ heldAfter (f .kind) (f .count) x → s ≡ ownStart o (f .start)
+      → _≡_ {A = Gathered} (record { frame = record { term = f .file * 65536 + f .at; goals = s; count = o; stage = f .kind }; inside = h }) (gatheredOf g x)
   unfolding gatheredOf lentFrame
-  gather-end o h p r =
-      (λ i. record { frame = record { term = f .file * 65536 + f .at; goals = f .start; count = p i; stage = f .kind }; inside = r i }) ∙ ap (λ (y : Frame). gatheredOf y x) e
+  gather-end o h s p r q =
+      let u : s ≡ ownStart (ownCountOf (f .kind) (f .count) x) (f .start) = q ∙ ap (λ (y : ℕ). ownStart y (f .start)) p in
+      (λ i. record { frame = record { term = f .file * 65536 + f .at; goals = u i; count = p i; stage = f .kind }; inside = r i }) ∙ ap (λ (y : Frame). gatheredOf y x) e
+
+-- where its goals begin is a number of four bytes
+pub start-small : (w : List ℕ) → Bytes w → (at : ℕ) (f : Frame) → f ≡ frameAt w at → f .start < 4294967296
+unfolding frameAt long
+start-small w bytes at f e = let z : f .start ≡ word w (at + 8) * 65536 + word w (at + 8 + 2) = ap (λ (x : Frame). x .start) e in omega (arith, z, word-value w bytes (at + 8), word-value w bytes (at + 8 + 2))
 
 -- what holds at every turn: the frames gathered so far, with those still to come, are all of them
 pub record GatherTurn (w : List ℕ) (fs₀ : List LentFrame) (top inside : ℕ) (fs : List LentFrame) (n at x : ℕ) : Type 0 where

@@ -19,18 +19,26 @@ ownCountOf k c x = cond (eqb k 4) c (cond (eqb k 5) c (cond (eqb k 6) (c - x) 0)
 unfoldable pub heldAfter : (kind count inside : ℕ) → ℕ
 heldAfter k c x = cond (eqb k 4) (x + c) (cond (eqb k 6) c (cond (eqb k 3) 0 x))
 
--- the lent frame of a waiting term: the file and the place of its last inner term as one number, where its own goals lie, and its stage
+-- where its own goals lie; nowhere if it has none
+unfoldable pub ownStart : (own start : ℕ) → ℕ
+ownStart c s = cond (eqb c 0) 0 s
+
+-- the lent frame of a waiting term: the file and the place of its last inner term as one number, its own goals, and its stage
 unfoldable pub lentFrame : Frame → (inside : ℕ) → LentFrame
-lentFrame f x = record { term = f .file * 65536 + f .at; goals = f .start; count = ownCountOf (f .kind) (f .count) x; stage = f .kind }
+lentFrame f x = record {
+  term = f .file * 65536 + f .at;
+  goals = ownStart (ownCountOf (f .kind) (f .count) x) (f .start);
+  count = ownCountOf (f .kind) (f .count) x;
+  stage = f .kind;
+}
 
 unfoldable pub gatheredOf : Frame → (inside : ℕ) → Gathered
 gatheredOf f x = record { frame = lentFrame f x; inside = heldAfter (f .kind) (f .count) x }
 
--- what gathering a frame asks: the goals inside an alternation are no more than its own, and its goals lie below 4 GiB
+-- what gathering a frame asks: the goals inside an alternation are no more than its whole list has
 pub record FrameFits (f : Frame) (inside : ℕ) : Type 0 where
   pub few : inside ≤ 65535
   pub shared : f .kind ≡ 6 → inside ≤ f .count
-  pub low : f .start < 4294967296
 
 -- so many waiting terms from a place on, innermost first
 unfoldable pub gathered : List ℕ → (at inside count : ℕ) → List LentFrame

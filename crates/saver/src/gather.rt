@@ -3,7 +3,7 @@ ghost use mathlib.Core.Path.{_≡_};
 ghost use Prim.Native.Nat.{_+_, _≤_, _<_};
 ghost use lib.ListN.{length};
 ghost use Rattle.frames.specs.Frames.{frameAt};
-ghost use Rattle.saver.specs.Gather.{ownCountOf, heldAfter, gatheredOf, FrameFits};
+ghost use Rattle.saver.specs.Gather.{ownCountOf, heldAfter, ownStart, gatheredOf, FrameFits};
 use frames::ALTERNATION_LEFT;
 use frames::SEQUENCE_RIGHT;
 use frames::TENSOR_LEFT;
@@ -51,6 +51,17 @@ fn held_after(kind: u16, count: u16, inside: usize) -> usize
     inside
 }
 
+// Where its own goals begin; 0 if it has none, whatever its frame names.
+fn own_start(own: u16, start: usize) -> u32
+    requires { ⌜ start < 4294967296 ⌝ }
+    ensures { λ r. ⌜ r ≡ ownStart own start ⌝ }
+{
+    if own == 0 {
+        return 0;
+    }
+    start as u32
+}
+
 // The waiting term at a place of the work space.
 pub fn gather_at(work: &[u8], at: usize, inside: usize) -> Gathered
     requires { ⌜ (at + 13 < length (now work)) × FrameFits (frameAt (now work) at) inside ⌝ }
@@ -60,11 +71,12 @@ pub fn gather_at(work: &[u8], at: usize, inside: usize) -> Gathered
     let kind = f.kind;
     let own = own_count(kind, f.count, inside);
     let held = held_after(kind, f.count, inside);
+    let goals = own_start(own, f.start);
     let term = (f.file as u32) * 65536 + (f.at as u32);
     Gathered {
         frame: LentFrame {
             term,
-            goals: f.start as u32,
+            goals,
             count: own,
             stage: kind,
         },
