@@ -3,7 +3,7 @@ use Prim.Native.Nat.{ℕ, _+_, _≤_}
 use mathlib.Core.List.{List, _++_}
 use lib.ListN.{length}
 use Rattle.format.specs.declared.values.Goal.{Goal}
-use Rattle.format.specs.Encoding.{wordBytes}
+use Rattle.format.specs.Encoding.{Bytes, wordBytes}
 use Rattle.format.specs.Limits.{mostSteps}
 use Rattle.format.specs.Terms.{Term}
 use Rattle.hitac.specs.Machine as M
@@ -31,5 +31,7 @@ pub record HeadGiven (w : List ℕ) (s : State) (waiting : ℕ) : Type 0 where
   pub frames : List M.Frame
   pub runs : Runs table job w s place term goals frames
 
-abbrev pub Heads : List ℕ → State → (waiting : ℕ) → (end : ℕ) → List ℕ → Type 0
-Heads w s n r v = (table job : List ℕ) (π : M.Place) (t : Term) (g : List Goal) (k : List M.Frame) → Runs table job w s π t g k → Writes w spaceEnd (headBytes (s .steps) k n) r v
+-- The waiting terms written afterwards rest on what the work space held: bytes.
+pub record Heads (w : List ℕ) (s : State) (waiting end : ℕ) (v : List ℕ) : Type 0 where
+  pub bytes : Bytes w
+  pub writes : (table job : List ℕ) (π : M.Place) (t : Term) (g : List Goal) (k : List M.Frame) → Runs table job w s π t g k → Writes w spaceEnd (headBytes (s .steps) k waiting) end v
