@@ -2,3 +2,4 @@ pub mod PutLaws
 pub mod GatherLaws
 pub mod WaitingLaws
 pub mod SavedLaws
+pub mod SaveLaws
