@@ -3,3 +3,4 @@ pub mod GatherLaws
 pub mod WaitingLaws
 pub mod SavedLaws
 pub mod SaveLaws
+pub mod BelowLaws
