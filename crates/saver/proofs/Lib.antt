@@ -4,3 +4,4 @@ pub mod WaitingLaws
 pub mod SavedLaws
 pub mod SaveLaws
 pub mod BelowLaws
+pub mod PlaceLaws

@@ -19,7 +19,8 @@ use Rattle.hitac.specs.Halts.{ownCount}
 use Rattle.lent_frames.specs.declared.LentFrame.{LentFrame}
 use Rattle.entries.specs.SavedState.{savedSize, finishedFields, waitingTerm, waitingTerms, savedContents, zerosTo}
 use Rattle.entries.proofs.SavedStateLaws.{term-length, contents-length, zeros-length}
-use Rattle.arities.specs.Layout.{goalsEnd, framesEnd, spaceEnd}
+use Rattle.entries.specs.Halting.{haltingWork}
+use Rattle.arities.specs.Layout.{framesEnd, spaceEnd}
 use Rattle.tactics.specs.Source.{source}
 use Rattle.tactics.proofs.SourceLaws.{source-small}
 use Rattle.tactics.proofs.MemoryLaws.{same-goals}
@@ -31,7 +32,7 @@ use Rattle.saver.specs.Waiting.{framesBytes, AllLow, WaitingGiven}
 use Rattle.saver.specs.Head.{headBytes, HeadGiven, Heads}
 use Rattle.saver.specs.Last.{lastBytes, LastGiven, Lasts}
 use Rattle.saver.specs.Save.{Halts, SaveGiven, Saves}
-use Rattle.saver.proofs.PutLaws.{length-put, take-put, put-behind, same-below}
+use Rattle.saver.proofs.PutLaws.{length-put, take-put, block-put, put-behind, same-below}
 use Rattle.saver.proofs.WaitingLaws.{frames-same}
 use Rattle.saver.proofs.SavedLaws.{counted, frames-end, all-fit, frames-are, frames-low}
 
@@ -255,3 +256,24 @@ module _ (w : List ℕ) (fs : List LentFrame) (s : State) (q : SaveGiven w fs s)
 
         pub save-end : (v : List ℕ) → Lasts v₂ s r₂ v → Saves w s v
         save-end v d = record { ended = λ z. absurd (z m); halted = λ _. halted-end v d }
+
+-- what the work space holds afterwards: the saved state, and what lay before it
+module _ (w : List ℕ) (s : State) (v : List ℕ) (b : Saves w s v) (m : s .mode ≡ 0) (table job : List ℕ) (π : M.Place) (t : Term) (g : List Goal) (k : List M.Frame) (r : Runs table job w s π t g k)
+    (space : haltingWork ≤ length w) (fits : length (savedContents (s .steps) π g k) ≤ savedSize) where
+  abbrev bytes : List ℕ
+  bytes = zerosTo savedSize (savedContents (s .steps) π g k)
+
+  size-is : length bytes ≡ savedSize
+  size-is = zeros-length savedSize (savedContents (s .steps) π g k) fits
+
+  room : spaceEnd + length bytes ≤ length w
+  room = omega (arith, size-is, space)
+
+  pub saved-length : length v ≡ length w
+  saved-length = ap length (b .halted m table job π t g k r) ∙ length-put w bytes spaceEnd room
+
+  pub saved-front : take spaceEnd v ≡ take spaceEnd w
+  saved-front = ap (take spaceEnd) (b .halted m table job π t g k r) ∙ take-put w bytes spaceEnd room
+
+  pub saved-block : take savedSize (drop spaceEnd v) ≡ bytes
+  saved-block = ap₂ (λ (j : ℕ) (x : List ℕ). take j (drop spaceEnd x)) (sym size-is) (b .halted m table job π t g k r) ∙ block-put w bytes spaceEnd room
