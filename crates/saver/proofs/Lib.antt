@@ -1,6 +1,7 @@
 pub mod PutLaws
 pub mod GatherLaws
 pub mod WaitingLaws
+pub mod FinishedLaws
 pub mod SavedLaws
 pub mod SaveLaws
 pub mod BelowLaws

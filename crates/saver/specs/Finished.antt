@@ -1,7 +1,7 @@
 -- Document 02, P1: "the fields finished so far" as they lie in work space, outermost first.
 use Prim.Native.Nat.{ℕ, zero, suc, _+_, _*_, _-_, _≤_}
 use mathlib.Core.Path.{_≡_}
-use mathlib.Core.Bool.{cond}
+use mathlib.Core.Bool.{Bool, true, cond}
 use mathlib.Core.List.{List, [], _++_}
 use lib.Dec.{eqb}
 use lib.ListN.{length, take, drop}
@@ -14,9 +14,13 @@ use Rattle.saver.specs.Put.{Writes}
 abbrev pub block : List ℕ → (from size : ℕ) → List ℕ
 block w from n = take n (drop from w)
 
--- the field of a left term that ended: behind the header of the waiting term's own field, up to where the output of the inner term begins
+-- the left term of a sequence or a tensor whose right term runs has ended
+unfoldable pub keepsField : (kind : ℕ) → Bool
+keepsField k = cond (eqb k 3) true (eqb k 5)
+
+-- its field: behind the header of the waiting term's own field, up to where the output of the inner term begins
 unfoldable pub leftField : List ℕ → Frame → (end : ℕ) → List ℕ
-leftField w f o = cond (eqb (f .kind) 3) (block w (f .mark + 3) (o - (f .mark + 3))) (cond (eqb (f .kind) 5) (block w (f .mark + 3) (o - (f .mark + 3))) [])
+leftField w f o = cond (keepsField (f .kind)) (block w (f .mark + 3) (o - (f .mark + 3))) []
 
 -- where the output inside the frame at a place begins: at the mark of the next frame inside, or at the output's end
 unfoldable pub insideOf : List ℕ → (at top out : ℕ) → ℕ
@@ -29,8 +33,7 @@ leftFields w at o (suc k) = leftFields w (at + 14) (frameAt w at .mark) k ++ lef
 
 -- the field of a left term that ended begins and ends in order, in the part that a run uses
 pub record Marked (f : Frame) (end : ℕ) : Type 0 where
-  pub sequence : f .kind ≡ 3 → f .mark + 3 ≤ end
-  pub tensor : f .kind ≡ 5 → f .mark + 3 ≤ end
+  pub begins : keepsField (f .kind) ≡ true → f .mark + 3 ≤ end
   pub low : end ≤ spaceEnd
 
 unfoldable pub AllMarked : List ℕ → (at end count : ℕ) → Type 0
@@ -44,7 +47,7 @@ pub record FieldGiven (w : List ℕ) (at end to : ℕ) : Type 0 where
   pub above : spaceEnd ≤ to
   pub room : to + length (leftField w (frameAt w at) end) ≤ length w
 
--- what writing those of all frames from a place on is given and does
+-- what writing the fields of all frames from a place on is given and does
 pub record FinishedGiven (w : List ℕ) (top out to : ℕ) : Type 0 where
   pub count : ℕ
   pub ends : top + 14 * count ≡ framesEnd
