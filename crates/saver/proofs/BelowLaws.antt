@@ -34,7 +34,7 @@ module _ (w v : List ℕ) (len : length v ≡ length w) (e : take spaceEnd v ≡
   part : (from to : ℕ) → to ≤ spaceEnd → Same from to w v
   part from to l = λ i a b. same i (omega arith) (omega arith)
 
-  frame-below : (at : ℕ) → at + 14 ≤ spaceEnd → frameAt v at ≡ frameAt w at
+  pub frame-below : (at : ℕ) → at + 14 ≤ spaceEnd → frameAt v at ≡ frameAt w at
   unfolding frameAt
   frame-below at h =
       let e₁ : word v at ≡ word w at = same-word w v 0 spaceEnd at same (omega arith) (omega arith) in

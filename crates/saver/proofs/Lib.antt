@@ -1,8 +1,8 @@
 pub mod PutLaws
+pub mod BelowLaws
 pub mod GatherLaws
 pub mod WaitingLaws
 pub mod FinishedLaws
 pub mod SavedLaws
 pub mod SaveLaws
-pub mod BelowLaws
 pub mod PlaceLaws

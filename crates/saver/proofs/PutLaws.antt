@@ -31,6 +31,10 @@ module _ (w b : List ℕ) (at : ℕ) (room : at + length b ≤ length w) where
   pub take-put : take at (put w at b) ≡ take at w
   take-put = ap (take at) (put-parts w b at ∙ append-assoc (take at w) b _) ∙ take-at (take at w) (b ++ drop (at + length b) w) at (length-take-le at w (omega arith))
 
+  -- also up to a place further down
+  pub front-put : (i : ℕ) → i ≤ at → take i (put w at b) ≡ take i w
+  front-put i l = sym (take-take i at (put w at b) l) ∙ ap (take i) take-put ∙ take-take i at w l
+
   pub drop-put : drop at (put w at b) ≡ b ++ drop (at + length b) w
   drop-put = ap (drop at) (put-parts w b at ∙ append-assoc (take at w) b _) ∙ drop-at (take at w) (b ++ drop (at + length b) w) at (length-take-le at w (omega arith))
 

@@ -48,3 +48,18 @@ fn write_field(work: &mut [u8], at: usize, end: usize, to: usize) -> usize
     }
     to
 }
+
+// The fields of all frames from a place on, outermost first.
+pub fn write_finished(work: &mut [u8], top: usize, out: usize, to: usize) -> usize
+    requires { ⌜ FinishedGiven (now work) top out to ⌝ }
+    ensures { λ r. ⌜ FinishedWritten (now (work .entry)) top out to r (now (work .exit)) ⌝ }
+{
+    let mut at = FRAMES_END;
+    let mut next = to;
+    while top < at {
+        at -= 14;
+        let end = inside_of(work, at, top, out);
+        next = write_field(work, at, end, next);
+    }
+    next
+}
