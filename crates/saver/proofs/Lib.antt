@@ -4,5 +4,6 @@ pub mod GatherLaws
 pub mod WaitingLaws
 pub mod FinishedLaws
 pub mod SavedLaws
+pub mod HeadLaws
 pub mod SaveLaws
 pub mod PlaceLaws
