@@ -2,4 +2,5 @@
 // Document 02, P1; document 01, "Places and their forms": "the waiting terms, each with its goals still to come, innermost last".
 pub mod finished;
 pub mod gather;
+pub mod head;
 pub mod waiting;
