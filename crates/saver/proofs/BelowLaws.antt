@@ -6,7 +6,7 @@ use mathlib.Core.Path.{_≡_, sym, subst, _∙_}
 use mathlib.Core.List.{List, [], _∷_}
 use mathlib.Core.Option.{Option}
 use native.Mathlib.Omega.{arith}
-use lib.ListN.{length, getD, take}
+use lib.ListN.{length, take}
 use Rattle.words.specs.Word.{word}
 use Rattle.format.specs.declared.values.Goal.{Goal}
 use Rattle.format.specs.declared.values.TacticNo.{TacticNo}
@@ -14,7 +14,7 @@ use Rattle.format.specs.Limits.{mostSteps}
 use Rattle.format.specs.Terms.{Term}
 use Rattle.hitac.specs.Machine as M
 use Rattle.hitac.specs.Machine.{labelled, sequenceLeft, sequenceRight, tensorLeft, tensorRight, alternationLeft}
-use Rattle.arities.specs.Layout.{outputEnd, framesEnd, spaceEnd}
+use Rattle.arities.specs.Layout.{framesEnd, spaceEnd}
 use Rattle.arities.specs.Arities.{ArityTable}
 use Rattle.tactics.specs.Memory.{Same}
 use Rattle.tactics.specs.Numbers.{long}

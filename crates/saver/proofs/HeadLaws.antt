@@ -1,15 +1,14 @@
 -- The head of a saved state: the fields of the frames are the fields finished so far, and the numbers are stored before and behind them.
 -- Assumes nothing.
-use Prim.Native.Nat.{ℕ, suc, _+_, _*_, _-_, _≤_, _<_}
-use mathlib.Core.Path.{_≡_, refl, sym, ap, ap₂, subst, _∙_}
+use Prim.Native.Nat.{ℕ, _+_, _*_, _-_, _≤_}
+use mathlib.Core.Path.{_≡_, refl, sym, ap, ap₂, _∙_}
 use mathlib.Core.Bool.{Bool, true, false, false≢true}
 use mathlib.Core.List.{List, [], _∷_, _++_}
 use native.Mathlib.Omega.{arith}
-use lib.ListN.{length, take, drop, length-append, length-take, length-drop}
+use lib.ListN.{length, take, drop, length-append, length-take}
 use lib.Seq.{take-at}
 use borrow.Author.Tests.{eq-eqb, ne-eqb}
 use Rattle.words.specs.Word.{putWord}
-use Rattle.format.specs.declared.values.Goal.{Goal}
 use Rattle.format.specs.Encoding.{Bytes, wordBytes, termBytes}
 use Rattle.format.specs.Standing.{Stands}
 use Rattle.format.specs.Terms.{Term, size}
@@ -21,10 +20,10 @@ use Rattle.arities.specs.Layout.{framesEnd, spaceEnd}
 use Rattle.frames.specs.declared.Frame.{Frame}
 use Rattle.frames.specs.Frames.{frameAt}
 use Rattle.machine.specs.declared.state.State.{State}
-use Rattle.machine.specs.Shows.{FrameIs, FramesAt, Runs}
+use Rattle.machine.specs.Shows.{FrameIs, FramesAt}
 use Rattle.machine.proofs.KeepLaws.{frame-mark}
-use Rattle.saver.specs.Put.{put, Writes}
-use Rattle.saver.specs.Finished.{block, keepsField, leftField, leftFields, Marked, AllMarked, FinishedGiven, FinishedWritten}
+use Rattle.saver.specs.Put.{put}
+use Rattle.saver.specs.Finished.{block, keepsField, leftField, leftFields, AllMarked, FinishedGiven, FinishedWritten}
 use Rattle.saver.specs.Head.{headBytes, HeadGiven, Heads}
 use Rattle.saver.proofs.PutLaws.{length-put, put-before, put-word, word-behind}
 use Rattle.saver.proofs.FinishedLaws.{keeps-sequence, keeps-tensor, field-none, field-some}

@@ -5,5 +5,6 @@ pub mod WaitingLaws
 pub mod FinishedLaws
 pub mod SavedLaws
 pub mod HeadLaws
+pub mod LastLaws
 pub mod SaveLaws
 pub mod PlaceLaws

@@ -1,23 +1,20 @@
 -- The saved state of a run that halts: what each function of `save` is given, by what those before it wrote; and the bytes that all of them leave.
 -- Assumes nothing.
-use Prim.Native.Nat.{ℕ, zero, suc, _+_, _*_, _-_, _≤_, _<_}
+use Prim.Native.Nat.{ℕ, zero, suc, _+_, _*_, _-_, _≤_}
 use mathlib.Core.Path.{_≡_, refl, sym, ap, ap₂, subst, _∙_}
-use mathlib.Core.List.{List, [], _∷_, _++_, append-assoc}
+use mathlib.Core.List.{List, _++_, append-assoc}
 use native.Mathlib.Omega.{arith}
 use lib.ListN.{length, take, drop, replicate, length-append}
-use lib.Seq.{take-at, take-take}
+use lib.Seq.{take-at}
 use Rattle.format.specs.declared.values.Goal.{Goal}
-use Rattle.format.specs.Encoding.{Bytes, wordBytes}
 use Rattle.format.specs.Goals.{goalsAt}
 use Rattle.format.specs.Limits.{mostSteps}
-use Rattle.format.specs.Standing.{Stands}
 use Rattle.format.specs.Terms.{Term}
 use Rattle.format.proofs.GoalsLaws.{length-goalsAt}
 use Rattle.format.proofs.StandsLaws.{known}
 use Rattle.hitac.specs.Machine as M
-use Rattle.hitac.specs.Halts.{ownCount}
 use Rattle.lent_frames.specs.declared.LentFrame.{LentFrame}
-use Rattle.entries.specs.SavedState.{savedSize, finishedFields, waitingTerm, waitingTerms, savedContents, zerosTo}
+use Rattle.entries.specs.SavedState.{savedSize, waitingTerm, waitingTerms, savedContents, zerosTo}
 use Rattle.entries.proofs.SavedStateLaws.{term-length, contents-length, zeros-length}
 use Rattle.entries.specs.Halting.{haltingWork}
 use Rattle.arities.specs.Layout.{framesEnd, spaceEnd}
@@ -25,7 +22,7 @@ use Rattle.tactics.specs.Source.{source}
 use Rattle.tactics.proofs.SourceLaws.{source-small}
 use Rattle.tactics.proofs.MemoryLaws.{same-goals}
 use Rattle.machine.specs.declared.state.State.{State}
-use Rattle.machine.specs.Shows.{here, Runs, setAside}
+use Rattle.machine.specs.Shows.{here, Runs}
 use Rattle.saver.specs.Put.{put, Writes}
 use Rattle.saver.specs.Gather.{gathered, AllFit, GatherGiven, Gathers}
 use Rattle.saver.specs.Waiting.{framesBytes, AllLow, WaitingGiven}

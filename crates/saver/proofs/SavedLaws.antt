@@ -6,7 +6,6 @@ use mathlib.Core.Path.{_≡_, refl, sym, ap, ap₂, subst, _∙_}
 use mathlib.Core.List.{List, [], _∷_, _++_}
 use native.Mathlib.Omega.{arith}
 use lib.ListN.{length, take, length-take}
-use Rattle.words.specs.Word.{word}
 use Rattle.format.specs.declared.values.Goal.{Goal}
 use Rattle.format.specs.Encoding.{Bytes}
 use Rattle.format.specs.Goals.{goalsAt}
@@ -17,7 +16,6 @@ use Rattle.hitac.specs.Machine as M
 use Rattle.hitac.specs.Machine.{labelled, sequenceLeft, sequenceRight, tensorLeft, tensorRight, alternationLeft}
 use Rattle.hitac.specs.Halts.{stage, lastPlace, ownGoals, heldOf, ownCount, heldGoals, Rebuilt, Shared}
 use Rattle.hitac.proofs.SharedGoals.{held-length, inside-most}
-use Rattle.lent_frames.specs.declared.LentFrame.{LentFrame}
 use Rattle.entries.specs.SavedState.{waitingTerm, waitingTerms}
 use Rattle.arities.specs.Layout.{framesEnd, spaceEnd}
 use Rattle.frames.specs.declared.Frame.{Frame}
@@ -45,10 +43,10 @@ goals-low w arena start count g i (suc c) l = omega (arith, i .high, start-some 
 
 -- the two parts of a number
 module _ (file at : ℕ) (small : at < 65536) where
-  file-part : (file * 65536 + at) / 65536 ≡ file
+  pub file-part : (file * 65536 + at) / 65536 ≡ file
   file-part = omega arith
 
-  at-part : (file * 65536 + at) % 65536 ≡ at
+  pub at-part : (file * 65536 + at) % 65536 ≡ at
   at-part = omega arith
 
 module _ (table job w : List ℕ) (arena : ℕ) (f : Frame) (o x : ℕ) where

@@ -3,4 +3,6 @@
 pub mod finished;
 pub mod gather;
 pub mod head;
+pub mod last;
+pub mod layout;
 pub mod waiting;

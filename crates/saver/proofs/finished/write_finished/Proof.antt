@@ -3,10 +3,6 @@ use native.Mathlib.Omega.{arith}
 use Rattle.saver.proofs.FinishedLaws.{FinishedTurn, finished-start, frame-room, finished-inside-given, finished-field-given, finished-next, finished-all, same-length as turn-length}
 use Rattle.saver.proofs.finished.write_finished.Statement.{statement}
 use Rattle.saver.proofs.finished.write_finished.Tie as tie
-use Rattle.saver.proofs.finished.write_finished.Reads as reads
-use Rattle.saver.proofs.finished.write_finished.Lts as lts
-use Rattle.saver.proofs.finished.inside_of.Reads as inside-of-reads
-use Rattle.saver.proofs.finished.write_field.Reads as write-field-reads
 
 abbrev Inv-loop : tie.InvT-loop
 Inv-loop work₀ top out to at₀ next₀ work at next = FinishedTurn work₀ top out to work at next

@@ -1,5 +1,4 @@
 -- `own_count` meets its contract: a law for each return. Assumes nothing.
-use native.Mathlib.Omega.{arith}
 use borrow.Author.Needs.{needs}
 use Rattle.saver.proofs.GatherLaws.{own-4, own-5, own-6, own-none}
 use Rattle.saver.proofs.gather.own_count.Statement.{statement}

@@ -1,5 +1,4 @@
 -- `gather::own_start` meets its contract: a law for each return. Assumes nothing.
-use native.Mathlib.Omega.{arith}
 use borrow.Author.Needs.{needs}
 use Rattle.saver.proofs.GatherLaws.{start-none, start-some}
 use Rattle.saver.proofs.gather.own_start.Statement.{statement}

@@ -5,10 +5,6 @@ use Rattle.saver.proofs.HeadLaws.{finished-given, end-small, head-end}
 use borrow.Author.Needs.{needs}
 use Rattle.saver.proofs.head.write_head.Statement.{statement}
 use Rattle.saver.proofs.head.write_head.Tie as tie
-use Rattle.saver.proofs.head.write_head.Reads as reads
-use Rattle.saver.proofs.head.write_head.Lts as lts
-use Rattle.saver.proofs.finished.write_finished.Reads as write-finished-reads
-use Rattle.words.proofs.store16.Reads as store16-reads
 
 add-write-finished : tie.Need-add-write-finished
 add-write-finished c = search needs

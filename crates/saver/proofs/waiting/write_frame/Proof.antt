@@ -6,10 +6,6 @@ use borrow.Author.Needs.{needs}
 use Rattle.saver.proofs.WaitingLaws.{frame-end}
 use Rattle.saver.proofs.waiting.write_frame.Statement.{statement}
 use Rattle.saver.proofs.waiting.write_frame.Tie as tie
-use Rattle.saver.proofs.waiting.write_frame.Reads as reads
-use Rattle.saver.proofs.waiting.write_frame.Lts as lts
-use Rattle.words.proofs.move_up.Reads as move-up-reads
-use Rattle.words.proofs.store16.Reads as store16-reads
 
 cast-size : tie.Need-cast-size
 cast-size c = search needs
