@@ -1,0 +1,5 @@
+pub mod Again
+pub mod Loans
+pub mod Calling
+pub mod Locals
+pub mod BigLit
