@@ -2,7 +2,7 @@
 // Document 01, "Places and their forms": "a lent slice of frames (term offset, goals start, count, stage), pushed and popped by few functions".
 ghost use mathlib.Core.Path.{_≡_};
 ghost use Prim.Native.Nat.{_+_, _<_};
-ghost use lib.ListN.{length, set, getD};
+ghost use lib.ListN.{length, set, getD, replicate};
 ghost use Rattle.lent_frames.specs.Frames.{noFrame};
 
 // A waiting term: the file and the place of its last inner term as one number, where its own goals begin, how many they are, and its stage.
@@ -29,4 +29,20 @@ pub fn pop(frames: &[LentFrame], n: usize) -> LentFrame
     ensures { λ r. ⌜ r ≡ getD (now (frames .entry)) n noFrame ⌝ }
 {
     frames[n]
+}
+
+// Sets every number of every frame to 0.
+pub fn clear_frames(frames: &mut [LentFrame])
+    ensures { λ _. ⌜ now (frames .exit) ≡ replicate (length (now (frames .entry))) noFrame ⌝ }
+{
+    let none = LentFrame {
+        term: 0,
+        goals: 0,
+        count: 0,
+        stage: 0,
+    };
+    let mut i: usize = 0;
+    while i < frames.len() {
+        i = push(frames, i, none);
+    }
 }
