@@ -1,6 +1,6 @@
 -- A call with lent slices, as one step of a walk by hand, for any callee. It says nothing of the crate.
 --     Arg              an argument as its caller has it: plain data x at the machine value v; a `&[T]`; a `&mut [T]` that the callee takes; and a `&mut [T]` that the callee takes as a `&[T]`
---     Loans gs         what is chosen for a call: a lifetime and a name for each slice that is lent.        lives, parts, dens, valss, machines     what the callee's triple binds outside, of it
+--     Loans gs         what is chosen for a call: a lifetime and a name for each slice that is lent.        lives, parts, dens, valss, bound, machines     what the callee's triple binds outside, of it
 --     Lasts gs         the last values that the callee's `ensures` reads.        Claims, said, All      the facts of a `requires` or an `ensures`
 --     befores, afters  the slices as the caller has them before the call, and after it
 --     Pre, Post        the callee's triple at those arguments: `tripleOf` computes to it
@@ -94,6 +94,9 @@ one (seen s ys) = machine s
 abbrev pub valss : (gs : List Arg) → Valss gs
 valss [] = tt
 valss (a ∷ gs) = (one a ∷ [], valss gs)
+
+abbrev pub bound : (gs : List Arg) → Loans gs → (Lfts (many gs) × Shares (many gs) × Unit {0} × Dens gs × Valss gs) × Unit {0}
+bound gs l = ((lives gs l, parts gs, tt, dens gs l, valss gs), tt)
 
 abbrev pub machines : List Arg → List Val
 machines [] = []
