@@ -3,13 +3,15 @@ ghost use mathlib.Core.Path.{_≡_};
 ghost use Prim.Native.Nat.{_+_, _≤_, _<_};
 ghost use lib.ListN.{length};
 ghost use Rattle.frames.specs.Frames.{frameAt};
-ghost use Rattle.saver.specs.Gather.{ownCountOf, heldAfter, ownStart, gatheredOf, FrameFits};
+ghost use Rattle.saver.specs.Gather.{ownCountOf, heldAfter, ownStart, gatheredOf, FrameFits, GatherGiven, Gathers};
+use arities::layout::FRAMES_END;
 use frames::ALTERNATION_LEFT;
 use frames::SEQUENCE_RIGHT;
 use frames::TENSOR_LEFT;
 use frames::TENSOR_RIGHT;
 use frames::load_frame;
 use lent_frames::LentFrame;
+use lent_frames::push;
 
 // A waiting term, and how many goals of its list it holds with the terms inside it.
 pub struct Gathered {
@@ -82,4 +84,21 @@ pub fn gather_at(work: &[u8], at: usize, inside: usize) -> Gathered
         },
         inside: held,
     }
+}
+
+// All waiting terms from a place on, innermost first, and how many they are.
+pub fn gather(work: &[u8], frames: &mut [LentFrame], top: usize, inside: usize) -> usize
+    requires { ⌜ GatherGiven (now work) (now frames) top inside ⌝ }
+    ensures { λ r. ⌜ Gathers (now (work .entry)) (now (frames .entry)) top inside r (now (frames .exit)) ⌝ }
+{
+    let mut at = top;
+    let mut held = inside;
+    let mut n: usize = 0;
+    while at < FRAMES_END {
+        let g = gather_at(work, at, held);
+        n = push(frames, n, g.frame);
+        held = g.inside;
+        at += 14;
+    }
+    n
 }
