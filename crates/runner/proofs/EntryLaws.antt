@@ -3,12 +3,10 @@
 use Prim.Native.Nat.{ℕ, _≤_, _<_}
 use mathlib.Core.Path.{_≡_, refl, sym, ap, _∙_}
 use mathlib.Core.List.{List}
-use lib.ListN.{length}
 use borrow.Author.Tests.{lt-ltb, le-ltb}
 use Rattle.format.specs.Limits.{mostSteps}
 use Rattle.format.specs.Refusals.{number, budgetTooLarge}
 use Rattle.tables.specs.Tables.{Table}
-use Rattle.files.specs.declared.jobs.JobParts.{JobParts}
 use Rattle.files.specs.Jobs.{Job}
 use Rattle.hitac.specs.Machine as M
 use Rattle.answers.specs.declared.Answer.{Answer}
@@ -18,13 +16,15 @@ use Rattle.entries.specs.LentSpace.{Written}
 use Rattle.entries.specs.Run.{begins, runResult, runOutcome}
 use Rattle.entries.specs.Left.{kept, leftIn}
 use Rattle.entries.proofs.LeftLaws.{refuses}
-use Rattle.arities.specs.Layout.{spaceEnd}
-use Rattle.tactics.specs.Entry.{onJob}
-use Rattle.tactics.proofs.EntryLaws.{BothRead}
-use Rattle.runner.specs.Jobs.{JobGiven, JobRan}
+use Rattle.tactics.specs.Entry.{onJob, FilesRefused}
+use Rattle.tactics.proofs.EntryLaws.{both-outcome, refused-end}
+use Rattle.machine.specs.declared.state.State.{State}
+use Rattle.runner.specs.Jobs.{Finishes}
+use Rattle.runner.specs.LastState.{Reached}
+use Rattle.runner.proofs.LastLaws.{finish-end}
 
 -- what follows the reading
-abbrev pub runs : (budget : ℕ) → Table → Job → Outcome (List ℕ)
+abbrev runs : (budget : ℕ) → Table → Job → Outcome (List ℕ)
 runs b T j = runResult j (M.run T b (begins j))
 
 module _ (t s : List ℕ) (b : ℕ) where
@@ -42,24 +42,14 @@ module _ (t s : List ℕ) (b : ℕ) where
     small-enough = rw (le-ltb mostSteps b fits)
 
     -- within the limit, what the reading leaves is what the entry leaves
-    pub read-end : (o : List ℕ) (x : Written) → x ≡ leftIn o (onJob t s (runs b)) → x ≡ leftIn o (runOutcome t s b)
+    read-end : (o : List ℕ) (x : Written) → x ≡ leftIn o (onJob t s (runs b)) → x ≡ leftIn o (runOutcome t s b)
     read-end o x e = e ∙ ap (leftIn o) (sym small-enough)
 
-    module _ (definitions first : ℕ) (parts : JobParts) (q : BothRead t s (runs b) definitions first parts) where
-      pub job-given : (w : List ℕ) → spaceEnd ≤ length w → JobGiven t first definitions s parts b w
-      job-given w h = record {
-        budget-fits = fits;
-        space = h;
-        table-small = q .table-small;
-        table = q .table;
-        table-stands = q .table-stands;
-        unique = q .unique;
-        count-is = q .count-is;
-        the-job = q .the-job;
-        job-stands = q .job-stands;
-        parts-are = q .parts-are;
-      }
+    -- a file was refused
+    pub files-end : (o : List ℕ) (r : Answer) → FilesRefused t s r → kept r o ≡ leftIn o (runOutcome t s b)
+    files-end o r h = read-end o (kept r o) (refused-end t s (runs b) o r h)
 
-      pub job-end : (o : List ℕ) (r : Answer) (v : List ℕ) → JobRan t first definitions s parts b o r v → kept r v ≡ leftIn o (runOutcome t s b)
-      job-end o r v h =
-          read-end o (kept r v) (h (q .table) (q .the-job) (q .table-stands) (q .unique) (q .count-is) (q .job-stands) (q .parts-are) ∙ ap (leftIn o) (sym (q .outcome-is)))
+    -- the last state was reached
+    pub last-end : (w : List ℕ) (x : State) (first term : ℕ) → Reached t s b w x first term → (o : List ℕ) (r : Answer) (v : List ℕ) → Finishes s w x o r v → kept r v ≡ leftIn o (runOutcome t s b)
+    last-end w x first term q o r v h =
+        read-end o (kept r v) (finish-end t s b w x first term q o r v h ∙ ap (leftIn o) (sym (both-outcome t s (runs b) (q .table) (q .job) (q .table-reads) (q .job-reads))))

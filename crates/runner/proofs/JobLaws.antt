@@ -23,7 +23,7 @@ use Rattle.hitac.specs.Machine.{running, stopped, after}
 use Rattle.answers.specs.declared.Answer.{Answer}
 use Rattle.answers.specs.Answers as said
 use Rattle.entries.specs.Outcomes.{success}
-use Rattle.entries.specs.Run.{begins, runEnd, runResult}
+use Rattle.entries.specs.Run.{begins, runEnd}
 use Rattle.entries.specs.Left.{kept, leftIn}
 use Rattle.entries.proofs.LeftLaws.{refuses}
 use Rattle.arities.specs.Layout.{outputEnd, framesEnd}
@@ -172,31 +172,12 @@ module _ (bytes : List ℕ) (first definitions : ℕ) (job : List ℕ) (parts : 
       }
 
       module _ (w₃ : List ℕ) (r : State) (a : Ran bytes first job w₂ s budget w₃ r) where
-        -- what the last state shows
-        last : (T : Table) (j : Job) → TableStands bytes first T → UniqueDefinitions T → definitions ≡ length (T .definitions) → JobStands job j → jobPartsOf j ≡ parts
-            → ShowsState bytes job w₃ r (M.run T budget (begins j))
+        pub job-ran : JobRan bytes first definitions job parts budget w₃ r
         unfolding M.start
-        last T j st unique c js p =
-            subst (λ (n : ℕ). ShowsState bytes job w₃ r (M.run T budget (after n (running (record { file = 1; at = jobTermPlace j }) (j .term) (j .goals) [])))) (b .no-steps)
-            (a .shows T (record { file = 1; at = jobTermPlace j }) (j .term) (j .goals) [] st (arities-there T st unique c) (b .runs bytes j js p))
-
-        pub finish-given : FinishGiven job (parts .term) w₃ r
-        finish-given =
-            let l = last (q .table) (q .the-job) (q .table-stands) (q .unique) (q .count-is) (q .job-stands) (q .parts-are) in
-            record {
-              few-steps = omega (arith, a .few-steps, b .no-steps, q .budget-fits);
-              space = omega (arith, q .space, f .same-length, b .same-length, a .same-length);
-              the-job = q .the-job;
-              job-stands = q .job-stands;
-              term-is = term-place job (q .the-job) (q .job-stands) parts (q .parts-are);
-              table = bytes;
-              control = M.run (q .table) budget (begins (q .the-job)) .control;
-              shows = l .shows;
-            }
-
-        pub job-end : (o : List ℕ) (x : Answer) (v : List ℕ) → Finishes job w₃ r o x v → JobRan bytes first definitions job parts budget o x v
-        unfolding runResult
-        job-end o x v h T j st unique c js p =
-            let l = last T j st unique c js p in
-            let σ = M.run T budget (begins j) in
-            subst (λ (n : ℕ). kept x v ≡ leftIn o (runEnd j n (σ .control))) (l .steps-are) (h bytes j (σ .control) js (l .shows))
+        job-ran = record {
+          few-steps = omega (arith, a .few-steps, b .no-steps);
+          known = λ T st unique c. known-same w₂ w₃ (arities T) (a .beyond) (arities-there T st unique c);
+          shows = λ T j st unique c js p.
+              subst (λ (n : ℕ). ShowsState bytes job w₃ r (M.run T budget (after n (running (record { file = 1; at = jobTermPlace j }) (j .term) (j .goals) [])))) (b .no-steps)
+              (a .shows T (record { file = 1; at = jobTermPlace j }) (j .term) (j .goals) [] st (arities-there T st unique c) (b .runs bytes j js p));
+        }

@@ -1,3 +1,4 @@
 pub mod RunLaws
 pub mod JobLaws
+pub mod LastLaws
 pub mod EntryLaws

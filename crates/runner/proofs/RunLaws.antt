@@ -87,6 +87,7 @@ module _ (bytes : List ℕ) (first : ℕ) (job w₀ : List ℕ) (s₀ : State) (
   pub ran-end : (s .mode ≡ 0 → ⊥) → Ran bytes first job w₀ s₀ budget w s
   ran-end n = record {
     same-length = way .same-length;
+    beyond = way .far;
     few-steps = omega (arith, way .few-steps);
     shows = λ T π t g k st known h.
         let o = way .onward T π t g k st known h in
@@ -99,6 +100,7 @@ module _ (bytes : List ℕ) (first : ℕ) (job w₀ : List ℕ) (s₀ : State) (
   pub ran-out : left ≤ 0 → Ran bytes first job w₀ s₀ budget w s
   ran-out z = record {
     same-length = way .same-length;
+    beyond = way .far;
     few-steps = omega (arith, way .few-steps);
     shows = λ T π t g k st known h.
         let o = way .onward T π t g k st known h in

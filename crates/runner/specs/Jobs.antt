@@ -1,4 +1,4 @@
--- A job run in a table that stands: what the code is given, and the answer and the output space that entries define.
+-- A job run in a table that stands: what the code is given, its last state, and the answer and the output space that entries define.
 use Prim.Native.Nat.{ℕ, _≤_, _<_}
 use mathlib.Core.Path.{_≡_}
 use mathlib.Core.List.{List, []}
@@ -13,11 +13,13 @@ use Rattle.files.specs.Standing.{JobStands}
 use Rattle.files.specs.Shapes.{jobPartsOf}
 use Rattle.hitac.specs.Machine as M
 use Rattle.answers.specs.declared.Answer.{Answer}
-use Rattle.entries.specs.Run.{begins, runEnd, runResult}
+use Rattle.entries.specs.Run.{begins, runEnd}
 use Rattle.entries.specs.Left.{kept, leftIn}
 use Rattle.arities.specs.Layout.{framesEnd, spaceEnd}
+use Rattle.arities.specs.Arities.{ArityTable, arities}
 use Rattle.machine.specs.declared.state.State.{State}
 use Rattle.machine.specs.Shows.{Runs, Shows}
+use Rattle.runner.specs.Run.{ShowsState}
 
 -- the first state
 pub record StartGiven (job : List ℕ) (parts : JobParts) (w : List ℕ) : Type 0 where
@@ -60,7 +62,9 @@ pub record JobGiven (bytes : List ℕ) (first definitions : ℕ) (job : List ℕ
   pub job-stands : JobStands job the-job
   pub parts-are : jobPartsOf the-job ≡ parts
 
-abbrev pub JobRan : (bytes : List ℕ) → (first definitions : ℕ) → (job : List ℕ) → JobParts → (budget : ℕ) → List ℕ → Answer → List ℕ → Type 0
-JobRan bytes first definitions job parts budget o r v =
-    (T : Table) (j : Job) → TableStands bytes first T → UniqueDefinitions T → definitions ≡ length (T .definitions) → JobStands job j → jobPartsOf j ≡ parts
-    → kept r v ≡ leftIn o (runResult j (M.run T budget (begins j)))
+-- its last state: where the machine stands after so many steps, with the arities of the table still known
+pub record JobRan (bytes : List ℕ) (first definitions : ℕ) (job : List ℕ) (parts : JobParts) (budget : ℕ) (w : List ℕ) (r : State) : Type 0 where
+  pub few-steps : r .steps ≤ budget
+  pub known : (T : Table) → TableStands bytes first T → UniqueDefinitions T → definitions ≡ length (T .definitions) → ArityTable w (arities T)
+  pub shows : (T : Table) (j : Job) → TableStands bytes first T → UniqueDefinitions T → definitions ≡ length (T .definitions) → JobStands job j → jobPartsOf j ≡ parts
+      → ShowsState bytes job w r (M.run T budget (begins j))

@@ -2,14 +2,14 @@
 use Prim.Native.Nat.{ℕ, _+_, _<_, _≤_}
 use mathlib.Core.Path.{_≡_}
 use mathlib.Core.List.{List}
-use lib.ListN.{length}
+use lib.ListN.{length, getD}
 use Rattle.format.specs.declared.values.Goal.{Goal}
 use Rattle.format.specs.Limits.{mostSteps}
 use Rattle.format.specs.Terms.{Term}
 use Rattle.tables.specs.Tables.{Table}
 use Rattle.tables.specs.Standing.{TableStands}
 use Rattle.hitac.specs.Machine as M
-use Rattle.arities.specs.Layout.{spaceEnd}
+use Rattle.arities.specs.Layout.{framesEnd, spaceEnd}
 use Rattle.arities.specs.Arities.{ArityTable, arities}
 use Rattle.machine.specs.declared.state.State.{State}
 use Rattle.machine.specs.Shows.{Runs, Shows}
@@ -37,6 +37,7 @@ pub record Started (bytes : List ℕ) (first : ℕ) (job w : List ℕ) (s : Stat
 -- a run: what the code shows is the machine's state after at most so many steps
 pub record Ran (bytes : List ℕ) (first : ℕ) (job w : List ℕ) (s : State) (budget : ℕ) (v : List ℕ) (r : State) : Type 0 where
   pub same-length : length v ≡ length w
+  pub beyond : (i : ℕ) → framesEnd ≤ i → getD v i 0 ≡ getD w i 0
   pub few-steps : r .steps ≤ s .steps + budget
   pub shows : (T : Table) (π : M.Place) (t : Term) (g : List Goal) (k : List M.Frame) → TableStands bytes first T → ArityTable w (arities T) → Runs bytes job w s π t g k
       → ShowsState bytes job v r (M.run T budget (M.after (s .steps) (M.running π t g k)))

@@ -50,7 +50,7 @@ fn finish_proved(s: State, job: &[u8], term: usize, work: &[u8], out: &mut [u8])
 }
 
 // The answer of a run, by its last state.
-fn finish(s: State, job: &[u8], term: usize, work: &[u8], out: &mut [u8]) -> Answer
+pub fn finish(s: State, job: &[u8], term: usize, work: &[u8], out: &mut [u8]) -> Answer
     requires { ⌜ FinishGiven (now job) term (now work) s ⌝ }
     ensures { λ r. ⌜ Finishes (now (job .entry)) (now (work .entry)) s (now (out .entry)) r (now (out .exit)) ⌝ }
 {
@@ -66,7 +66,7 @@ fn finish(s: State, job: &[u8], term: usize, work: &[u8], out: &mut [u8]) -> Ans
     refusal(22, 0, 0, s.steps)
 }
 
-// A job that was read, in a table that was read.
+// A job that was read, in a table that was read: its last state.
 pub fn run_job(
     table: &[u8],
     first: usize,
@@ -75,13 +75,11 @@ pub fn run_job(
     parts: JobParts,
     budget: usize,
     work: &mut [u8],
-    out: &mut [u8],
-) -> Answer
+) -> State
     requires { ⌜ JobGiven (now table) first definitions (now job) parts budget (now work) ⌝ }
-    ensures { λ r. ⌜ JobRan (now (table .entry)) first definitions (now (job .entry)) parts budget (now (out .entry)) r (now (out .exit)) ⌝ }
+    ensures { λ r. ⌜ JobRan (now (table .entry)) first definitions (now (job .entry)) parts budget (now (work .exit)) r ⌝ }
 {
     fill_arities(table, first, definitions, work);
     let s = start(job, parts, work);
-    let r = run_steps(s, budget, table, first, job, work);
-    finish(r, job, parts.term, work, out)
+    run_steps(s, budget, table, first, job, work)
 }

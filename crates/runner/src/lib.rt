@@ -2,4 +2,5 @@
 // Document 01, "Running a tactic"; 22 to 26 and 29 of "What the state brings about".
 pub mod entry;
 pub mod job;
+pub mod last;
 pub mod run;

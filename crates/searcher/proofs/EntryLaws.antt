@@ -24,7 +24,7 @@ use Rattle.entries.specs.Search.{searchEnd, searchOutcome}
 use Rattle.entries.specs.Left.{kept, leftIn}
 use Rattle.entries.proofs.LeftLaws.{refuses}
 use Rattle.tactics.specs.Entry.{onJob}
-use Rattle.tactics.proofs.EntryLaws.{BothRead}
+use Rattle.tactics.proofs.EntryLaws.{BothRead, both-outcome}
 use Rattle.search_machine.specs.Layout.{definitionsPlace, rulesPlace, spaceEnd}
 use Rattle.search_machine.specs.Step.{TableIndexed}
 use Rattle.searcher.specs.Jobs.{JobGiven, JobRan}
@@ -79,7 +79,7 @@ module _ (t s : List ℕ) (d b : ℕ) (fits : b ≤ mostSearchSteps) (high : d <
   pub read-end : (o : List ℕ) (x : Written) → x ≡ leftIn o (onJob t s (searches d b)) → x ≡ leftIn o (searchOutcome t s (suc d) b)
   read-end o x e = e ∙ ap (leftIn o) (sym within)
 
-  module _ (definitions first : ℕ) (parts : JobParts) (q : BothRead t s (searches d b) definitions first parts) where
+  module _ (definitions first : ℕ) (parts : JobParts) (q : BothRead t s definitions first parts) where
     pub job-given : (w : List ℕ) → spaceEnd ≤ length w → TableIndexed t first w → JobGiven t first s parts d b w
     job-given w h x = record {
       few-levels = high;
@@ -95,4 +95,4 @@ module _ (t s : List ℕ) (d b : ℕ) (fits : b ≤ mostSearchSteps) (high : d <
     }
 
     pub job-end : (o : List ℕ) (r : Answer) (v : List ℕ) → JobRan t first s parts d b o r v → kept r v ≡ leftIn o (searchOutcome t s (suc d) b)
-    job-end o r v h = read-end o (kept r v) (h (q .table) (q .the-job) (q .table-stands) (q .job-stands) (q .parts-are) ∙ ap (leftIn o) (sym (q .outcome-is)))
+    job-end o r v h = read-end o (kept r v) (h (q .table) (q .the-job) (q .table-stands) (q .job-stands) (q .parts-are) ∙ ap (leftIn o) (sym (both-outcome t s (searches d b) (q .table) (q .the-job) (q .table-reads) (q .job-reads))))

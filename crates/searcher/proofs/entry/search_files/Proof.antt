@@ -15,7 +15,7 @@ use Rattle.files.specs.Jobs.{readJob}
 use Rattle.files.specs.Shapes.{jobShape}
 use Rattle.search_machine.specs.Layout.{rulesPlace}
 use Rattle.search_machine.specs.Step.{TableIndexed}
-use Rattle.tactics.proofs.EntryLaws.{table-place, job-place, BothRead, table-refused-end, job-refused-end, both-read}
+use Rattle.tactics.proofs.EntryLaws.{table-place, job-place, BothRead, table-refused, job-refused, both-read, refused-end}
 use Rattle.searcher.proofs.EntryLaws.{searches, indexed-read, read-end, job-given, job-end}
 use Rattle.searcher.proofs.entry.search_files.Statement.{statement}
 use Rattle.searcher.proofs.entry.search_files.Tie as tie
@@ -40,8 +40,8 @@ k c = c .before .before .before .before .before .before .before
 job : (c : L) → jobShape (readJob (now (I (k c) .args .job))) ≡ J.Read (c .before .file2 .given .0 .0)
 job c = sym (c .before .before .before .before .before .read-job .ensures .0) ∙ c .before .file2 .given .1
 
-both : (c : L) → BothRead (now (I (k c) .args .table)) (now (I (k c) .args .job)) (searches (I (k c) .args .below) (I (k c) .args .budget)) (k c .before .read2 .given .0 .1 .0) (k c .before .read2 .given .0 .1 .1 .0) (c .before .file2 .given .0 .0)
-both c = both-read _ _ (searches (I (k c) .args .below) (I (k c) .args .budget)) _ _ _ (read (k c)) _ (job c)
+both : (c : L) → BothRead (now (I (k c) .args .table)) (now (I (k c) .args .job)) (k c .before .read2 .given .0 .1 .0) (k c .before .read2 .given .0 .1 .1 .0) (c .before .file2 .given .0 .0)
+both c = both-read _ _ _ _ _ (read (k c)) _ (job c)
 
 size : (c : L) → length (c .before .before .before .before .before .read-job .last .1 .0) ≡ length (now (I (k c) .args .work))
 size c = c .before .before .before .before .before .read-job .kept .1 .0 ∙ k c .before .before .before .before .before .read-table .kept .1 .0
@@ -90,7 +90,7 @@ same-length c = c .before .before .before .before .before .before .read-table .k
 returns : tie.Need-returns
 returns c =
     let i = c .before .before .before .before .before .before .before .before .before .before .before .before in
-    read-end _ _ _ _ (i .pre .0) (i .pre .1) _ _ (table-refused-end _ (now (i .args .job)) (searches (i .args .below) (i .args .budget)) _ _ _ _ (sym (c .before .before .before .before .before .before .read-table .ensures .answer) ∙ c .before .before .read .given .1) (c .refusal .ensures))
+    read-end _ _ _ _ (i .pre .0) (i .pre .1) _ _ (refused-end _ _ (searches (i .args .below) (i .args .budget)) _ _ (table-refused _ (now (i .args .job)) _ _ _ (sym (c .before .before .before .before .before .before .read-table .ensures .answer) ∙ c .before .before .read .given .1) (c .refusal .ensures)))
 
 same-length-2 : tie.Need-same-length-2
 same-length-2 c = c .before .before .before .before .before .before .read-job .kept .1 .0 ∙ c .before .before .before .before .before .before .before .before .before .before .before .before .before .read-table .kept .1 .0
@@ -98,7 +98,7 @@ same-length-2 c = c .before .before .before .before .before .before .read-job .k
 returns-2 : tie.Need-returns-2
 returns-2 c =
     let i = c .before .before .before .before .before .before .before .before .before .before .before .before .before .before .before .before .before .before .before in
-    read-end _ _ _ _ (i .pre .0) (i .pre .1) _ _ (job-refused-end _ _ (searches (i .args .below) (i .args .budget)) _ _ _ (read (c .before .before .before .before .before .before .before .before)) _ _ _ _ (sym (c .before .before .before .before .before .before .read-job .ensures .0) ∙ c .before .before .file .given .1) (c .refusal2 .ensures))
+    read-end _ _ _ _ (i .pre .0) (i .pre .1) _ _ (refused-end _ _ (searches (i .args .below) (i .args .budget)) _ _ (job-refused _ _ _ _ _ (read (c .before .before .before .before .before .before .before .before)) _ _ _ (sym (c .before .before .before .before .before .before .read-job .ensures .0) ∙ c .before .before .file .given .1) (c .refusal2 .ensures)))
 
 same-length-3 : tie.Need-same-length-3
 same-length-3 c = search needs
