@@ -7,30 +7,33 @@ use native.Mathlib.Omega.{arith}
 use lib.ListN.{length, getD}
 use Rattle.words.specs.Word.{word}
 use Rattle.format.specs.declared.values.Goal.{Goal}
+use Rattle.format.specs.Limits.{mostSteps}
+use Rattle.format.specs.Terms.{Term}
 use Rattle.hitac.specs.Machine as M
 use Rattle.hitac.specs.Machine.{labelled, sequenceLeft, sequenceRight, tensorLeft, tensorRight, alternationLeft}
-use Rattle.arities.specs.Layout.{outputEnd, framesEnd}
+use Rattle.arities.specs.Layout.{outputEnd, framesEnd, spaceEnd}
 use Rattle.tactics.specs.Memory.{Same, Only}
 use Rattle.tactics.specs.Numbers.{long}
 use Rattle.tactics.proofs.MemoryLaws.{same-word, same-goals, same-term}
 use Rattle.tactics.proofs.NumberLaws.{same-long}
 use Rattle.frames.specs.declared.Frame.{Frame}
 use Rattle.frames.specs.Frames.{frameAt}
-use Rattle.machine.specs.Shows.{GoalsIs, FrameIs, FramesAt}
+use Rattle.machine.specs.declared.state.State.{State}
+use Rattle.machine.specs.Shows.{GoalsIs, FrameIs, FramesAt, Runs}
 
--- what a write leaves: the output before o, the goals before arena, the frames from top on
+-- what a write leaves: the output before o, the goals before arena, the frames from top to their end
 pub record Kept (o arena top : ℕ) (w v : List ℕ) : Type 0 where
   pub same-length : length v ≡ length w
   pub output : (i : ℕ) → i < o → getD v i 0 ≡ getD w i 0
   pub goals : (i : ℕ) → outputEnd ≤ i → i < arena → getD v i 0 ≡ getD w i 0
-  pub frames : (i : ℕ) → top ≤ i → getD v i 0 ≡ getD w i 0
+  pub frames : (i : ℕ) → top ≤ i → i < framesEnd → getD v i 0 ≡ getD w i 0
 
 pub kept-less : (o arena top o′ top′ : ℕ) (w v : List ℕ) → Kept o arena top w v → o′ ≤ o → top ≤ top′ → Kept o′ arena top′ w v
 kept-less o arena top o′ top′ w v k l h = record {
   same-length = k .same-length;
   output = λ i p. k .output i (omega arith);
   goals = k .goals;
-  frames = λ i p. k .frames i (omega arith);
+  frames = λ i p q. k .frames i (omega arith) q;
 }
 
 -- a write to the output
@@ -39,7 +42,7 @@ kept-output a b o arena top w v p h l t = record {
   same-length = p .same-length;
   output = λ i q. p .kept .below i (omega arith);
   goals = λ i q r. p .kept .above i (omega arith);
-  frames = λ i q. p .kept .above i (omega arith);
+  frames = λ i q r. p .kept .above i (omega arith);
 }
 
 -- a write behind the goals, before the frames
@@ -48,14 +51,19 @@ kept-behind a b o arena top w v p h l t = record {
   same-length = p .same-length;
   output = λ i q. p .kept .below i (omega arith);
   goals = λ i q r. p .kept .below i (omega arith);
-  frames = λ i q. p .kept .above i (omega arith);
+  frames = λ i q r. p .kept .above i (omega arith);
 }
 
+-- the frames end where their region ends
+pub frames-top : (table job w : List ℕ) (arena : ℕ) (k : List M.Frame) (top o : ℕ) → FramesAt table job w arena k top o → top ≤ framesEnd
+unfolding FramesAt
+frames-top table job w arena [] top o h = omega (arith, h .0)
+frames-top table job w arena (x ∷ k) top o h = omega (arith, frames-top table job w arena k (top + 14) _ (h .1))
+
 module _ (w v : List ℕ) where
-  pub frame-kept : (at : ℕ) → ((i : ℕ) → at ≤ i → getD v i 0 ≡ getD w i 0) → frameAt v at ≡ frameAt w at
+  frame-kept : (at : ℕ) → Same at (at + 14) w v → frameAt v at ≡ frameAt w at
   unfolding frameAt
-  frame-kept at h =
-      let s : Same at (at + 14) w v = λ i l r. h i l in
+  frame-kept at s =
       let e₁ : word v at ≡ word w at = same-word w v at (at + 14) at s (omega arith) (omega arith) in
       let e₂ : word v (at + 2) ≡ word w (at + 2) = same-word w v at (at + 14) (at + 2) s (omega arith) (omega arith) in
       let e₃ : word v (at + 4) ≡ word w (at + 4) = same-word w v at (at + 14) (at + 4) s (omega arith) (omega arith) in
@@ -117,7 +125,8 @@ module _ (w v : List ℕ) where
       unfolding FramesAt
       frames-kept [] top o p h = h
       frames-kept (x ∷ k) top o p h =
-          let e : frameAt v top ≡ frameAt w top = frame-kept top (p .frames) in
+          let below : top + 14 ≤ framesEnd = frames-top table job w arena k (top + 14) _ (h .1) in
+          let e : frameAt v top ≡ frameAt w top = frame-kept top (λ i l r. p .frames i l (omega arith)) in
           let one : FrameIs table job v arena′ (frameAt w top) o x = frame-is-kept x (frameAt w top) o top p (h .0) in
           let m : frameAt w top .mark ≤ o = mark-below x (frameAt w top) o (h .0) in
           let rest : FramesAt table job v arena′ k (top + 14) (frameAt w top .mark) =
@@ -128,15 +137,27 @@ module _ (w v : List ℕ) where
 
 -- what is known of the frames
 module _ (table job w : List ℕ) (arena : ℕ) where
-  pub frames-top : (k : List M.Frame) (top o : ℕ) → FramesAt table job w arena k top o → top ≤ framesEnd
-  unfolding FramesAt
-  frames-top [] top o h = omega (arith, h .0)
-  frames-top (x ∷ k) top o h = omega (arith, frames-top k (top + 14) _ (h .1))
-
   pub frame-top : (x : M.Frame) (k : List M.Frame) (top o : ℕ) → FramesAt table job w arena (x ∷ k) top o → top + 14 ≤ framesEnd
   unfolding FramesAt
-  frame-top x k top o h = frames-top k (top + 14) _ (h .1)
+  frame-top x k top o h = frames-top table job w arena k (top + 14) _ (h .1)
 
   pub frame-mark : (x : M.Frame) (k : List M.Frame) (top o : ℕ) → FramesAt table job w arena (x ∷ k) top o → frameAt w top .mark ≤ o
   unfolding FramesAt
   frame-mark x k top o h = mark-below w w arena arena (omega arith) table job x (frameAt w top) o (h .0)
+
+-- a term that is to begin still is after a write behind all that a run uses
+pub runs-kept : (table job w v : List ℕ) (s : State) (π : M.Place) (t : Term) (g : List Goal) (k : List M.Frame) → length v ≡ length w → Same 0 spaceEnd w v → s .steps ≤ mostSteps
+    → Runs table job w s π t g k → Runs table job v s π t g k
+runs-kept table job w v s π t g k len same few r =
+    let output : s .out ≤ spaceEnd = omega (arith, few, r .sizes .output-fits) in
+    let arena : s .arena ≤ spaceEnd = omega (arith, few, r .sizes .goals-fit) in
+    let kept : Kept (s .out) (s .arena) (s .top) w v =
+    record { same-length = len; output = λ i l. same i (omega arith) (omega arith); goals = λ i l u. same i (omega arith) (omega arith); frames = λ i l u. same i (omega arith) (omega arith) } in
+    record {
+      mode-is = r .mode-is;
+      place-is = r .place-is;
+      stands = r .stands;
+      goals = goals-kept w v (s .arena) (s .arena) (omega arith) (s .start) (s .count) g (kept .goals) (r .goals);
+      frames = frames-kept w v (s .arena) (s .arena) (omega arith) table job k (s .top) (s .out) kept (r .frames);
+      sizes = r .sizes;
+    }
