@@ -153,7 +153,7 @@ module _ (bytes : List ℕ) (first definitions : ℕ) (job : List ℕ) (parts : 
 
     module _ (w₂ : List ℕ) (s : State) (b : Starts job parts w₁ w₂ s) where
       arities-there : (T : Table) → TableStands bytes first T → UniqueDefinitions T → definitions ≡ length (T .definitions) → ArityTable w₂ (arities T)
-      arities-there T st unique c = known-same w₁ w₂ (arities T) (b .beyond) (f .filled T st unique c)
+      arities-there T st unique c = known-same w₁ w₂ (arities T) (λ i l r. b .beyond i l) (f .filled T st unique c)
 
       pub run-given : Started bytes first job w₂ s budget
       run-given = record {
@@ -176,7 +176,7 @@ module _ (bytes : List ℕ) (first definitions : ℕ) (job : List ℕ) (parts : 
         unfolding M.start
         job-ran = record {
           few-steps = omega (arith, a .few-steps, b .no-steps);
-          known = λ T st unique c. known-same w₂ w₃ (arities T) (a .beyond) (arities-there T st unique c);
+          known = λ T st unique c. known-same w₂ w₃ (arities T) (λ i l r. a .beyond i l) (arities-there T st unique c);
           shows = λ T j st unique c js p.
               subst (λ (n : ℕ). ShowsState bytes job w₃ r (M.run T budget (after n (running (record { file = 1; at = jobTermPlace j }) (j .term) (j .goals) [])))) (b .no-steps)
               (a .shows T (record { file = 1; at = jobTermPlace j }) (j .term) (j .goals) [] st (arities-there T st unique c) (b .runs bytes j js p));

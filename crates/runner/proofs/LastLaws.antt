@@ -12,14 +12,19 @@ use Rattle.answers.specs.declared.Answer.{Answer}
 use Rattle.entries.specs.Run.{begins, runEnd, runResult}
 use Rattle.entries.specs.Left.{kept, leftIn}
 use Rattle.arities.specs.Layout.{spaceEnd}
+use Rattle.arities.specs.Arities.{arities}
+use Rattle.tactics.specs.Memory.{Same}
 use Rattle.tactics.specs.Entry.{FilesRefused}
 use Rattle.tactics.proofs.JobLaws.{term-place}
 use Rattle.tactics.proofs.EntryLaws.{BothRead}
 use Rattle.machine.specs.declared.state.State.{State}
+use Rattle.machine.specs.Shows.{Shows}
+use Rattle.machine.proofs.KeepLaws.{runs-kept}
 use Rattle.runner.specs.declared.last.LastState.{LastState}
 use Rattle.runner.specs.declared.last.LastState.the-variants as L
 use Rattle.runner.specs.Jobs.{FinishGiven, Finishes, JobGiven, JobRan}
 use Rattle.runner.specs.LastState.{Reached, Reaches}
+use Rattle.runner.proofs.RunLaws.{known-same, if-running}
 
 -- from what the code was told
 module _ (t s : List ℕ) (b : ℕ) (fits : b ≤ mostSteps) (definitions first : ℕ) (parts : JobParts) (q : BothRead t s definitions first parts) where
@@ -81,3 +86,24 @@ module _ (t s : List ℕ) (b : ℕ) (w : List ℕ) (x : State) (first term : ℕ
   finish-end o r v h =
       let σ = M.run (q .table) b (begins (q .job)) in
       subst (λ (n : ℕ). kept r v ≡ leftIn o (runEnd (q .job) n (σ .control))) (q .shows .steps-are) (h t (q .job) (σ .control) (q .job-stands) (q .shows .shows))
+
+-- a run that halted stands as before after a write behind all that a run uses
+pub reached-kept : (t s : List ℕ) (b : ℕ) (w v : List ℕ) (x : State) (first term : ℕ) → Reached t s b w x first term → x .mode ≡ 0 → b ≤ mostSteps → length v ≡ length w → Same 0 spaceEnd w v
+    → Reached t s b v x first term
+unfolding Shows
+reached-kept t s b w v x first term q m h len same = record {
+  table = q .table;
+  table-reads = q .table-reads;
+  table-small = q .table-small;
+  table-stands = q .table-stands;
+  known = known-same w v (arities (q .table)) (λ i l r. same i (omega arith) r) (q .known);
+  job = q .job;
+  job-reads = q .job-reads;
+  job-stands = q .job-stands;
+  term-is = q .term-is;
+  few-steps = q .few-steps;
+  shows = record {
+    steps-are = q .shows .steps-are;
+    shows = if-running t s w x (λ κ. Shows t s v x κ) m (λ π u g k r. runs-kept t s w v x π u g k len same (omega (arith, h, q .few-steps)) r) (M.run (q .table) b (begins (q .job)) .control) (q .shows .shows);
+  };
+}

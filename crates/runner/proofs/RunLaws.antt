@@ -15,11 +15,12 @@ use Rattle.hitac.specs.Outcomes.{Ending}
 use Rattle.hitac.specs.Machine as M
 use Rattle.hitac.specs.Machine.{Control, running, stopped, after, stepFrom, step, run}
 use Rattle.hitac.proofs.RunLaws.{run-stopped}
-use Rattle.arities.specs.Layout.{framesEnd}
+use Rattle.arities.specs.Layout.{framesEnd, spaceEnd}
 use Rattle.arities.specs.Arities.{ArityTable, arities}
+use Rattle.tactics.specs.Memory.{Same}
+use Rattle.tactics.specs.Source.{source}
 use Rattle.tactics.proofs.MemoryLaws.{same-word}
 use Rattle.tactics.proofs.SourceLaws.{source-small}
-use Rattle.tactics.specs.Source.{source}
 use Rattle.machine.specs.declared.state.State.{State}
 use Rattle.machine.specs.Shows.{Runs, Ends, Shows}
 use Rattle.machine.specs.Step.{Grown, Given, Stepped}
@@ -44,9 +45,9 @@ pub record Way (bytes : List ℕ) (first : ℕ) (job w₀ : List ℕ) (s₀ : St
   pub same-length : length w ≡ length w₀
   pub few-steps : s .steps + left ≤ s₀ .steps + budget
 
-pub known-same : (w₀ w : List ℕ) (known : TacticNo → Option ℕ) → Far w₀ w → ArityTable w₀ known → ArityTable w known
-known-same w₀ w known f h d b =
-    same-word w₀ w (framesEnd + d * 2) (framesEnd + d * 2 + 2) (framesEnd + d * 2) (λ i l r. f i (omega arith)) (omega arith) (omega arith) ∙ h d b
+-- and with them the arities
+pub known-same : (w₀ w : List ℕ) (known : TacticNo → Option ℕ) → Same framesEnd spaceEnd w₀ w → ArityTable w₀ known → ArityTable w known
+known-same w₀ w known s h d b = same-word w₀ w framesEnd spaceEnd (framesEnd + d * 2) s (omega arith) (omega arith) ∙ h d b
 
 run-one : (T : Table) (left n : ℕ) (π : M.Place) (t : Term) (g : List Goal) (k : List M.Frame) → 0 < left → run T left (after n (running π t g k)) ≡ run T (left - 1) (after (n + 1) (M.begin T π t g k))
 unfolding run step stepFrom
@@ -117,7 +118,7 @@ module _ (bytes : List ℕ) (first : ℕ) (job w₀ : List ℕ) (s₀ : State) (
           src-small = source-small bytes job (s .file) 65536 (q .table-small) (q .job-small);
           table = q .table;
           table-stands = q .table-stands;
-          known = known-same w₀ w (arities (q .table)) (way .far) (q .known);
+          known = known-same w₀ w (arities (q .table)) (λ i l r. way .far i l) (q .known);
           job = job;
           so = refl;
           place = π;
@@ -134,7 +135,7 @@ module _ (bytes : List ℕ) (first : ℕ) (job w₀ : List ℕ) (s₀ : State) (
           if-running bytes job w s (λ κ. run T left (after (s .steps) κ) ≡ run T budget (after (s₀ .steps) (running π t g k)) → Onward bytes job v r T (left - 1) (run T budget (after (s₀ .steps) (running π t g k)))) m
           (λ π′ t′ g′ k′ h′ e. record {
             control = M.begin T π′ t′ g′ k′;
-            shows = st T job π′ t′ g′ k′ stands refl (known-same w₀ w (arities T) (way .far) known) h′;
+            shows = st T job π′ t′ g′ k′ stands refl (known-same w₀ w (arities T) (λ i l r. way .far i l) known) h′;
             same = ap (λ (n : ℕ). run T (left - 1) (after n (M.begin T π′ t′ g′ k′))) (gr .one-step) ∙ sym (run-one T left (s .steps) π′ t′ g′ k′ more) ∙ e;
           }) (o .control) (o .shows) (o .same);
       far = λ i b. gr .beyond i b ∙ way .far i b;
