@@ -1,0 +1,4 @@
+pub mod Halted
+pub mod Again
+pub mod On
+pub mod Hand

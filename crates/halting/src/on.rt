@@ -1,0 +1,38 @@
+// A run that goes on from a saved state.
+ghost use mathlib.Core.Path.{_≡_};
+ghost use Prim.Native.Nat.{_≤_};
+ghost use Rattle.entries.specs.Halting.{resumeOutcome};
+ghost use Rattle.halting.specs.Halted.{Comes};
+ghost use Rattle.halting.specs.On.{GoOnGiven};
+use crate::halted::Halted;
+use crate::halted::answered;
+use crate::halted::ended;
+use crate::layout::SAVED_SIZE;
+use crate::same::same_bytes;
+use arities::layout::SPACE_END;
+use machine::state::RUNNING;
+use runner::run::run_steps;
+
+// A call that has ended stays as it is. A halted run goes on if the saved bytes are those of its own state, which stand behind what a run uses of the work space.
+pub fn go_on(
+    h: Halted,
+    table: &[u8],
+    job: &[u8],
+    saved: &[u8],
+    budget: u32,
+    work: &mut [u8],
+    out: &mut [u8],
+) -> Halted
+    requires { ⌜ GoOnGiven (now table) (now job) (now saved) budget (now work) h ⌝ }
+    ensures { λ r. ⌜ Comes (resumeOutcome (now (table .entry)) (now (job .entry)) (now (saved .entry)) budget) (now (work .entry)) (now (out .entry)) (now (work .exit)) r (now (out .exit)) ⌝ }
+{
+    let from = h.state;
+    if from.mode != RUNNING {
+        return h;
+    }
+    if same_bytes(work, SPACE_END, SAVED_SIZE, saved) {
+        let s = run_steps(from, budget as usize, table, h.first, job, work);
+        return answered(s, h.first, job, h.term, work, out);
+    }
+    ended(h.answer)
+}
