@@ -28,6 +28,7 @@ use Rattle.hitac.proofs.MachineMeaning.{run-ending}
 use Rattle.hitac.proofs.RunLaws.{spent-steps}
 use Rattle.answers.specs.Answers as answer
 use Rattle.lent_frames.specs.declared.LentFrame.{LentFrame}
+use Rattle.lent_frames.specs.Frames.{noFrame}
 use Rattle.entries.specs.Outcomes.{Outcome, success, refusal}
 use Rattle.entries.specs.LentSpace.{Written, writeOut}
 use Rattle.entries.specs.Run.{begins, runEnd, runResult}
@@ -35,7 +36,7 @@ use Rattle.entries.specs.SavedState.{savedSize, savedContents, zerosTo, savedIn
 use Rattle.entries.specs.Halting.{HaltingOutcome, unbegun, ranFor, haltingOutcome, Halting, saveIn, haltIn}
 use Rattle.entries.proofs.HaltingLaws.{enough-or-not, lent-enough, lent-short, over-limit, table-refused, job-refused, both-read}
 use Rattle.entries.proofs.SavedStateLaws.{contents-fit, zeros-length}
-use Rattle.promises.specs.HaltingPromises.{Enough, HaltsAfter, contentsOf, WritesState}
+use Rattle.promises.specs.HaltingPromises.{Enough, HaltsAfter, contentsOf, haltedAfter, WritesState}
 use Rattle.promises.proofs.RunPromises.{at-job}
 
 -- the numbers with which an outcome may be refused
@@ -154,46 +155,47 @@ module _ (w : List ℕ) (fs : List LentFrame) (o st : List ℕ) where
       go (yes l) = l
       go (no d) = absurd (let q = ap (λ (y : Halting). y .answer .number) (lent-short w fs o st d h) in omega (arith, z, q))
 
+  -- a halt, in spaces that suffice
+  pub lent-halt : Enough w fs st → (n : ℕ) (c : List ℕ) → length c ≤ savedSize
+      → call (record { outcome = refusal budgetSpent 0 0 n; saved = some (zerosTo savedSize c) }) ≡ haltedAfter n c w fs o st
+  unfolding writeOut saveIn number
+  lent-halt l n c fit =
+      lent-enough w fs o st l (record { outcome = refusal budgetSpent 0 0 n; saved = some (zerosTo savedSize c) })
+      ∙ ap (λ (k : ℕ). record { answer = answer.refusal 24 0 0 n; work = replicate (length w) 0; frames = replicate (length fs) noFrame; out = o; state = zerosTo savedSize c ++ drop k st })
+      (zeros-length savedSize c fit)
+
   module _ (May : (number : ℕ) → Type 0) (not-24 : May 24 → ⊥) (t f : List ℕ) (n : ℕ) where
     ended-24 : Enough w fs st → (x : Outcome (List ℕ)) → Refused May x → call (unbegun x) .answer .number ≡ 24 → ⊥
     ended-24 l x r = other-number May l x r 24 not-24 (λ q. omega (arith, q)) (λ q. omega (arith, q))
 
-    enough-writes : Enough w fs st → (h : HaltingOutcome) → Comes May t f n h → WritesState t f n st (call h)
-    unfolding writeOut number saveIn
+    enough-writes : Enough w fs st → (h : HaltingOutcome) → Comes May t f n h → WritesState t f n w fs o st (call h)
+    unfolding saveIn
     enough-writes l h (comes-halted x fit) =
-        subst (WritesState t f n st) (sym (lent-enough w fs o st l (record { outcome = refusal budgetSpent 0 0 n; saved = some (zerosTo savedSize (contentsOf x)) })))
-        (record { fills = λ z. (x, refl, fit, ap (λ (k : ℕ). zerosTo savedSize (contentsOf x) ++ drop k st) (zeros-length savedSize (contentsOf x) fit)); keeps = λ z. absurd (z refl) })
+        let q = lent-halt l n (contentsOf x) fit in record { fills = λ z. (x, q); keeps = λ z. absurd (z (ap (λ (y : Halting). y .answer .number) q)) }
     enough-writes l h (comes-ended x r) = record {
       fills = λ z. absurd (ended-24 l x r z);
       keeps = λ z. ap (λ (y : Halting). y .state) (lent-enough w fs o st l (unbegun x));
     }
 
     -- WRITES: the second space is filled by a halt, and by nothing else.
-    pub writes-state : (h : HaltingOutcome) → Comes May t f n h → WritesState t f n st (call h)
+    pub writes-state : (h : HaltingOutcome) → Comes May t f n h → WritesState t f n w fs o st (call h)
     writes-state h k = go (enough-or-not w fs o st)
       where
-        go : Dec (Enough w fs st) → WritesState t f n st (call h)
+        go : Dec (Enough w fs st) → WritesState t f n w fs o st (call h)
         go (yes l) = enough-writes l h k
-        go (no d) = subst (WritesState t f n st) (sym (lent-short w fs o st d h)) (record { fills = λ z. absurd (omega (arith, z)); keeps = λ z. refl })
+        go (no d) = subst (WritesState t f n w fs o st) (sym (lent-short w fs o st d h)) (record { fills = λ z. absurd (omega (arith, z)); keeps = λ z. refl })
 
     -- a halt: what is saved stands first in the second space
     pub saved-first : (h : HaltingOutcome) → Comes May t f n h → call h .answer .number ≡ 24 → (s : List ℕ) × (h .saved ≡ some s) × (take savedSize (call h .state) ≡ s)
-    unfolding saveIn
     saved-first h (comes-halted x fit) z =
         let s = zerosTo savedSize (contentsOf x) in
-        let l = spent-enough (record { outcome = refusal budgetSpent 0 0 n; saved = some s }) z in (
-          s,
-          refl,
-          ap (λ (y : Halting). take savedSize (y .state)) (lent-enough w fs o st l (record { outcome = refusal budgetSpent 0 0 n; saved = some s }))
-              ∙ take-at s (drop (length s) st) savedSize (zeros-length savedSize (contentsOf x) fit),
-        )
+        let q = lent-halt (spent-enough (record { outcome = refusal budgetSpent 0 0 n; saved = some s }) z) n (contentsOf x) fit in
+        (s, refl, ap (λ (y : Halting). take savedSize (y .state)) q ∙ take-at s (drop savedSize st) savedSize (zeros-length savedSize (contentsOf x) fit))
     saved-first h (comes-ended x r) z = absurd (ended-24 (spent-enough (unbegun x) z) x r z)
 
     -- and what is saved is answered with 24
     pub saved-answer : Enough w fs st → (h : HaltingOutcome) → Comes May t f n h → (s : List ℕ) → h .saved ≡ some s → call h .answer .number ≡ 24
-    unfolding writeOut number
-    saved-answer l h (comes-halted x fit) s q =
-        ap (λ (y : Halting). y .answer .number) (lent-enough w fs o st l (record { outcome = refusal budgetSpent 0 0 n; saved = some (zerosTo savedSize (contentsOf x)) }))
+    saved-answer l h (comes-halted x fit) s q = ap (λ (y : Halting). y .answer .number) (lent-halt l n (contentsOf x) fit)
     saved-answer l h (comes-ended x r) s q = absurd (Option·none-ne-some s q)
 
     -- an answer other than 24 has no saved state

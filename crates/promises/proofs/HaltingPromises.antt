@@ -2,35 +2,33 @@
 use Prim.Native.Nat.{ℕ, _≤_}
 use native.Mathlib.Omega.{arith}
 use mathlib.Core.Path.{_≡_, refl, sym, subst, ap, _∙_}
-use mathlib.Core.List.{List, [], _++_}
+use mathlib.Core.List.{List, []}
 use mathlib.Core.Option.{none, some, Option·none-ne-some}
-use lib.ListN.{length, drop, replicate}
+use lib.ListN.{length}
 use borrow.Author.Tests.{le-ltb}
 use Rattle.format.specs.Limits.{mostSteps}
-use Rattle.format.specs.Refusals.{number}
+use Rattle.format.specs.Refusals.{number, budgetSpent}
 use Rattle.format.specs.Results.{Result, gives, refused}
 use Rattle.tables.specs.Tables.{Table}
 use Rattle.tables.specs.ReadTables.{readTable}
 use Rattle.files.specs.Jobs.{Job, readJob}
 use Rattle.hitac.specs.Machine.{Control, running, stopped, State, after, run, start}
 use Rattle.hitac.proofs.RunLaws.{more-budget}
-use Rattle.answers.specs.Answers as answer
 use Rattle.lent_frames.specs.declared.LentFrame.{LentFrame}
-use Rattle.lent_frames.specs.Frames.{noFrame}
 use Rattle.entries.specs.Outcomes.{refusal}
 use Rattle.entries.specs.LentSpace.{Written, writeOut, writeIn}
 use Rattle.entries.specs.Run.{begins, runEnd, runResult, runOutcome, runWork, runTactic}
 use Rattle.entries.specs.SavedState.{savedSize, zerosTo, savedIn, savedState}
-use Rattle.entries.specs.Halting.{HaltingOutcome, ranFor, haltingOutcome, Halting, saveIn, haltIn, runHalting}
+use Rattle.entries.specs.Halting.{HaltingOutcome, ranFor, haltingOutcome, Halting, haltIn, runHalting}
 use Rattle.entries.proofs.HaltingLaws.{enough-or-not, lent-enough, lent-short, table-refused, job-refused, both-read, halting-run}
-use Rattle.entries.proofs.SavedStateLaws.{zeros-length, contents-fit}
+use Rattle.entries.proofs.SavedStateLaws.{contents-fit}
 use Rattle.promises.specs.Ended as ended
 use Rattle.promises.specs.RunPromises.{RunRefuses}
 use Rattle.promises.specs.HaltingPromises as promise
 use Rattle.promises.specs.HaltingPromises.{Enough, HaltsAfter, EndsHalting}
 use Rattle.promises.proofs.LentLaws.{Answers, ends-written}
 use Rattle.promises.proofs.RunPromises.{at-job, run-outcome}
-use Rattle.promises.proofs.HaltingCases.{Comes, comes-halted, comes-ended, RunMay, run-unlisted, halting-comes, other-number, writes-state, saved-answer, unsaved}
+use Rattle.promises.proofs.HaltingCases.{Comes, comes-halted, comes-ended, RunMay, run-unlisted, halting-comes, other-number, lent-halt, writes-state, unsaved}
 
 -- HALTS AS RUN: with spaces that suffice, all but the second space and the frames is as in the entry run.
 pub halts-as-run : promise.Halts-as-run
@@ -47,28 +45,32 @@ halts-as-run t f b w fs o st l =
 pub not-24 : RunMay 24 → ⊥
 not-24 = run-unlisted 24 (omega arith) (λ q. omega (arith, q))
 
--- a run that stands at a term to begin is a halt
-halted-saved : (t f : List ℕ) (b : ℕ) → b ≤ mostSteps → (x : HaltsAfter t f b) → haltingOutcome t f b .saved ≡ some (zerosTo savedSize (promise.contentsOf x))
-unfolding haltingOutcome ranFor savedState savedIn
-halted-saved t f b l x =
-    ap (λ (h : HaltingOutcome). h .saved) (both-read t f b (λ T j. ranFor T j b) l (x .table) (x .job) (x .table-read) (x .job-read)) ∙ ap savedState (x .stands)
+-- STATE SIZE: what is saved has room in the size that docs/ names.
+pub state-size : promise.State-size
+state-size t f n l x = contents-fit t f (x .table) (x .job) (x .table-read) (x .job-read) n l n (x .place) (x .term) (x .goals) (x .waiting) (x .stands)
 
--- HALTING WRITES: a halt is 24 and fills the second space, and nothing else does.
+-- HALTS: a run that has not ended is a halt, with all of its answer and every byte of the lent spaces.
+halts-at : (t f : List ℕ) (b : ℕ) → b ≤ mostSteps → (x : HaltsAfter t f b)
+    → haltingOutcome t f b ≡ record { outcome = refusal budgetSpent 0 0 b; saved = some (zerosTo savedSize (promise.contentsOf x)) }
+unfolding haltingOutcome ranFor runResult runEnd savedState savedIn
+halts-at t f b l x =
+    both-read t f b (λ T j. ranFor T j b) l (x .table) (x .job) (x .table-read) (x .job-read)
+    ∙ ap (λ (σ : State). record { outcome = runResult (x .job) σ; saved = savedState σ }) (x .stands)
+
+pub halting-halts : promise.Halting-halts
+unfolding runHalting
+halting-halts t f b w fs o st l k x = ap (haltIn w fs o st) (halts-at t f b k x) ∙ lent-halt w fs o st l b (promise.contentsOf x) (state-size t f b k x)
+
+-- WRITES: a halt is 24 and fills the second space, and nothing else does.
 pub halting-writes : promise.Halting-writes
 unfolding runHalting
-halting-writes t f b w fs o st = (
-  writes-state w fs o st RunMay not-24 t f b (haltingOutcome t f b) (halting-comes t f b),
-  λ l k x. saved-answer w fs o st RunMay not-24 t f b l (haltingOutcome t f b) (halting-comes t f b) (zerosTo savedSize (promise.contentsOf x)) (halted-saved t f b k x),
-)
+halting-writes t f b w fs o st = writes-state w fs o st RunMay not-24 t f b (haltingOutcome t f b) (halting-comes t f b)
 
 -- ZERO: a budget of 0 halts before the first term.
 pub zero-halts : promise.Zero-halts
-unfolding runHalting haltingOutcome ranFor runResult runEnd savedState savedIn run start writeOut saveIn number
+unfolding run start
 zero-halts t f T j e g w fs o st l =
-    let fit = contents-fit t f T j e g 0 (omega arith) 0 (at-job j) (j .term) (j .goals) [] refl in
-    ap (haltIn w fs o st) (both-read t f 0 (λ T j. ranFor T j 0) (omega arith) T j e g)
-    ∙ lent-enough w fs o st l (ranFor T j 0)
-    ∙ ap (λ (k : ℕ). record { answer = answer.refusal 24 0 0 0; work = replicate (length w) 0; frames = replicate (length fs) noFrame; out = o; state = zerosTo savedSize (promise.firstContents j) ++ drop k st }) (zeros-length savedSize (promise.firstContents j) fit)
+    halting-halts t f 0 w fs o st l (omega arith) (record { table = T; job = j; table-read = e; job-read = g; place = at-job j; term = j .term; goals = j .goals; waiting = []; stands = refl })
 
 -- ENDS: demand 1, of a call that may halt
 

@@ -49,17 +49,30 @@ pub record HaltsAfter (t f : List ℕ) (n : ℕ) : Type 0 where
 abbrev pub contentsOf : {t f : List ℕ} {n : ℕ} → HaltsAfter t f n → List ℕ
 contentsOf {n = n} x = savedContents n (x .place) (x .goals) (x .waiting)
 
--- "A halt is 24 ..; its state fills the first bytes, as many as docs/ names, of a second space .., zeros last and bytes past them untouched; no other answer touches it."
--- The size that docs/ names suffices for what is to be written.
-pub record WritesState (t f : List ℕ) (n : ℕ) (state : List ℕ) (c : Halting) : Type 0 where
-  pub fills : c .answer .number ≡ 24
-      → (x : HaltsAfter t f n) × (c .answer .steps ≡ n) × (length (contentsOf x) ≤ savedSize) × (c .state ≡ contentsOf x ++ replicate (savedSize - length (contentsOf x)) 0 ++ drop savedSize state)
-  pub keeps : (c .answer .number ≡ 24 → ⊥) → c .state ≡ state
+-- "its state fills the first bytes, as many as docs/ names, of a second space .., zeros last and bytes past them untouched"
+abbrev pub stateOf : (contents state : List ℕ) → List ℕ
+stateOf c st = c ++ replicate (savedSize - length c) 0 ++ drop savedSize st
 
--- and 24 is the answer of every run that halts
+-- "as many as docs/ names" are enough, for every run that halts within the limit of steps
+abbrev pub State-size : Type 0
+State-size = (t f : List ℕ) (n : ℕ) → n ≤ 4096 → (x : HaltsAfter t f n) → length (contentsOf x) ≤ savedSize
+
+-- what a halt with these bytes leaves: 24 with its steps, work space and frames all zero, the output space untouched, and the state
+abbrev pub haltedAfter : (steps : ℕ) → (contents : List ℕ) → (work : List ℕ) → List LentFrame → (out state : List ℕ) → Halting
+haltedAfter n c w fs o st = record { answer = answer.refusal 24 0 0 n; work = replicate (length w) 0; frames = replicate (length fs) noFrame; out = o; state = stateOf c st }
+
+-- A run that has not ended halts;
+abbrev pub Halting-halts : Type 0
+Halting-halts = (t f : List ℕ) (b : ℕ) (w : List ℕ) (fs : List LentFrame) (o st : List ℕ) → Enough w fs st → b ≤ 4096 → (x : HaltsAfter t f b)
+    → runHalting t f b w fs o st ≡ haltedAfter b (contentsOf x) w fs o st
+
+-- "A halt is 24 ..; no other answer touches it."
+pub record WritesState (t f : List ℕ) (n : ℕ) (w : List ℕ) (fs : List LentFrame) (o st : List ℕ) (c : Halting) : Type 0 where
+  pub fills : c .answer .number ≡ 24 → (x : HaltsAfter t f n) × (c ≡ haltedAfter n (contentsOf x) w fs o st)
+  pub keeps : (c .answer .number ≡ 24 → ⊥) → c .state ≡ st
+
 abbrev pub Halting-writes : Type 0
-Halting-writes = (t f : List ℕ) (b : ℕ) (w : List ℕ) (fs : List LentFrame) (o st : List ℕ)
-    → WritesState t f b st (runHalting t f b w fs o st) × (Enough w fs st → b ≤ 4096 → HaltsAfter t f b → runHalting t f b w fs o st .answer .number ≡ 24)
+Halting-writes = (t f : List ℕ) (b : ℕ) (w : List ℕ) (fs : List LentFrame) (o st : List ℕ) → WritesState t f b w fs o st (runHalting t f b w fs o st)
 
 -- "A budget of 0 halts before the first term": the job's term is to begin, on its goals, and nothing waits
 abbrev pub firstContents : Job → List ℕ
@@ -67,13 +80,7 @@ firstContents j = savedContents 0 (record { file = 1; at = jobTermPlace j }) (j 
 
 abbrev pub Zero-halts : Type 0
 Zero-halts = (t f : List ℕ) (T : Table) (j : Job) → readTable t ≡ gives T → readJob f ≡ gives j → (w : List ℕ) (fs : List LentFrame) (o st : List ℕ) → Enough w fs st
-    → runHalting t f 0 w fs o st ≡ record {
-      answer = answer.refusal 24 0 0 0;
-      work = replicate (length w) 0;
-      frames = replicate (length fs) noFrame;
-      out = o;
-      state = firstContents j ++ replicate (savedSize - length (firstContents j)) 0 ++ drop savedSize st;
-    }
+    → runHalting t f 0 w fs o st ≡ haltedAfter 0 (firstContents j) w fs o st
 
 -- Demand 1: one of the answers of a call that writes; the work space and the frames are all zero afterwards, and after 29, which is the answer exactly if a lent
 -- space is short, all of them are untouched; "A refusal leaves output space untouched; a success leaves the bytes past its result untouched."

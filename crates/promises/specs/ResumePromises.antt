@@ -62,7 +62,7 @@ Resume-order = (t f s : List ℕ) (c : ℕ) (w : List ℕ) (fs : List LentFrame)
 
 -- "A halt is 24 ..; no other answer touches it", with the steps from the start
 abbrev pub Resume-writes : Type 0
-Resume-writes = (t f s : List ℕ) (c : ℕ) (w : List ℕ) (fs : List LentFrame) (o st : List ℕ) → WritesState t f (stepsOf s + c) st (resumeRun t f s c w fs o st)
+Resume-writes = (t f s : List ℕ) (c : ℕ) (w : List ℕ) (fs : List LentFrame) (o st : List ℕ) → WritesState t f (stepsOf s + c) w fs o st (resumeRun t f s c w fs o st)
 
 -- Demand 1: 22, 23 and 24 with the steps, from the start; 25 and 30 without any; "file and place 0"
 abbrev pub ResumeRefuses : (saved : List ℕ) → (budget : ℕ) → (number file place steps : ℕ) → Type 0
