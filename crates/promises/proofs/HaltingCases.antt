@@ -51,9 +51,9 @@ RunMay k = (k ≤ 23) ⊎ (k ≡ 25)
 abbrev pub ResumeMay : (number : ℕ) → Type 0
 ResumeMay k = RunMay k ⊎ (k ≡ 30)
 
-pub data Comes (May : (number : ℕ) → Type 0) (t f : List ℕ) (n : ℕ) : HaltingOutcome → Type 0 where
-  comes-halted : (x : HaltsAfter t f n) → length (contentsOf x) ≤ savedSize → Comes May t f n (record { outcome = refusal budgetSpent 0 0 n; saved = some (zerosTo savedSize (contentsOf x)) })
-  comes-ended : (o : Outcome (List ℕ)) → Refused May o → Comes May t f n (unbegun o)
+pub data HaltingComes (May : (number : ℕ) → Type 0) (t f : List ℕ) (n : ℕ) : HaltingOutcome → Type 0 where
+  comes-halted : (x : HaltsAfter t f n) → length (contentsOf x) ≤ savedSize → HaltingComes May t f n (record { outcome = refusal budgetSpent 0 0 n; saved = some (zerosTo savedSize (contentsOf x)) })
+  comes-ended : (o : Outcome (List ℕ)) → Refused May o → HaltingComes May t f n (unbegun o)
 
 -- a run of a table and a job that were read
 
@@ -72,24 +72,24 @@ module _ (t f : List ℕ) (T : Table) (j : Job) (e : readTable t ≡ gives T) (g
       go overflow p = let z : joinedTooLong ≡ c = cc in inl (omega (arith, ap number z))
 
   module _ (l : n ≤ mostSteps) where
-    by-control : (k : ℕ) (κ : Control) → run T n (begins j) ≡ after k κ → Comes RunMay t f n (record { outcome = runEnd j k κ; saved = savedIn k κ })
+    by-control : (k : ℕ) (κ : Control) → run T n (begins j) ≡ after k κ → HaltingComes RunMay t f n (record { outcome = runEnd j k κ; saved = savedIn k κ })
     unfolding savedIn runEnd
     by-control k (running π u h w) q =
         let r : Running (run T n (begins j) .control) = subst (λ (σ : State). Running (σ .control)) (sym q) tt in
         let s : k ≡ n = ap (λ (σ : State). σ .steps) (sym q) ∙ spent-steps T n (at-job j) (j .term) (j .goals) r in
         let p : run T n (begins j) ≡ after n (running π u h w) = q ∙ ap (λ (m : ℕ). after m (running π u h w)) s in
-        subst (λ (m : ℕ). Comes RunMay t f n (record { outcome = refusal budgetSpent 0 0 m; saved = some (zerosTo savedSize (savedContents m π h w)) })) (sym s)
+        subst (λ (m : ℕ). HaltingComes RunMay t f n (record { outcome = refusal budgetSpent 0 0 m; saved = some (zerosTo savedSize (savedContents m π h w)) })) (sym s)
         (comes-halted (record { table = T; job = j; table-read = e; job-read = g; place = π; term = u; goals = h; waiting = w; stands = p }) (contents-fit t f T j e g n l n π u h w p))
     by-control k (stopped x) q = comes-ended (runEnd j k (stopped x)) (ended-refused k x q)
 
-    pub ran-comes : Comes RunMay t f n (ranFor T j n)
+    pub ran-comes : HaltingComes RunMay t f n (ranFor T j n)
     unfolding ranFor runResult savedState
     ran-comes = by-control (run T n (begins j) .steps) (run T n (begins j) .control) refl
 
 -- run_halting, by its budget and its files
 module _ (t f : List ℕ) (b : ℕ) where
   abbrev C : HaltingOutcome → Type 0
-  C = Comes RunMay t f b
+  C = HaltingComes RunMay t f b
 
   abbrev next : Table → Job → HaltingOutcome
   next T j = ranFor T j b
@@ -168,7 +168,7 @@ module _ (w : List ℕ) (fs : List LentFrame) (o st : List ℕ) where
     ended-24 : Enough w fs st → (x : Outcome (List ℕ)) → Refused May x → call (unbegun x) .answer .number ≡ 24 → ⊥
     ended-24 l x r = other-number May l x r 24 not-24 (λ q. omega (arith, q)) (λ q. omega (arith, q))
 
-    enough-writes : Enough w fs st → (h : HaltingOutcome) → Comes May t f n h → WritesState t f n w fs o st (call h)
+    enough-writes : Enough w fs st → (h : HaltingOutcome) → HaltingComes May t f n h → WritesState t f n w fs o st (call h)
     unfolding saveIn
     enough-writes l h (comes-halted x fit) =
         let q = lent-halt l n (contentsOf x) fit in record { fills = λ z. (x, q); keeps = λ z. absurd (z (ap (λ (y : Halting). y .answer .number) q)) }
@@ -178,7 +178,7 @@ module _ (w : List ℕ) (fs : List LentFrame) (o st : List ℕ) where
     }
 
     -- WRITES: the second space is filled by a halt, and by nothing else.
-    pub writes-state : (h : HaltingOutcome) → Comes May t f n h → WritesState t f n w fs o st (call h)
+    pub writes-state : (h : HaltingOutcome) → HaltingComes May t f n h → WritesState t f n w fs o st (call h)
     writes-state h k = go (enough-or-not w fs o st)
       where
         go : Dec (Enough w fs st) → WritesState t f n w fs o st (call h)
@@ -186,7 +186,7 @@ module _ (w : List ℕ) (fs : List LentFrame) (o st : List ℕ) where
         go (no d) = subst (WritesState t f n w fs o st) (sym (lent-short w fs o st d h)) (record { fills = λ z. absurd (omega (arith, z)); keeps = λ z. refl })
 
     -- a halt: what is saved stands first in the second space
-    pub saved-first : (h : HaltingOutcome) → Comes May t f n h → call h .answer .number ≡ 24 → (s : List ℕ) × (h .saved ≡ some s) × (take savedSize (call h .state) ≡ s)
+    pub saved-first : (h : HaltingOutcome) → HaltingComes May t f n h → call h .answer .number ≡ 24 → (s : List ℕ) × (h .saved ≡ some s) × (take savedSize (call h .state) ≡ s)
     saved-first h (comes-halted x fit) z =
         let s = zerosTo savedSize (contentsOf x) in
         let q = lent-halt (spent-enough (record { outcome = refusal budgetSpent 0 0 n; saved = some s }) z) n (contentsOf x) fit in
@@ -194,12 +194,12 @@ module _ (w : List ℕ) (fs : List LentFrame) (o st : List ℕ) where
     saved-first h (comes-ended x r) z = absurd (ended-24 (spent-enough (unbegun x) z) x r z)
 
     -- and what is saved is answered with 24
-    pub saved-answer : Enough w fs st → (h : HaltingOutcome) → Comes May t f n h → (s : List ℕ) → h .saved ≡ some s → call h .answer .number ≡ 24
+    pub saved-answer : Enough w fs st → (h : HaltingOutcome) → HaltingComes May t f n h → (s : List ℕ) → h .saved ≡ some s → call h .answer .number ≡ 24
     saved-answer l h (comes-halted x fit) s q = ap (λ (y : Halting). y .answer .number) (lent-halt l n (contentsOf x) fit)
     saved-answer l h (comes-ended x r) s q = absurd (Option·none-ne-some s q)
 
     -- an answer other than 24 has no saved state
-    pub unsaved : Enough w fs st → (h : HaltingOutcome) → Comes May t f n h → (call h .answer .number ≡ 24 → ⊥) → h .saved ≡ none
+    pub unsaved : Enough w fs st → (h : HaltingOutcome) → HaltingComes May t f n h → (call h .answer .number ≡ 24 → ⊥) → h .saved ≡ none
     unsaved l h (comes-halted x fit) d =
         absurd (d (saved-answer l (record { outcome = refusal budgetSpent 0 0 n; saved = some (zerosTo savedSize (contentsOf x)) }) (comes-halted x fit) (zerosTo savedSize (contentsOf x)) refl))
     unsaved l h (comes-ended x r) d = refl

@@ -28,7 +28,7 @@ use Rattle.promises.specs.HaltingPromises as promise
 use Rattle.promises.specs.HaltingPromises.{Enough, HaltsAfter, EndsHalting}
 use Rattle.promises.proofs.LentLaws.{Answers, ends-written}
 use Rattle.promises.proofs.RunPromises.{at-job, run-outcome}
-use Rattle.promises.proofs.HaltingCases.{Comes, comes-halted, comes-ended, RunMay, run-unlisted, halting-comes, other-number, lent-halt, writes-state, unsaved}
+use Rattle.promises.proofs.HaltingCases.{HaltingComes, comes-halted, comes-ended, RunMay, run-unlisted, halting-comes, other-number, lent-halt, writes-state, unsaved}
 
 -- HALTS AS RUN: with spaces that suffice, all but the second space and the frames is as in the entry run.
 pub halts-as-run : promise.Halts-as-run
@@ -96,7 +96,7 @@ module _ (t f w : List ℕ) (fs : List LentFrame) (o st : List ℕ) (Own : (numb
       go (no n) = unbegun-ends n h
 
 -- 29 is not among the answers of a call that was begun
-pub not-short : (w : List ℕ) (fs : List LentFrame) (o st : List ℕ) (May : (number : ℕ) → Type 0) → (May 29 → ⊥) → (t f : List ℕ) (n : ℕ) (h : HaltingOutcome) → Comes May t f n h → Enough w fs st
+pub not-short : (w : List ℕ) (fs : List LentFrame) (o st : List ℕ) (May : (number : ℕ) → Type 0) → (May 29 → ⊥) → (t f : List ℕ) (n : ℕ) (h : HaltingOutcome) → HaltingComes May t f n h → Enough w fs st
     → haltIn w fs o st h .answer .number ≡ 29 → ⊥
 unfolding writeOut number
 not-short w fs o st May d t f n h (comes-halted x fit) l z =
@@ -146,7 +146,7 @@ module _ (b c : ℕ) (l : b ≤ c) where
     same-halting = by-table (readTable t) refl
 
 -- two outcomes that are the same without a saved state answer alike
-pub same-call : (w : List ℕ) (fs : List LentFrame) (o st : List ℕ) (May : (number : ℕ) → Type 0) → (May 24 → ⊥) → (t f : List ℕ) (n : ℕ) (h h′ : HaltingOutcome) → Comes May t f n h
+pub same-call : (w : List ℕ) (fs : List LentFrame) (o st : List ℕ) (May : (number : ℕ) → Type 0) → (May 24 → ⊥) → (t f : List ℕ) (n : ℕ) (h h′ : HaltingOutcome) → HaltingComes May t f n h
     → (h .saved ≡ none → h′ ≡ h) → (haltIn w fs o st h .answer .number ≡ 24 → ⊥) → haltIn w fs o st h′ ≡ haltIn w fs o st h
 same-call w fs o st May m t f n h h′ k q d = go (enough-or-not w fs o st)
   where

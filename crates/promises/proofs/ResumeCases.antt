@@ -17,7 +17,7 @@ use Rattle.files.proofs.RefusedFiles.{Job-refused}
 use Rattle.entries.specs.Outcomes.{Outcome, success, refusal}
 use Rattle.entries.specs.Halting.{HaltingOutcome, unbegun, ranFor, haltingOutcome, stepsOf, genuine, goingOn, resumeOutcome}
 use Rattle.entries.proofs.HaltingLaws.{over-limit, table-refused, job-refused, both-read, genuine-goes-on, not-genuine}
-use Rattle.promises.proofs.HaltingCases.{Comes, comes-halted, comes-ended, RunMay, ResumeMay, Refused, halting-comes}
+use Rattle.promises.proofs.HaltingCases.{HaltingComes, comes-halted, comes-ended, RunMay, ResumeMay, Refused, halting-comes}
 
 pub is-false : (x : Bool) → (x ≡ true → ⊥) → x ≡ false
 is-false true d = absurd (d refl)
@@ -84,11 +84,11 @@ more-may : (o : Outcome (List ℕ)) → Refused RunMay o → Refused ResumeMay o
 more-may (success b k) r = tt
 more-may (refusal c f p k) r = inl r
 
-more-come : {t f : List ℕ} {n : ℕ} {h : HaltingOutcome} → Comes RunMay t f n h → Comes ResumeMay t f n h
+more-come : {t f : List ℕ} {n : ℕ} {h : HaltingOutcome} → HaltingComes RunMay t f n h → HaltingComes ResumeMay t f n h
 more-come (comes-halted x fit) = comes-halted x fit
 more-come (comes-ended o r) = comes-ended o (more-may o r)
 
-pub resume-comes : (t f s : List ℕ) (c : ℕ) (h : HaltingOutcome) → Resumes t f s c h → Comes ResumeMay t f (stepsOf s + c) h
+pub resume-comes : (t f s : List ℕ) (c : ℕ) (h : HaltingOutcome) → Resumes t f s c h → HaltingComes ResumeMay t f (stepsOf s + c) h
 unfolding number
 resume-comes t f s c h (over l) = comes-ended (refusal budgetTooLarge 0 0 0) (inl (inr refl))
 resume-comes t f s c h (in-table l x p e) = comes-ended (refusal x 1 p 0) (inl (inl (omega (arith, table-place t x p e .most))))

@@ -35,7 +35,7 @@ use Rattle.promises.specs.ResumePromises as promise
 use Rattle.promises.specs.ResumePromises.{refusedAs, ResumeRefuses}
 use Rattle.promises.proofs.LentLaws.{Answers}
 use Rattle.promises.proofs.RunPromises.{run-outcome}
-use Rattle.promises.proofs.HaltingCases.{Comes, comes-halted, comes-ended, RunMay, ResumeMay, run-unlisted, resume-unlisted, halting-comes, other-number, writes-state, saved-first, saved-answer}
+use Rattle.promises.proofs.HaltingCases.{HaltingComes, comes-halted, comes-ended, RunMay, ResumeMay, run-unlisted, resume-unlisted, halting-comes, other-number, writes-state, saved-first, saved-answer}
 use Rattle.promises.proofs.HaltingPromises.{not-24, ends-halting, not-short, same-halting, same-call}
 use Rattle.promises.proofs.ResumeCases.{resume-over, resume-table, resume-job, resume-forged, resume-run, Resumes, over, in-table, in-job, forged, as-run, resumes, resume-comes}
 
@@ -84,7 +84,7 @@ record Halt (t f : List ℕ) (b : ℕ) (s : List ℕ) : Type 0 where
   job-read : readJob f ≡ gives job
   saved : savedState (run table b (begins job)) ≡ some s
 
-halt-of : (t f : List ℕ) (b : ℕ) (s : List ℕ) (h : HaltingOutcome) → haltingOutcome t f b ≡ h → Comes RunMay t f b h → b ≤ mostSteps → h .saved ≡ some s → Halt t f b s
+halt-of : (t f : List ℕ) (b : ℕ) (s : List ℕ) (h : HaltingOutcome) → haltingOutcome t f b ≡ h → HaltingComes RunMay t f b h → b ≤ mostSteps → h .saved ≡ some s → Halt t f b s
 halt-of t f b s h p (comes-halted x fit) l q = record {
   table = x .table;
   job = x .job;
@@ -134,7 +134,7 @@ module _ (t f s : List ℕ) (c : ℕ) (w : List ℕ) (fs : List LentFrame) (o st
     refusal-30 : (x : Cause) (file p : ℕ) → call (unbegun (refusal x file p 0)) .answer .number ≡ 30 → number x ≡ 30
     refusal-30 x file p z = ap (λ (y : Halting). y .answer .number) (sym (lent-refused w fs o st l x file p)) ∙ z
 
-    run-30 : (n : ℕ) (h : HaltingOutcome) → Comes RunMay t f n h → call h .answer .number ≡ 30 → ⊥
+    run-30 : (n : ℕ) (h : HaltingOutcome) → HaltingComes RunMay t f n h → call h .answer .number ≡ 30 → ⊥
     unfolding writeOut number
     run-30 n h (comes-halted x fit) z = let q = ap (λ (y : Halting). y .answer .number) (lent-enough w fs o st l h) in omega (arith, z, q)
     run-30 n h (comes-ended x r) z =

@@ -61,7 +61,7 @@ State-size = (t f : List ℕ) (n : ℕ) → n ≤ 4096 → (x : HaltsAfter t f n
 abbrev pub haltedAfter : (steps : ℕ) → (contents : List ℕ) → (work : List ℕ) → List LentFrame → (out state : List ℕ) → Halting
 haltedAfter n c w fs o st = record { answer = answer.refusal 24 0 0 n; work = replicate (length w) 0; frames = replicate (length fs) noFrame; out = o; state = stateOf c st }
 
--- A run that has not ended halts;
+-- A run that has not ended after its budget is such a halt.
 abbrev pub Halting-halts : Type 0
 Halting-halts = (t f : List ℕ) (b : ℕ) (w : List ℕ) (fs : List LentFrame) (o st : List ℕ) → Enough w fs st → b ≤ 4096 → (x : HaltsAfter t f b)
     → runHalting t f b w fs o st ≡ haltedAfter b (contentsOf x) w fs o st
