@@ -61,7 +61,7 @@ frames-top table job w arena [] top o h = omega (arith, h .0)
 frames-top table job w arena (x ∷ k) top o h = omega (arith, frames-top table job w arena k (top + 14) _ (h .1))
 
 module _ (w v : List ℕ) where
-  frame-kept : (at : ℕ) → Same at (at + 14) w v → frameAt v at ≡ frameAt w at
+  pub frame-kept : (at : ℕ) → Same at (at + 14) w v → frameAt v at ≡ frameAt w at
   unfolding frameAt
   frame-kept at s =
       let e₁ : word v at ≡ word w at = same-word w v at (at + 14) at s (omega arith) (omega arith) in

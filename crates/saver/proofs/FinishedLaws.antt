@@ -12,10 +12,10 @@ use borrow.Author.Tests.{eqb-true, eqb-false, eq-eqb, ne-eqb}
 use Rattle.arities.specs.Layout.{framesEnd, spaceEnd}
 use Rattle.frames.specs.declared.Frame.{Frame}
 use Rattle.frames.specs.Frames.{frameAt}
+use Rattle.machine.proofs.KeepLaws.{frame-kept}
 use Rattle.saver.specs.Put.{put, Writes}
 use Rattle.saver.specs.Finished.{block, keepsField, leftField, insideOf, leftFields, Marked, AllMarked, FieldGiven, FinishedGiven, FinishedWritten}
-use Rattle.saver.proofs.PutLaws.{length-put, front-put, put-behind, put-copy, block-same}
-use Rattle.saver.proofs.BelowLaws.{frame-below}
+use Rattle.saver.proofs.PutLaws.{length-put, front-put, put-behind, put-copy, block-same, same-below}
 
 -- which waiting terms keep a field
 pub keeps-sequence : (k : ℕ) → k ≡ 3 → true ≡ keepsField k
@@ -77,6 +77,9 @@ module _ (w : List ℕ) (at end to : ℕ) (h : FieldGiven w at end to) (f : Fram
 
 -- the same in a work space that is the same below the saved state
 module _ (w v : List ℕ) (len : length v ≡ length w) (e : take spaceEnd v ≡ take spaceEnd w) (space : spaceEnd ≤ length w) where
+  frame-below : (at : ℕ) → at + 14 ≤ spaceEnd → frameAt v at ≡ frameAt w at
+  frame-below at h = frame-kept w v at (λ i l r. same-below w v spaceEnd e i (omega arith))
+
   inside-same : (at top out : ℕ) → ((at ≡ top → ⊥) → 14 ≤ at) → at ≤ spaceEnd → insideOf v at top out ≡ insideOf w at top out
   inside-same at top out h l = go (eqb at top) refl
     where
@@ -85,7 +88,7 @@ module _ (w v : List ℕ) (len : length v ≡ length w) (e : take spaceEnd v ≡
       go false b =
           let n = eqb-false at top b in
           sym (inside-mark v at top out n (frameAt v (at - 14)) refl)
-          ∙ ap (λ (f : Frame). f .mark) (frame-below w v len e (at - 14) (omega (arith, h n)))
+          ∙ ap (λ (f : Frame). f .mark) (frame-below (at - 14) (omega (arith, h n)))
           ∙ inside-mark w at top out n (frameAt w (at - 14)) refl
 
   field-same : (f : Frame) (o : ℕ) → Marked f o → leftField v f o ≡ leftField w f o
@@ -193,7 +196,7 @@ module _ (w₀ : List ℕ) (top out to₀ : ℕ) (w : List ℕ) (at next : ℕ) 
       end-is = is ∙ inside-same w₀ w same-length before space (at - 14) top out apart (omega (arith, low))
 
       frame-same : frameAt w (at - 14) ≡ frameAt w₀ (at - 14)
-      frame-same = frame-below w₀ w same-length before (at - 14) (omega (arith, low, frame-room))
+      frame-same = frame-below w₀ w same-length before space (at - 14) (omega (arith, low, frame-room))
 
       marked : Marked (frameAt w₀ (at - 14)) end
       marked =

@@ -1,5 +1,4 @@
 pub mod PutLaws
-pub mod BelowLaws
 pub mod GatherLaws
 pub mod WaitingLaws
 pub mod FinishedLaws

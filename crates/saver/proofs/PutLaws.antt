@@ -1,4 +1,4 @@
--- Blocks put into a list: one behind another, or in front of one that is there, make one block; and every other byte is as it was.
+-- Blocks put into a list: one behind another, or in front of one that is there, make one block; and what lies before it is as it was.
 -- Assumes nothing.
 use Prim.Native.Nat.{ℕ, _+_, _/_, _%_, _≤_, _<_}
 use mathlib.Core.Path.{_≡_, refl, sym, ap, ap₂, _∙_}
@@ -8,9 +8,7 @@ use native.Mathlib.Numerals.{add-one}
 use lib.ListN.{length, getD, set, take, drop, length-append, length-drop, take-append-drop}
 use lib.Seq.{paste, length-take-le, take-length, append-snoc, take-append-le, drop-append-le, set-split, take-take, getD-take, drop-drop, take-at, drop-at, take-paste, drop-paste, length-paste}
 use Rattle.words.specs.Word.{putWord}
-use Rattle.words.proofs.Copy.{paste-below, paste-above}
 use Rattle.format.specs.Encoding.{wordBytes}
-use Rattle.tactics.specs.Memory.{Only}
 use Rattle.saver.specs.Put.{put}
 
 -- the three parts of a list with a block in it
@@ -20,12 +18,6 @@ put-parts w b at = ap (λ (x : List ℕ). take at w ++ x ++ drop (at + length b)
 module _ (w b : List ℕ) (at : ℕ) (room : at + length b ≤ length w) where
   pub length-put : length (put w at b) ≡ length w
   length-put = length-paste w at b (length b) room (omega arith)
-
-  pub only-put : Only at (at + length b) w (put w at b)
-  only-put = record {
-    same-length = length-put;
-    kept = record { below = λ i h. paste-below w b at (length b) i h (omega arith); above = λ i h. paste-above w b at (length b) room (omega arith) i h };
-  }
 
   -- what comes before it, the block, and what comes behind it
   pub take-put : take at (put w at b) ≡ take at w
