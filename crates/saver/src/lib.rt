@@ -5,4 +5,5 @@ pub mod gather;
 pub mod head;
 pub mod last;
 pub mod layout;
+pub mod save;
 pub mod waiting;
