@@ -68,7 +68,8 @@ pub enum Reason {
     OutputSpaceTooShort = 26,
     FlatFileWrong = 27,
     TooManyEntries = 28,
-    WorkSpaceTooShort = 29,
+    LentSpaceTooShort = 29,
+    StateNotGenuine = 30,
     GoalCountWrong = 34,
     GoalsTooFew = 35,
     NotInNotation = 36,
@@ -96,7 +97,7 @@ pub struct Refusal {
 }
 
 impl Reason {
-    pub const ALL: [Reason; 25] = [
+    pub const ALL: [Reason; 26] = [
         Reason::InputTooLong,
         Reason::FieldTorn,
         Reason::TagNotAllowed,
@@ -115,7 +116,8 @@ impl Reason {
         Reason::OutputSpaceTooShort,
         Reason::FlatFileWrong,
         Reason::TooManyEntries,
-        Reason::WorkSpaceTooShort,
+        Reason::LentSpaceTooShort,
+        Reason::StateNotGenuine,
         Reason::GoalCountWrong,
         Reason::GoalsTooFew,
         Reason::NotInNotation,
@@ -149,11 +151,14 @@ impl Reason {
             Reason::JoinedListTooLong => "a tensor joins to more than 256 goals",
             Reason::TacticFailed => "the tactic failed",
             Reason::BudgetSpent => "the budget is spent",
-            Reason::BudgetTooLarge => "the budget is over 4,096",
+            Reason::BudgetTooLarge => "the budget is over 4,096, with the steps of a saved state if there is one",
             Reason::OutputSpaceTooShort => "the output space is shorter than the result",
             Reason::FlatFileWrong => "this entry does not apply, or goals are pending at the file's end",
             Reason::TooManyEntries => "over 2,048 entries cannot be written back as a proof",
-            Reason::WorkSpaceTooShort => "the work space is shorter than the size named for this entry",
+            Reason::LentSpaceTooShort => "a space is shorter than the size named for this entry",
+            Reason::StateNotGenuine => {
+                "the table and the job, run for its step count, do not halt with this saved state"
+            }
             Reason::GoalCountWrong => {
                 "the proof does not validate: this atomic, id or label has not exactly one goal, or this empty has any"
             }

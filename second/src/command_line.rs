@@ -6,6 +6,7 @@
 mod texts;
 
 use crate::answer::{Answer, Reason};
+use crate::entries::Frame;
 use crate::limits;
 use crate::text::{show, FileKind};
 use crate::vectors;
@@ -17,6 +18,12 @@ second: the second Hitac engine
 
   second check TABLE PROOF             is the proof accepted?
   second run TABLE JOB BUDGET OUT      run the job's tactic, write the proof to OUT
+  second run-halting TABLE JOB BUDGET OUT STATE
+                                       run likewise; where the budget is spent, write
+                                       the halted run to STATE
+  second resume TABLE JOB SAVED BUDGET OUT STATE
+                                       go on with the halted run SAVED for BUDGET more
+                                       steps; STATE may be SAVED again
   second search TABLE JOB HEIGHT BUDGET OUT
                                        look for an evaluation of the job's tactic at
                                        most HEIGHT rules high, write the proof to OUT
@@ -75,6 +82,8 @@ fn perform(words: &[&str]) -> Outcome {
         }
         ["check", table, proof] => check(table, proof),
         ["run", table, job, budget, output] => run(table, job, budget, output),
+        ["run-halting", table, job, budget, output, state] => run_halting(table, job, budget, output, state),
+        ["resume", table, job, saved, budget, output, state] => resume(table, job, saved, budget, output, state),
         ["search", table, job, height, budget, output] => search(table, job, height, budget, output),
         ["flatten", table, proof, output] => flatten(table, proof, output),
         ["check-flat", table, flat] => check_flat(table, flat),
@@ -115,6 +124,53 @@ fn run(table: &str, job: &str, budget: &str, output: &str) -> Outcome {
     let mut space = output_space();
     let answer = crate::run(&table_bytes, &job_bytes, budget, &mut vec![0; limits::RUN_WORK], &mut space);
     save(answer, &space, output)?;
+    Ok(report(answer, &format!("written {} bytes steps {}", answer.length, answer.steps), table, job))
+}
+
+/// What a call that may halt is lent.
+struct HaltingSpaces {
+    work: Vec<u8>,
+    frames: Vec<Frame>,
+    output: Vec<u8>,
+    state: Vec<u8>,
+}
+
+impl HaltingSpaces {
+    fn with_work(work: usize) -> HaltingSpaces {
+        HaltingSpaces {
+            work: vec![0; work],
+            frames: vec![Frame::default(); limits::MOST_FRAMES],
+            output: output_space(),
+            state: vec![0; limits::STATE_SIZE],
+        }
+    }
+}
+
+fn run_halting(table: &str, job: &str, budget: &str, output: &str, state: &str) -> Outcome {
+    let budget = large_number(budget, "budget")?;
+    let (table_bytes, job_bytes) = (read(table)?, read(job)?);
+    let mut lent = HaltingSpaces::with_work(limits::RUN_HALTING_WORK);
+    let HaltingSpaces { work, frames, output: space, state: second_space } = &mut lent;
+    let answer = crate::run_halting(&table_bytes, &job_bytes, budget, work, frames, space, second_space);
+    report_run(answer, &lent, [table, job], output, state)
+}
+
+fn resume(table: &str, job: &str, saved: &str, budget: &str, output: &str, state: &str) -> Outcome {
+    let budget = large_number(budget, "budget")?;
+    let (table_bytes, job_bytes, saved_bytes) = (read(table)?, read(job)?, read(saved)?);
+    let mut lent = HaltingSpaces::with_work(limits::RESUME_WORK);
+    let HaltingSpaces { work, frames, output: space, state: second_space } = &mut lent;
+    let answer = crate::resume(&table_bytes, &job_bytes, &saved_bytes, budget, work, frames, space, second_space);
+    report_run(answer, &lent, [table, job], output, state)
+}
+
+/// A success writes the proof, a halt the state; every other answer leaves both files as
+/// they were.
+fn report_run(answer: Answer, lent: &HaltingSpaces, [table, job]: [&str; 2], output: &str, state: &str) -> Outcome {
+    save(answer, &lent.output, output)?;
+    if answer.number == Reason::BudgetSpent.number() {
+        write_file(state, &lent.state)?;
+    }
     Ok(report(answer, &format!("written {} bytes steps {}", answer.length, answer.steps), table, job))
 }
 

@@ -1,8 +1,19 @@
-//! The eight public calls: answers, and every byte of the lent spaces.
+//! The ten public calls: answers, and every byte of the lent spaces.
 
 use crate::answer::{Answer, Reason, Refusal};
-use crate::engine;
+use crate::engine::{self, HaltingRun};
 use crate::limits;
+
+/// P1: what the maker lends for one waiting term. This engine keeps its own memory: it
+/// counts the frames and clears them.
+#[derive(Clone, Copy, PartialEq, Eq, Debug, Default)]
+#[repr(C)]
+pub struct Frame {
+    pub term: u32,
+    pub goals: u32,
+    pub count: u16,
+    pub stage: u16,
+}
 
 /// Checks a proof file against a table.
 pub fn check(table: &[u8], proof: &[u8], work: &mut [u8]) -> Answer {
@@ -23,6 +34,41 @@ pub fn run(table: &[u8], job: &[u8], budget: u32, work: &mut [u8], output: &mut 
     with_work_space(work, limits::RUN_WORK, || {
         let success = engine::run(table, job, budget)?;
         hand_over(&success.proof, success.steps, output)
+    })
+}
+
+/// Runs as `run` does; a halt, 24, writes its state to the front of `state` (P1).
+pub fn run_halting(
+    table: &[u8],
+    job: &[u8],
+    budget: u32,
+    work: &mut [u8],
+    frames: &mut [Frame],
+    output: &mut [u8],
+    state: &mut [u8],
+) -> Answer {
+    with_halting_spaces(work, limits::RUN_HALTING_WORK, frames, state, |state| {
+        let ended = engine::run_halting(table, job, budget)?;
+        hand_over_run(ended, output, state)
+    })
+}
+
+/// Takes up the run that `saved` is the state of, for `budget` more steps; ends as
+/// `run_halting` would with all steps as its budget (P1).
+#[allow(clippy::too_many_arguments)]
+pub fn resume(
+    table: &[u8],
+    job: &[u8],
+    saved: &[u8],
+    budget: u32,
+    work: &mut [u8],
+    frames: &mut [Frame],
+    output: &mut [u8],
+    state: &mut [u8],
+) -> Answer {
+    with_halting_spaces(work, limits::RESUME_WORK, frames, state, |state| {
+        let ended = engine::resume(table, job, saved, budget)?;
+        hand_over_run(ended, output, state)
     })
 }
 
@@ -81,11 +127,41 @@ pub fn search(table: &[u8], job: &[u8], height: u32, budget: u32, work: &mut [u8
 /// its own memory and only clears the space.
 fn with_work_space(work: &mut [u8], size: usize, call: impl FnOnce() -> Result<Answer, Refusal>) -> Answer {
     if work.len() < size {
-        return Refusal::without_file(Reason::WorkSpaceTooShort).into();
+        return Refusal::without_file(Reason::LentSpaceTooShort).into();
     }
     let answer = call().unwrap_or_else(Answer::from);
     work.fill(0);
     answer
+}
+
+/// P1: a work space, frames or a second space that is too short is 29, and nothing is
+/// touched (B1.3). The frames are cleared as the work space is; the second space is no
+/// work space (B1.18).
+fn with_halting_spaces(
+    work: &mut [u8],
+    work_size: usize,
+    frames: &mut [Frame],
+    state: &mut [u8],
+    call: impl FnOnce(&mut [u8]) -> Result<Answer, Refusal>,
+) -> Answer {
+    if work.len() < work_size || frames.len() < limits::MOST_FRAMES || state.len() < limits::STATE_SIZE {
+        return Refusal::without_file(Reason::LentSpaceTooShort).into();
+    }
+    let answer = with_work_space(work, work_size, || call(state));
+    frames.fill(Frame::default());
+    answer
+}
+
+/// "A halt is 24 as before", its state written; "no other answer touches" the second
+/// space.
+fn hand_over_run(ended: HaltingRun, output: &mut [u8], state: &mut [u8]) -> Result<Answer, Refusal> {
+    match ended {
+        HaltingRun::Succeeded(success) => hand_over(&success.proof, success.steps, output),
+        HaltingRun::Halted { steps, state: saved } => {
+            saved.write_to(state);
+            Err(Refusal::of_run(Reason::BudgetSpent, steps))
+        }
+    }
 }
 
 /// "26 last": the output space is written only if the result fits; "a success

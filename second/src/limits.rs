@@ -27,6 +27,14 @@ pub const MOST_SEARCH_BUDGET: u32 = 4_096;
 /// P13: "a height h, 1 to 64"; "42, a height outside 1 to 64".
 pub const MOST_HEIGHT: u32 = 64;
 
+/// P1: the bytes of a saved state: six for its three counts, six and 512 for a term
+/// to begin on 256 goals, and for each of 4,096 steps at most 21: five of an atomic's
+/// field, 16 of its eight premises.
+pub const STATE_SIZE: usize = 86_540;
+
+/// P1: the frames that a run that may halt must be lent (29).
+pub const MOST_FRAMES: usize = 4_096;
+
 /// "28: over 2,048 entries when writing a proof"
 pub const MOST_ENTRIES_WRITTEN_BACK: usize = 2_048;
 
@@ -41,3 +49,5 @@ pub const RUN_WORK: usize = 1_290_752;
 pub const READ_TEXT_WORK: usize = 196_608;
 pub const WRITE_TEXT_WORK: usize = 36_864;
 pub const SEARCH_WORK: usize = 2_496_256;
+pub const RUN_HALTING_WORK: usize = 1_377_292;
+pub const RESUME_WORK: usize = 1_377_292;

@@ -10,6 +10,7 @@ const RECORD_END: u8 = 0;
 const RECORD_TABLE: u8 = 1;
 const RECORD_OTHER: u8 = 2;
 const RECORD_CASE: u8 = 3;
+const RECORD_SAVED: u8 = 4;
 
 /// A polynomial in the bytes, modulo the largest prime below 2^32. Every product
 /// is below 2^57.
@@ -26,6 +27,7 @@ pub fn write(cases: &[Case]) -> Vec<u8> {
     let mut bytes = header(cases);
     let mut table: Option<&[u8]> = None;
     let mut other: Option<&[u8]> = None;
+    let mut saved: Option<&[u8]> = None;
     for case in cases {
         if table != Some(&case.table) {
             write_file_record(RECORD_TABLE, &case.table, &mut bytes);
@@ -34,6 +36,10 @@ pub fn write(cases: &[Case]) -> Vec<u8> {
         if other != Some(&case.other) {
             write_file_record(RECORD_OTHER, &case.other, &mut bytes);
             other = Some(&case.other);
+        }
+        if case.entry == Entry::Resume && saved != Some(&case.saved) {
+            write_file_record(RECORD_SAVED, &case.saved, &mut bytes);
+            saved = Some(&case.saved);
         }
         write_case_record(case, &case.outcome(), &mut bytes);
     }
@@ -69,6 +75,11 @@ fn write_case_record(case: &Case, outcome: &Outcome, bytes: &mut Vec<u8>) {
     bytes.extend(digest(&outcome.output).to_be_bytes());
     if case.entry == Entry::Search {
         bytes.extend(case.height.to_be_bytes());
+    }
+    if case.entry.may_halt() {
+        put(case.frames, bytes);
+        put(case.state_length, bytes);
+        bytes.extend(digest(&outcome.state).to_be_bytes());
     }
 }
 
@@ -134,6 +145,8 @@ pub struct Expected {
     pub case: Case,
     pub answer: Answer,
     pub digest: u32,
+    /// The digest of the second space; that of no bytes where there is none.
+    pub state_digest: u32,
 }
 
 /// Reads a vector file. None if it is not one, or ends early.
@@ -146,12 +159,14 @@ pub fn read(bytes: &[u8]) -> Option<Vec<Expected>> {
     source.block(16)?;
     let mut table = Vec::new();
     let mut other = Vec::new();
+    let mut saved = Vec::new();
     let mut cases = Vec::new();
     loop {
         match source.block(1)?[0] {
             RECORD_TABLE => table = source.file()?,
             RECORD_OTHER => other = source.file()?,
-            RECORD_CASE => cases.push(source.case(&table, &other)?),
+            RECORD_SAVED => saved = source.file()?,
+            RECORD_CASE => cases.push(source.case(&table, &other, &saved)?),
             RECORD_END => break,
             _ => return None,
         }
@@ -205,17 +220,27 @@ impl<'a> Source<'a> {
         (file.len() == length).then_some(file)
     }
 
-    fn case(&mut self, table: &[u8], other: &[u8]) -> Option<Expected> {
+    fn case(&mut self, table: &[u8], other: &[u8], saved: &[u8]) -> Option<Expected> {
         let entry = Entry::of_code(self.block(1)?[0])?;
-        let budget = self.number32()?;
-        let work_length = self.number32()? as usize;
-        let output_length = self.number32()? as usize;
+        let mut case = Case::bare(entry, table.to_vec(), other.to_vec());
+        case.budget = self.number32()?;
+        case.work_length = self.number32()? as usize;
+        case.output_length = self.number32()? as usize;
         let answer = self.answer()?;
-        let digest = self.number32()?;
-        let height = if entry == Entry::Search { self.number32()? } else { 0 };
-        let (table, other) = (table.to_vec(), other.to_vec());
-        let case = Case { entry, table, other, budget, height, work_length, output_length };
-        Some(Expected { case, answer, digest })
+        let output_digest = self.number32()?;
+        let mut state_digest = digest(&[]);
+        if entry == Entry::Search {
+            case.height = self.number32()?;
+        }
+        if entry.may_halt() {
+            case.frames = self.number32()? as usize;
+            case.state_length = self.number32()? as usize;
+            state_digest = self.number32()?;
+        }
+        if entry == Entry::Resume {
+            case.saved = saved.to_vec();
+        }
+        Some(Expected { case, answer, digest: output_digest, state_digest })
     }
 }
 
@@ -231,8 +256,11 @@ pub fn replay(bytes: &[u8]) -> Result<usize, String> {
         if digest(&outcome.output) != expected.digest {
             return Err(format!("case {number}: the output space differs"));
         }
+        if digest(&outcome.state) != expected.state_digest {
+            return Err(format!("case {number}: the second space differs"));
+        }
         if !outcome.work_space_as_promised {
-            return Err(format!("case {number}: the work space is not as promised"));
+            return Err(format!("case {number}: the work space or a frame is not as promised"));
         }
     }
     Ok(cases.len())

@@ -99,6 +99,36 @@ fn a_search_finds_what_a_run_does_not() {
     assert_eq!(words("65"), "the height is outside 1 to 64\n");
 }
 
+/// P1: a run in pieces gives the file of a single run; what is not a halt leaves the
+/// state's file as it was.
+#[test]
+fn a_run_is_halted_and_taken_up() {
+    let folder = Folder::new("halting");
+    let line = |text: &str| (text.to_string(), 0);
+    let refused = |text: &str| (text.to_string(), 1);
+    folder.put("table.kit", &table_a());
+    folder.put("job", &job(&[10], &defined(3)));
+    let resume =
+        |saved: &str, budget: &str| folder.says(&["resume", "table.kit", "job", saved, budget, "proof.hip", "state"]);
+    let halted = folder.says(&["run-halting", "table.kit", "job", "7", "proof.hip", "state"]);
+    assert_eq!(halted, refused("refused 24 file 0 place 0 steps 7\n"));
+    assert_eq!(folder.get("state").len(), 86_540);
+    assert_eq!(resume("state", "9"), refused("refused 24 file 0 place 0 steps 16\n"));
+    assert_eq!(folder.get("state")[..2], [0, 16]);
+    assert!(!folder.0.join("proof.hip").exists());
+    assert_eq!(resume("state", "4081"), refused("refused 25 file 0 place 0\n"));
+    assert_eq!(resume("table.kit", "0"), refused("refused 30 file 0 place 0\n"));
+    assert_eq!(folder.get("state")[..2], [0, 16]);
+    assert_eq!(resume("state", "3"), line("written 51 bytes steps 19\n"));
+    assert_eq!(folder.get("proof.hip"), first_proof());
+    assert_eq!(resume("missing", "3"), (String::new(), 3));
+    let (words, _) = folder.complaint(&["resume", "table.kit", "job", "job", "3", "out", "state"]);
+    assert_eq!(words, "the table and the job, run for its step count, do not halt with this saved state\n");
+    let whole = folder.says(&["run-halting", "table.kit", "job", "19", "proof.hip", "none"]);
+    assert_eq!(whole, line("written 51 bytes steps 19\n"));
+    assert!(!folder.0.join("none").exists());
+}
+
 #[test]
 fn show_prints_each_kind() {
     let folder = Folder::new("show");

@@ -2,14 +2,15 @@
 //! whatever brings an entry down.
 
 use second::generate::build::*;
-use second::generate::case::{Case, Entry, OUTPUT_FILL};
+use second::generate::case::{Case, Entry, OUTPUT_FILL, STATE_FILL};
 use second::generate::random::Random;
 use second::generate::{examples, random_case};
+use second::limits::STATE_SIZE;
 
 fn good_case(entry: Entry) -> Case {
     let other = match entry {
         Entry::Check | Entry::Flatten => examples::first_proof(),
-        Entry::Run | Entry::Search => job(&[10], &defined(3)),
+        Entry::Run | Entry::Search | Entry::RunHalting | Entry::Resume => job(&[10], &defined(3)),
         Entry::CheckFlat | Entry::WriteProof => examples::first_flat(),
         Entry::ReadText => b"[1]a1 ; a2 * id".to_vec(),
         Entry::WriteText => label(1, &sequence(&atomic(1), &id())),
@@ -66,7 +67,11 @@ fn hold_promises(case: &Case) {
     let counts_rules = answer.number == 0 && !case.entry.has_output();
     assert!(answer.rules <= answer.uses && (counts_rules || answer.rules == 0), "{case:?}");
     assert_eq!((answer.goals, answer.longest, answer.tactic), (0, 0, 0));
-    assert!(answer.steps <= case.budget.min(4_096));
+    let made = second::engine::saved_state::step_count(&case.saved);
+    assert!(answer.steps <= case.budget.saturating_add(made).min(4_096));
+    // Only a halt touches the second space.
+    let touched = if answer.number == 24 && case.entry.may_halt() { STATE_SIZE } else { 0 };
+    assert!(outcome.state[touched..].iter().all(|&byte| byte == STATE_FILL), "{case:?}");
 }
 
 #[test]

@@ -5,7 +5,7 @@ use second::generate::build;
 use second::generate::case::{Case, Entry};
 use second::generate::random::Random;
 use second::generate::{examples, random_case, vector_set};
-use second::limits::SEARCH_WORK;
+use second::limits::{MOST_FRAMES, RESUME_WORK, SEARCH_WORK, STATE_SIZE};
 use second::vectors::{self, Expected};
 use second::Answer;
 use std::collections::BTreeSet;
@@ -29,9 +29,23 @@ fn possible_answers(entry: Entry) -> BTreeSet<(u32, u32)> {
         Entry::ReadText => vec![(1, 2), (5, 2), (36, 2), (37, 2), (26, 0)],
         Entry::WriteText => vec![(26, 0)],
         Entry::Search => vec![(24, 0), (25, 0), (26, 0), (41, 0), (42, 0)],
+        Entry::RunHalting => vec![(22, 0), (23, 0), (24, 0), (25, 0), (26, 0)],
+        Entry::Resume => vec![(22, 0), (23, 0), (24, 0), (25, 0), (26, 0), (30, 0)],
     });
     answers
 }
+
+/// The two entries of P1 share one file; every other has its own.
+const ENTRIES_WITH_A_FILE: [Entry; 8] = [
+    Entry::Check,
+    Entry::Run,
+    Entry::Flatten,
+    Entry::CheckFlat,
+    Entry::WriteProof,
+    Entry::ReadText,
+    Entry::WriteText,
+    Entry::Search,
+];
 
 /// The files of the fixed set, made once for all tests.
 fn vector_files() -> &'static [(&'static str, Vec<u8>)] {
@@ -41,6 +55,10 @@ fn vector_files() -> &'static [(&'static str, Vec<u8>)] {
 
 fn cases_of(bytes: &[u8]) -> Vec<Expected> {
     vectors::read(bytes).expect("a vector file")
+}
+
+fn cases_in(name: &str) -> Vec<Expected> {
+    cases_of(&vector_files().iter().find(|file| file.0 == name).expect("the file").1)
 }
 
 #[test]
@@ -68,13 +86,19 @@ fn each_entry_has_a_file_with_all_its_numbers() {
         "write-text.vec",
         "search.vec",
     ];
-    for (name, entry) in names.into_iter().zip(Entry::ALL) {
-        let file = vector_files().iter().find(|file| file.0 == name).expect("the file");
-        let cases = cases_of(&file.1);
+    for (name, entry) in names.into_iter().zip(ENTRIES_WITH_A_FILE) {
+        let cases = cases_in(name);
         assert!(cases.iter().all(|one| one.case.entry == entry));
         let answered: BTreeSet<(u32, u32)> = cases.iter().map(|one| (one.answer.number, one.answer.file)).collect();
         assert_eq!(answered, possible_answers(entry), "{name}");
     }
+    let cases = cases_in("halting.vec");
+    for entry in Entry::THAT_HALT {
+        let of_entry = cases.iter().filter(|one| one.case.entry == entry);
+        let answered: BTreeSet<(u32, u32)> = of_entry.map(|one| (one.answer.number, one.answer.file)).collect();
+        assert_eq!(answered, possible_answers(entry), "{entry:?}");
+    }
+    assert!(cases.iter().all(|one| one.case.entry.may_halt()));
 }
 
 #[test]
@@ -86,10 +110,13 @@ fn sizes_stay_as_documented() {
             assert!(case.table.len() <= 70_000 && case.other.len() <= 70_000, "{name}");
             assert!(case.table.is_empty() || case.entry.takes_table(), "{name}");
             assert!(case.work_length <= SEARCH_WORK + 1 && case.output_length <= 32_768, "{name}");
+            assert!(case.frames <= MOST_FRAMES + 1 && case.saved.len() <= STATE_SIZE + 1, "{name}");
+            assert!(case.state_length <= STATE_SIZE + 5, "{name}");
+            assert!(!case.entry.may_halt() || case.work_length <= RESUME_WORK + 1, "{name}");
         }
         total += bytes.len();
     }
-    assert!(total <= 3_300_000, "{total} bytes in all");
+    assert!(total <= 3_700_000, "{total} bytes in all");
 }
 
 /// The committed files answer as this engine does. That they are also, byte for
@@ -128,6 +155,27 @@ fn case_records_have_the_documented_form() {
     let search = Case::new(Entry::Search, &[], &build::job(&[20], &build::id()));
     let two = vectors::write(&[search.clone(), search.clone()]);
     assert_eq!(two.len(), vectors::write(&[search]).len() + 70);
+}
+
+/// A case of P1 is twelve bytes longer than the same one of a run: the frames and the
+/// second space that are lent, and the digest of what that holds. The saved state stands
+/// in a record of its own, once for all cases that have it.
+#[test]
+fn cases_that_may_halt_have_the_documented_form() {
+    let job = build::job(&[20], &build::id());
+    let length = |cases: &[Case]| vectors::write(cases).len();
+    let run = Case::new(Entry::RunHalting, &[], &job).with_budget(0).with_frames(4_097).with_state(86_545);
+    assert_eq!(length(std::slice::from_ref(&run)), length(&[Case::new(Entry::Run, &[], &job)]) + 12);
+    let bytes = vectors::write(std::slice::from_ref(&run));
+    let mut state = vec![60; 86_545];
+    state[..86_540].fill(0);
+    state[..14].copy_from_slice(&[0, 0, 0, 0, 0, 1, 0, 1, 0, 5, 0, 1, 0, 20]);
+    let last = [4_097u32.to_be_bytes(), 86_545u32.to_be_bytes(), vectors::digest(&state).to_be_bytes()].concat();
+    assert!(bytes.ends_with(&[last, vec![0]].concat()));
+    // Fourteen bytes of contents, in two pieces with the zeros behind them.
+    let taken_up = Case::resumed(&[], &job, &state[..86_540]);
+    assert_eq!(length(std::slice::from_ref(&taken_up)), length(&[run]) + 7 + (6 + 14) + (6 + 1));
+    assert_eq!(length(&[taken_up.clone(), taken_up.clone()]), length(&[taken_up]) + 78);
 }
 
 #[test]

@@ -1,10 +1,11 @@
-//! What the eight entries do once the lent spaces are set aside.
+//! What the ten entries do once the lent spaces are set aside.
 
 pub mod arity;
 pub mod check_flat;
 pub mod forest;
 pub mod goal_pool;
 pub mod run;
+pub mod saved_state;
 pub mod search;
 pub mod used_rules;
 pub mod walk;
@@ -18,6 +19,7 @@ use crate::format::table::Table;
 use crate::format::term_file::TermFile;
 use crate::limits::{MOST_BUDGET, MOST_ENTRIES_WRITTEN_BACK, MOST_HEIGHT, MOST_SEARCH_BUDGET};
 use crate::notation;
+use saved_state::SavedState;
 use used_rules::UsedRules;
 
 /// The counts of an accepted proof.
@@ -41,6 +43,16 @@ pub struct RightFlatFile {
 pub struct SuccessfulRun {
     pub proof: Vec<u8>,
     pub steps: u32,
+}
+
+/// What a run that may halt comes to, if it does not end with 22 or 23 (P1).
+pub enum HaltingRun {
+    Succeeded(SuccessfulRun),
+    /// 24, with the state to be written to the second space.
+    Halted {
+        steps: u32,
+        state: SavedState,
+    },
 }
 
 pub fn check(table: &[u8], proof: &[u8]) -> Result<AcceptedProof, Refusal> {
@@ -93,6 +105,30 @@ pub fn run(table: &[u8], job: &[u8], budget: u32) -> Result<SuccessfulRun, Refus
     let mut terms = std::mem::take(&mut table.terms);
     let job = Job::read(job, &mut terms)?;
     run::run_job(&table, &terms, &job, budget)
+}
+
+/// P1: "29, 25, table, file 2, steps (22, 23, 24), 26".
+pub fn run_halting(table: &[u8], job: &[u8], budget: u32) -> Result<HaltingRun, Refusal> {
+    if budget > MOST_BUDGET {
+        return Err(Refusal::without_file(Reason::BudgetTooLarge));
+    }
+    let mut table = Table::read(table)?;
+    let mut terms = std::mem::take(&mut table.terms);
+    let job = Job::read(job, &mut terms)?;
+    saved_state::run_halting(&table, &terms, &job, budget)
+}
+
+/// P1: "29, 25 on b + c, table, file 2, 30, steps, 26". The sum has room in 64 bits
+/// (B1.11).
+pub fn resume(table: &[u8], job: &[u8], saved: &[u8], budget: u32) -> Result<HaltingRun, Refusal> {
+    let whole_budget = u64::from(saved_state::step_count(saved)) + u64::from(budget);
+    if whole_budget > u64::from(MOST_BUDGET) {
+        return Err(Refusal::without_file(Reason::BudgetTooLarge));
+    }
+    let mut table = Table::read(table)?;
+    let mut terms = std::mem::take(&mut table.terms);
+    let job = Job::read(job, &mut terms)?;
+    saved_state::resume(&table, &terms, &job, saved, budget)
 }
 
 /// "29, 25 (over 4,096), 42, table, file 2, search (0, 41, 24), 26" (B13.7).

@@ -1,4 +1,5 @@
-//! Running a tactic: section 4.1 of the paper, with a budget.
+//! Running a tactic: section 4.1 of the paper, with a budget. A run that is halted
+//! keeps everything it needs to go on (P1).
 
 use super::arity::Arities;
 use super::SuccessfulRun;
@@ -10,90 +11,132 @@ use crate::format::write::{proof_file, HiproofField};
 use crate::limits::MOST_GOALS;
 use crate::names::{Goal, RuleName};
 
-type Goals = Vec<Goal>;
+pub type Goals = Vec<Goal>;
+
+/// A term that is to begin, and its goals.
+pub struct Beginning {
+    pub term: TermNumber,
+    pub goals: Goals,
+}
 
 /// What the machine does next.
 enum Control {
-    /// A term is to begin on these goals.
-    Begin(TermNumber, Goals),
+    Begin(Beginning),
     /// The term begun last has succeeded and gives these goals.
     Succeeded(Goals),
     /// The term begun last has failed.
     Failed,
 }
 
-/// What waits for a term to end. A label and the body of a defined tactic need
-/// nothing: they end as their inner term does.
-enum Waiting {
-    SequenceRight(TermNumber),
-    TensorRight {
+/// A term that has begun, waits for an inner term to end, and still has something to
+/// do. The body of a defined tactic and the right of an alternation are waited for by
+/// nothing: the term ends as they do.
+///
+/// `own_field` is the number of the term's own field among the fields so far.
+pub enum Waiting {
+    Label {
+        inner: TermNumber,
+        own_field: usize,
+    },
+    SequenceLeft {
+        right: TermNumber,
+        own_field: usize,
+    },
+    SequenceRight {
+        right: TermNumber,
+        own_field: usize,
+    },
+    /// The left of a tensor runs; the right is to begin on the others.
+    TensorLeft {
         right: TermNumber,
         others: Goals,
+        own_field: usize,
     },
-    TensorJoin {
+    TensorRight {
+        right: TermNumber,
         left_gave: Goals,
+        own_field: usize,
     },
     /// The left of an alternation runs; if it fails, the right is to begin on
     /// the same goals, and the fields the left wrote are dropped.
-    OtherAlternative {
+    AlternationLeft {
         right: TermNumber,
         goals: Goals,
         fields_before: usize,
     },
 }
 
-struct Machine<'a> {
+/// What a run comes to if it does not end with 22 or 23.
+pub enum Ending {
+    /// The job's term has succeeded and gives these goals.
+    Succeeded(Goals),
+    /// A term is to begin, and the budget is used up: 24.
+    Halted(Beginning),
+}
+
+pub struct Machine<'a> {
     table: &'a Table,
     terms: &'a Terms,
     arities: Arities,
-    budget: u32,
-    steps: u32,
-    waiting: Vec<Waiting>,
-    /// The hiproof so far, its fields in byte order.
-    fields: Vec<HiproofField>,
+    pub steps: u32,
+    /// Outermost first.
+    pub waiting: Vec<Waiting>,
+    /// The hiproof so far, its fields in byte order. A waiting label, sequence or
+    /// tensor has its own field here already.
+    pub fields: Vec<HiproofField>,
 }
 
 /// Runs the job's term on its goals; a success is written as a proof file with
 /// the goals given as the remaining ones (READINGS A50).
 pub fn run_job(table: &Table, terms: &Terms, job: &Job, budget: u32) -> Result<SuccessfulRun, Refusal> {
-    let mut machine = Machine {
-        table,
-        terms,
-        arities: Arities::find(table, terms),
-        budget,
-        steps: 0,
-        waiting: Vec::new(),
-        fields: Vec::new(),
-    };
-    let remaining = machine.run(job)?;
-    let proof = proof_file(&job.goals, &machine.fields, &remaining);
-    Ok(SuccessfulRun { proof, steps: machine.steps })
+    let mut machine = Machine::new(table, terms);
+    match machine.run(job.beginning(), budget)? {
+        Ending::Succeeded(remaining) => Ok(machine.success(job, &remaining)),
+        Ending::Halted(_) => Err(Refusal::of_run(Reason::BudgetSpent, machine.steps)),
+    }
 }
 
-impl Machine<'_> {
-    fn run(&mut self, job: &Job) -> Result<Goals, Refusal> {
-        let mut control = Control::Begin(job.tactic, job.goals.clone());
+impl Job {
+    /// What a run of the job begins with.
+    pub fn beginning(&self) -> Beginning {
+        Beginning { term: self.tactic, goals: self.goals.clone() }
+    }
+}
+
+impl<'a> Machine<'a> {
+    pub fn new(table: &'a Table, terms: &'a Terms) -> Machine<'a> {
+        let arities = Arities::find(table, terms);
+        Machine { table, terms, arities, steps: 0, waiting: Vec::new(), fields: Vec::new() }
+    }
+
+    /// The proof file of the job, once its term has succeeded with these goals.
+    pub fn success(&self, job: &Job, remaining: &[Goal]) -> SuccessfulRun {
+        SuccessfulRun { proof: proof_file(&job.goals, &self.fields, remaining), steps: self.steps }
+    }
+
+    /// Runs from this beginning until the steps are as many as the budget, counted
+    /// from the first step of all. "If a term is to begin when the budget is used up,
+    /// the run ends with 24": it can be taken up there.
+    pub fn run(&mut self, beginning: Beginning, budget: u32) -> Result<Ending, Refusal> {
+        let mut control = Control::Begin(beginning);
         loop {
             control = match control {
-                Control::Begin(term, goals) => self.begin(term, goals)?,
+                Control::Begin(beginning) if self.steps == budget => return Ok(Ending::Halted(beginning)),
+                Control::Begin(beginning) => self.begin(beginning),
                 Control::Succeeded(goals) => match self.waiting.pop() {
                     Some(waiting) => self.resume(waiting, goals)?,
-                    None => return Ok(goals),
+                    None => return Ok(Ending::Succeeded(goals)),
                 },
                 Control::Failed => self.next_alternative()?,
             };
         }
     }
 
-    /// "Every term begun counts one step, in failed alternatives too. If a term
-    /// is to begin when the budget is used up, the run ends with 24." Only then
-    /// are the goals looked at (READINGS A41).
-    fn begin(&mut self, term: TermNumber, goals: Goals) -> Result<Control, Refusal> {
-        if self.steps == self.budget {
-            return Err(Refusal::of_run(Reason::BudgetSpent, self.steps));
-        }
+    /// "Every term begun counts one step, in failed alternatives too." Only then are
+    /// the goals looked at (READINGS A41).
+    fn begin(&mut self, Beginning { term, goals }: Beginning) -> Control {
         self.steps += 1;
-        Ok(match self.terms.get(term) {
+        match self.terms.get(term) {
             Term::Atomic(name) => self.begin_atomic(name, goals),
             Term::Id => self.leave_field_if(goals.len() == 1, HiproofField::Id, goals),
             Term::Empty => self.leave_field_if(goals.is_empty(), HiproofField::Empty, goals),
@@ -101,22 +144,30 @@ impl Machine<'_> {
             Term::Assert(goal) => self.leave_field_if(goals == [goal], HiproofField::Id, goals),
             Term::Label(_, _) if goals.len() != 1 => Control::Failed,
             Term::Label(label, inner) => {
-                self.fields.push(HiproofField::Label(label));
-                Control::Begin(inner, goals)
+                let own_field = self.enter(HiproofField::Label(label));
+                self.waiting.push(Waiting::Label { inner, own_field });
+                begin_inner(inner, goals)
             }
             Term::Sequence(left, right) => {
-                self.fields.push(HiproofField::Sequence);
-                self.waiting.push(Waiting::SequenceRight(right));
-                Control::Begin(left, goals)
+                let own_field = self.enter(HiproofField::Sequence);
+                self.waiting.push(Waiting::SequenceLeft { right, own_field });
+                begin_inner(left, goals)
             }
             Term::Tensor(left, right) => self.begin_tensor(left, right, goals),
             Term::Alternation(left, right) => self.begin_alternation(left, right, goals),
             // "A defined tactic is replaced by its body; one without a definition fails."
             Term::DefinedTactic(tactic) => match self.table.body(tactic) {
-                Some(body) => Control::Begin(body, goals),
+                Some(body) => begin_inner(body, goals),
                 None => Control::Failed,
             },
-        })
+        }
+    }
+
+    /// Puts the field of a term whose inner terms come next behind the others; gives
+    /// its number among them.
+    fn enter(&mut self, field: HiproofField) -> usize {
+        self.fields.push(field);
+        self.fields.len() - 1
     }
 
     fn leave_field_if(&mut self, succeeds: bool, field: HiproofField, goals: Goals) -> Control {
@@ -145,9 +196,9 @@ impl Machine<'_> {
         match self.arities.of(left) {
             Some(arity) if arity <= goals.len() => {
                 let others = goals.split_off(arity);
-                self.fields.push(HiproofField::Tensor);
-                self.waiting.push(Waiting::TensorRight { right, others });
-                Control::Begin(left, goals)
+                let own_field = self.enter(HiproofField::Tensor);
+                self.waiting.push(Waiting::TensorLeft { right, others, own_field });
+                begin_inner(left, goals)
             }
             _ => Control::Failed,
         }
@@ -157,21 +208,26 @@ impl Machine<'_> {
     /// the same goals." It leaves no field.
     fn begin_alternation(&mut self, left: TermNumber, right: TermNumber, goals: Goals) -> Control {
         let fields_before = self.fields.len();
-        self.waiting.push(Waiting::OtherAlternative { right, goals: goals.clone(), fields_before });
-        Control::Begin(left, goals)
+        self.waiting.push(Waiting::AlternationLeft { right, goals: goals.clone(), fields_before });
+        begin_inner(left, goals)
     }
 
     /// Goes on with what waited for the goals of a term that succeeded.
     fn resume(&mut self, waiting: Waiting, goals: Goals) -> Result<Control, Refusal> {
         Ok(match waiting {
-            Waiting::SequenceRight(right) => Control::Begin(right, goals),
-            Waiting::TensorRight { right, others } => {
-                self.waiting.push(Waiting::TensorJoin { left_gave: goals });
-                Control::Begin(right, others)
+            Waiting::SequenceLeft { right, own_field } => {
+                self.waiting.push(Waiting::SequenceRight { right, own_field });
+                begin_inner(right, goals)
             }
-            Waiting::TensorJoin { left_gave } => Control::Succeeded(self.join(left_gave, goals)?),
+            Waiting::TensorLeft { right, others, own_field } => {
+                self.waiting.push(Waiting::TensorRight { right, left_gave: goals, own_field });
+                begin_inner(right, others)
+            }
+            Waiting::TensorRight { left_gave, .. } => Control::Succeeded(self.join(left_gave, goals)?),
             // "Once the left has succeeded the choice stands, whatever fails later."
-            Waiting::OtherAlternative { .. } => Control::Succeeded(goals),
+            Waiting::Label { .. } | Waiting::SequenceRight { .. } | Waiting::AlternationLeft { .. } => {
+                Control::Succeeded(goals)
+            }
         })
     }
 
@@ -190,11 +246,15 @@ impl Machine<'_> {
     /// tactic has failed.
     fn next_alternative(&mut self) -> Result<Control, Refusal> {
         while let Some(waiting) = self.waiting.pop() {
-            if let Waiting::OtherAlternative { right, goals, fields_before } = waiting {
+            if let Waiting::AlternationLeft { right, goals, fields_before } = waiting {
                 self.fields.truncate(fields_before);
-                return Ok(Control::Begin(right, goals));
+                return Ok(begin_inner(right, goals));
             }
         }
         Err(Refusal::of_run(Reason::TacticFailed, self.steps))
     }
+}
+
+fn begin_inner(term: TermNumber, goals: Goals) -> Control {
+    Control::Begin(Beginning { term, goals })
 }

@@ -76,7 +76,8 @@ fn write_header(tag: Tag, length: usize, bytes: &mut Vec<u8>) {
     bytes.extend((length as u16).to_be_bytes());
 }
 
-fn write_hiproof(hiproof: &[HiproofField], bytes: &mut Vec<u8>) {
+/// Whole hiproofs, one behind the other; mostly it is one.
+pub fn write_hiproof(hiproof: &[HiproofField], bytes: &mut Vec<u8>) {
     let lengths = contents_lengths(hiproof);
     for (field, length) in hiproof.iter().zip(lengths) {
         write_header(field.tag(), length, bytes);

@@ -1,13 +1,24 @@
 //! A call of an entry with everything lent to it, and what came of it.
 
-use crate::answer::Answer;
-use crate::engine;
+use super::halting;
+use crate::answer::{Answer, Refusal};
+use crate::engine::{self, HaltingRun};
+use crate::entries::Frame;
 use crate::limits;
 
 /// What the spaces are filled with before a call, so that bytes that ought to
 /// stay untouched can be told. Fixed in docs/VECTORS.md.
 pub const WORK_FILL: u8 = 165;
 pub const OUTPUT_FILL: u8 = 90;
+pub const STATE_FILL: u8 = 60;
+
+/// Every byte of a frame that is lent, as in the work space.
+pub const FRAME_FILL: Frame = Frame {
+    term: u32::from_be_bytes([WORK_FILL; 4]),
+    goals: u32::from_be_bytes([WORK_FILL; 4]),
+    count: u16::from_be_bytes([WORK_FILL; 2]),
+    stage: u16::from_be_bytes([WORK_FILL; 2]),
+};
 
 #[derive(Clone, Copy, PartialEq, Eq, Hash, PartialOrd, Ord, Debug)]
 pub enum Entry {
@@ -19,10 +30,12 @@ pub enum Entry {
     ReadText,
     WriteText,
     Search,
+    RunHalting,
+    Resume,
 }
 
 impl Entry {
-    pub const ALL: [Entry; 8] = [
+    pub const ALL: [Entry; 10] = [
         Entry::Check,
         Entry::Run,
         Entry::Flatten,
@@ -31,14 +44,27 @@ impl Entry {
         Entry::ReadText,
         Entry::WriteText,
         Entry::Search,
+        Entry::RunHalting,
+        Entry::Resume,
     ];
 
     /// The entries that take a table besides the other file.
-    pub const WITH_TABLE: [Entry; 6] =
-        [Entry::Check, Entry::Run, Entry::Flatten, Entry::CheckFlat, Entry::WriteProof, Entry::Search];
+    pub const WITH_TABLE: [Entry; 8] = [
+        Entry::Check,
+        Entry::Run,
+        Entry::Flatten,
+        Entry::CheckFlat,
+        Entry::WriteProof,
+        Entry::Search,
+        Entry::RunHalting,
+        Entry::Resume,
+    ];
 
     /// Those whose other file is a proof.
     pub const WITH_PROOF: [Entry; 2] = [Entry::Check, Entry::Flatten];
+
+    /// Those of P1, which may halt: they are lent frames and a second space.
+    pub const THAT_HALT: [Entry; 2] = [Entry::RunHalting, Entry::Resume];
 
     /// The entry's number in vector files.
     pub fn code(self) -> u8 {
@@ -51,6 +77,8 @@ impl Entry {
             Entry::ReadText => 6,
             Entry::WriteText => 7,
             Entry::Search => 8,
+            Entry::RunHalting => 9,
+            Entry::Resume => 10,
         }
     }
 
@@ -68,6 +96,8 @@ impl Entry {
             Entry::ReadText => limits::READ_TEXT_WORK,
             Entry::WriteText => limits::WRITE_TEXT_WORK,
             Entry::Search => limits::SEARCH_WORK,
+            Entry::RunHalting => limits::RUN_HALTING_WORK,
+            Entry::Resume => limits::RESUME_WORK,
         }
     }
 
@@ -80,10 +110,16 @@ impl Entry {
         Entry::WITH_PROOF.contains(&self)
     }
 
-    /// The largest budget that is not refused; 0 for an entry that has none.
+    /// Whether a run may halt and be taken up again (P1).
+    pub fn may_halt(self) -> bool {
+        Entry::THAT_HALT.contains(&self)
+    }
+
+    /// The largest budget that is not refused, for a resumed run together with the
+    /// steps of its saved state; 0 for an entry that has none.
     pub fn most_budget(self) -> u32 {
         match self {
-            Entry::Run => limits::MOST_BUDGET,
+            Entry::Run | Entry::RunHalting | Entry::Resume => limits::MOST_BUDGET,
             Entry::Search => limits::MOST_SEARCH_BUDGET,
             _ => 0,
         }
@@ -96,16 +132,21 @@ impl Entry {
 
 /// One call. The budget counts only for a run or search, the height only for a
 /// search, the table only for the entries that take one; the output length is 0
-/// where the entry has no output space.
+/// where the entry has no output space. The saved state counts only for a resumed
+/// run, and the last two only for the entries that may halt; elsewhere there is
+/// nothing in them.
 #[derive(Clone, PartialEq, Eq, Debug)]
 pub struct Case {
     pub entry: Entry,
     pub table: Vec<u8>,
     pub other: Vec<u8>,
+    pub saved: Vec<u8>,
     pub budget: u32,
     pub height: u32,
     pub work_length: usize,
     pub output_length: usize,
+    pub frames: usize,
+    pub state_length: usize,
 }
 
 /// What a call did.
@@ -113,26 +154,43 @@ pub struct Outcome {
     pub answer: Answer,
     /// The whole output space afterwards.
     pub output: Vec<u8>,
-    /// All zero, or untouched after 29.
+    /// The whole second space afterwards (P1).
+    pub state: Vec<u8>,
+    /// All zero, or untouched after 29; the frames as well.
     pub work_space_as_promised: bool,
 }
 
 impl Case {
     /// A call with the largest budget and height, the named work space and an
     /// output space a few bytes longer than the result. For an entry that takes no table it is
-    /// a file of no bytes, whatever is given.
+    /// a file of no bytes, whatever is given. A run is resumed where it has made half of
+    /// its steps.
     pub fn new(entry: Entry, table: &[u8], other: &[u8]) -> Case {
-        let mut case = Case {
-            entry,
-            table: if entry.takes_table() { table.to_vec() } else { Vec::new() },
-            other: other.to_vec(),
-            budget: entry.most_budget(),
-            height: if entry == Entry::Search { limits::MOST_HEIGHT } else { 0 },
-            work_length: entry.work_size(),
-            output_length: 0,
-        };
+        let table = if entry.takes_table() { table.to_vec() } else { Vec::new() };
+        let mut case = Case::bare(entry, table, other.to_vec());
+        case.height = if entry == Entry::Search { limits::MOST_HEIGHT } else { 0 };
+        case.budget = entry.most_budget();
+        if entry == Entry::Resume {
+            case.saved = halting::half_way(&case.table, other);
+            case.budget -= engine::saved_state::step_count(&case.saved);
+        }
         case.output_length = case.roomy_output();
         case
+    }
+
+    /// A call with no budget, height, output space or saved state, and the named sizes
+    /// of everything else.
+    pub fn bare(entry: Entry, table: Vec<u8>, other: Vec<u8>) -> Case {
+        let (frames, state_length) = if entry.may_halt() { (limits::MOST_FRAMES, limits::STATE_SIZE) } else { (0, 0) };
+        let work_length = entry.work_size();
+        let (budget, height, output_length) = (0, 0, 0);
+        Case { entry, table, other, saved: vec![], budget, height, work_length, output_length, frames, state_length }
+    }
+
+    /// A run that is taken up, with as many more steps as are allowed.
+    pub fn resumed(table: &[u8], job: &[u8], saved: &[u8]) -> Case {
+        let budget = limits::MOST_BUDGET.saturating_sub(engine::saved_state::step_count(saved));
+        Case::bare(Entry::Resume, table.to_vec(), job.to_vec()).with_saved(saved).with_budget(budget)
     }
 
     pub fn with_budget(mut self, budget: u32) -> Case {
@@ -144,6 +202,23 @@ impl Case {
     pub fn with_height(mut self, height: u32) -> Case {
         self.height = height;
         self.output_length = self.roomy_output();
+        self
+    }
+
+    pub fn with_saved(mut self, saved: &[u8]) -> Case {
+        self.saved = saved.to_vec();
+        self.output_length = self.roomy_output();
+        self
+    }
+
+    pub fn with_frames(mut self, frames: usize) -> Case {
+        self.frames = frames;
+        self
+    }
+
+    /// Another length of the second space.
+    pub fn with_state(mut self, state_length: usize) -> Case {
+        self.state_length = state_length;
         self
     }
 
@@ -187,6 +262,8 @@ impl Case {
             Entry::Search => {
                 engine::search(&self.table, &self.other, self.height, self.budget).ok().map(|found| found.proof)
             }
+            Entry::RunHalting => proof_of(engine::run_halting(&self.table, &self.other, self.budget)),
+            Entry::Resume => proof_of(engine::resume(&self.table, &self.other, &self.saved, self.budget)),
         }
     }
 
@@ -194,19 +271,36 @@ impl Case {
     pub fn outcome(&self) -> Outcome {
         let mut work = vec![WORK_FILL; self.work_length];
         let mut output = vec![OUTPUT_FILL; self.output_length];
-        let (table, other) = (&self.table, &self.other);
+        let mut frames = vec![FRAME_FILL; self.frames];
+        let mut state = vec![STATE_FILL; self.state_length];
+        let (table, other, budget) = (&self.table, &self.other, self.budget);
         let answer = match self.entry {
             Entry::Check => crate::check(table, other, &mut work),
-            Entry::Run => crate::run(table, other, self.budget, &mut work, &mut output),
+            Entry::Run => crate::run(table, other, budget, &mut work, &mut output),
             Entry::Flatten => crate::flatten(table, other, &mut work, &mut output),
             Entry::CheckFlat => crate::check_flat(table, other, &mut work),
             Entry::WriteProof => crate::write_proof(table, other, &mut work, &mut output),
             Entry::ReadText => crate::read_text(other, &mut work, &mut output),
             Entry::WriteText => crate::write_text(other, &mut work, &mut output),
-            Entry::Search => crate::search(table, other, self.height, self.budget, &mut work, &mut output),
+            Entry::Search => crate::search(table, other, self.height, budget, &mut work, &mut output),
+            Entry::RunHalting => {
+                crate::run_halting(table, other, budget, &mut work, &mut frames, &mut output, &mut state)
+            }
+            Entry::Resume => {
+                let saved = &self.saved;
+                crate::resume(table, other, saved, budget, &mut work, &mut frames, &mut output, &mut state)
+            }
         };
-        let expected = if answer.number == 29 { WORK_FILL } else { 0 };
-        Outcome { answer, output, work_space_as_promised: all_equal(&work, expected) }
+        let (byte, frame) = if answer.number == 29 { (WORK_FILL, FRAME_FILL) } else { (0, Frame::default()) };
+        let as_promised = all_equal(&work, byte) && frames.iter().all(|&is| is == frame);
+        Outcome { answer, output, state, work_space_as_promised: as_promised }
+    }
+}
+
+fn proof_of(ended: Result<HaltingRun, Refusal>) -> Option<Vec<u8>> {
+    match ended {
+        Ok(HaltingRun::Succeeded(success)) => Some(success.proof),
+        _ => None,
     }
 }
 

@@ -8,11 +8,13 @@ pub mod build;
 pub mod case;
 pub mod damage;
 pub mod examples;
+pub mod halting;
 pub mod limit_files;
 pub mod no_bytes;
 pub mod positions;
 pub mod random;
 pub mod random_file;
+pub mod random_halting;
 pub mod random_rules;
 pub mod random_search;
 pub mod random_table;
@@ -32,7 +34,8 @@ use case::{Case, Entry};
 use random::Random;
 use random_table::{RandomTable, Size};
 
-/// The entries that a kind of file is picked by; a search takes a job, as a run does.
+/// The entries that a kind of file is picked by; a search takes a job, as a run does,
+/// and so do the entries that may halt.
 const KINDS_OF_FILE: [Entry; 7] =
     [Entry::Check, Entry::Run, Entry::Flatten, Entry::CheckFlat, Entry::WriteProof, Entry::ReadText, Entry::WriteText];
 
@@ -109,7 +112,7 @@ fn random_case_without_table(entry: Entry, size: Size, random: &mut Random) -> C
 fn random_case_at_a_limit(entry: Entry, random: &mut Random) -> Case {
     let (table, others) = match entry {
         Entry::Check | Entry::Flatten => (examples::table_of_eight(), limit_files::proofs()),
-        Entry::Run | Entry::Search => (examples::table_a(), limit_files::jobs()),
+        Entry::Run | Entry::Search | Entry::RunHalting | Entry::Resume => (examples::table_a(), limit_files::jobs()),
         Entry::CheckFlat | Entry::WriteProof => (limit_files::chain_table(), limit_files::flats()),
         Entry::ReadText => (Vec::new(), texts::limit_texts()),
         Entry::WriteText => (Vec::new(), texts::limit_terms()),
@@ -154,6 +157,7 @@ pub fn other_file_of_vectors(entry: Entry, random: &mut Random, table: &RandomTa
         Entry::Check | Entry::Flatten => random_file::random_proof(random, table),
         Entry::Run => random_file::random_job(random, table),
         Entry::Search => random_search::random_search_job(random, table),
+        Entry::RunHalting | Entry::Resume => random_halting::random_halting_job(random, table),
         Entry::CheckFlat | Entry::WriteProof => random_file::random_flat(random, table),
         Entry::ReadText | Entry::WriteText => other_file_without_table(entry, random, table.size),
     }
@@ -181,9 +185,10 @@ fn make_foreign(random: &mut Random, case: &mut Case) {
     }
 }
 
-/// Gives a case its height, budget, work space and output space.
+/// Gives a case its height or saved state, its budget and everything that is lent.
 pub fn vary_lent_spaces(random: &mut Random, case: Case) -> Case {
     let case = random_search::vary_height(random, case);
+    let case = random_halting::vary_saved(random, case);
     let budget = random_budget(random, &case);
     let case = case.with_budget(budget);
     let size = case.entry.work_size();
@@ -201,13 +206,18 @@ pub fn vary_lent_spaces(random: &mut Random, case: Case) -> Case {
         (Some(result), 3) => random.below(2 * result.len()),
         _ => roomy,
     };
-    case.with_work(work_length).with_output(output_length)
+    random_halting::vary_spaces(random, case.with_work(work_length).with_output(output_length))
 }
 
 fn random_budget(random: &mut Random, case: &Case) -> u32 {
     let most = case.entry.most_budget();
     if most == 0 {
         return 0;
+    }
+    match case.entry {
+        Entry::RunHalting => return random_halting::random_budget(random, case),
+        Entry::Resume => return random_halting::random_more_steps(random, case),
+        _ => {}
     }
     let steps = steps_of(case, most);
     match random.below(20) {

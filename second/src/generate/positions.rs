@@ -83,7 +83,16 @@ pub fn run_cases() -> Vec<Case> {
 /// Each alternation and each name in each place of the job's term, for a search:
 /// where a run fails for good, the search goes back.
 pub fn search_cases() -> Vec<Case> {
+    in_each_place_of(Entry::Search)
+}
+
+/// The same for runs that are halted (P1).
+pub fn halting_cases() -> Vec<Case> {
+    in_each_place_of(Entry::RunHalting)
+}
+
+fn in_each_place_of(entry: Entry) -> Vec<Case> {
     let (table, names) = table_with_names();
     let all = alternations().into_iter().chain(names);
-    cases_of(Entry::Search, &table, all.flat_map(|term| in_each_place(&(term, 1))))
+    cases_of(entry, &table, all.flat_map(|term| in_each_place(&(term, 1))))
 }

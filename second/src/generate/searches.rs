@@ -141,7 +141,8 @@ pub fn around_the_borders(case: &Case) -> Vec<Case> {
     without_repetitions(cases)
 }
 
-fn without_repetitions(cases: Vec<Case>) -> Vec<Case> {
+/// The cases in their order, each once.
+pub fn without_repetitions(cases: Vec<Case>) -> Vec<Case> {
     let mut different: Vec<Case> = Vec::new();
     for case in cases {
         if !different.contains(&case) {

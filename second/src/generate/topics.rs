@@ -5,8 +5,8 @@ use super::case::{Case, Entry};
 use super::random::Random;
 use super::random_table::{RandomTable, Size};
 use super::{
-    damage, examples, limit_files, no_bytes, other_file_of_vectors, positions, random_case_of, reading, reasons, rules,
-    searches, texts,
+    damage, examples, halting, limit_files, no_bytes, other_file_of_vectors, positions, random_case_of, reading,
+    reasons, rules, searches, texts,
 };
 use crate::limits::MOST_BUDGET;
 
@@ -28,6 +28,7 @@ pub fn vector_set() -> Vec<(&'static str, Vec<Case>)> {
         ("reasons.vec", reasons::cases()),
         ("no-bytes.vec", no_bytes::cases()),
         ("rules.vec", rules::cases()),
+        ("halting.vec", halting_cases()),
     ]
 }
 
@@ -301,6 +302,28 @@ fn search() -> Vec<Case> {
     }
     cases.extend(positions::search_cases());
     cases.extend(random_cases(Entry::Search, 13, 200).into_iter().map(with_little_more_work_space));
+    cases
+}
+
+/// P1: runs that halt, and runs that are taken up.
+fn halting_cases() -> Vec<Case> {
+    let first_job = job(&[10], &defined(3));
+    let mut cases = Vec::new();
+    for entry in Entry::THAT_HALT {
+        cases.extend(refusals_of_every_entry(entry, &examples::table_a(), &first_job));
+    }
+    cases.extend(halting::order_of_refusals());
+    cases.extend(halting::numbers());
+    cases.extend(halting::sizes());
+    cases.extend(halting::lent_spaces());
+    cases.extend(halting::outputs());
+    cases.extend(halting::halted_everywhere());
+    cases.extend(halting::again_and_again());
+    cases.extend(halting::in_every_place());
+    cases.extend(halting::forgeries());
+    cases.extend(halting::at_limits());
+    cases.extend(random_cases(Entry::RunHalting, 14, 60).into_iter().map(with_little_more_work_space));
+    cases.extend(random_cases(Entry::Resume, 15, 150).into_iter().map(with_little_more_work_space));
     cases
 }
 

@@ -4,6 +4,7 @@
 
 use second::generate::build;
 
+pub mod halting;
 pub mod notation;
 pub mod proof_file;
 pub mod reasons;
