@@ -11,14 +11,14 @@ extern "C" {
 
 /*
  * The version of this header. The minor number goes up with each new call: 1.0 had the first five, 1.1 brought hitac_read_text,
- * 1.2 hitac_write_text, 1.3 hitac_search. The major number goes up when a program has to be compiled anew. 2.0 brought no call:
- * its answer has twelve numbers, where that of version 1 has eight.
+ * 1.2 hitac_write_text, 1.3 hitac_search, 2.1 hitac_run_halting, 2.2 hitac_resume. The major number goes up when a program has to
+ * be compiled anew. 2.0 brought no call: its answer has twelve numbers, where that of version 1 has eight.
  * A program that was built against version 1 must be built again, because a call of version 2 writes a longer answer. The names
  * of the shared libraries, libhitac.so.1 and libhitac.so.2, keep the two apart. Nothing keeps an old object file from being
  * linked with the archive of version 2, so compile all of them.
  */
 #define HITAC_VERSION_MAJOR 2
-#define HITAC_VERSION_MINOR 0
+#define HITAC_VERSION_MINOR 2
 #define HITAC_VERSION (HITAC_VERSION_MAJOR * 65536 + HITAC_VERSION_MINOR) /* as hitac_version answers it */
 
 /*
@@ -32,7 +32,7 @@ struct hitac_answer {
     uint32_t number;    /* 0 for success, else the number of the refusal */
     uint32_t file;      /* where the refusal is: HITAC_TABLE, HITAC_OTHER_FILE or HITAC_NO_FILE */
     uint32_t place;     /* byte offset in that file */
-    uint32_t steps;     /* terms begun by hitac_run or hitac_search */
+    uint32_t steps;     /* terms begun by a run or a search; by hitac_resume with those before it */
     uint32_t length;    /* bytes written at the start of the output space */
     uint32_t fields;    /* term fields of a proof that hitac_check accepts */
     uint32_t uses;      /* uses of rules, of hitac_check and hitac_check_flat */
@@ -44,12 +44,24 @@ struct hitac_answer {
 };
 
 /*
- * Every file and space is a pointer and its length in bytes. A pointer is never NULL, also where the length is 0. The address of
- * an empty container may be NULL; pass that of any byte in its place, since none is read or written.
+ * Space for a term that waits in a run, lent to hitac_run_halting and hitac_resume. What a frame holds during a call is the
+ * engine's affair, and what it held before never matters.
+ */
+struct hitac_frame {
+    uint32_t term;
+    uint32_t goals;
+    uint16_t count;
+    uint16_t stage;
+};
+
+/*
+ * Every file and space is a pointer and its length in bytes, frames a pointer and their number. A pointer is never NULL, also
+ * where the length is 0. The address of an empty container may be NULL; pass that of any byte in its place, for frames that of
+ * any frame, since none is read or written.
  * The spaces of a call overlap neither each other nor a file. Any bytes, lengths, height and budget get an answer. Nothing is
  * allocated and nothing is kept between calls, so calls with spaces of their own may run at the same time.
- * Work space that is long enough is all zero afterwards. A refusal leaves the output space untouched; a success
- * leaves the bytes behind its result untouched.
+ * Work space that is long enough is all zero afterwards, and so are the frames, all that were lent. A refusal leaves the output
+ * space untouched; a success leaves the bytes behind its result untouched.
  */
 
 /*
@@ -112,15 +124,49 @@ struct hitac_answer hitac_search(const uint8_t *table, size_t table_length,
                                  uint8_t *work, size_t work_length,
                                  uint8_t *out, size_t out_length);
 
+/*
+ * As hitac_run, for a debugger: if the budget is spent, HITAC_BUDGET_SPENT, the halted run stands in the first HITAC_STATE bytes
+ * of state, zeros last; docs/FORMAT.md, "A halted run", has the layout. No other answer touches state. A budget of 0 halts before
+ * the first term. Work, frames or state that are too short are HITAC_WORK_TOO_SHORT, also where the run would not halt, and then
+ * nothing is touched.
+ */
+struct hitac_answer hitac_run_halting(const uint8_t *table, size_t table_length,
+                                      const uint8_t *job, size_t job_length,
+                                      uint32_t budget,
+                                      uint8_t *work, size_t work_length,
+                                      struct hitac_frame *frames, size_t frames_length,
+                                      uint8_t *out, size_t out_length,
+                                      uint8_t *state, size_t state_length);
+
+/*
+ * Goes on with a halted run for budget more steps: answers, and leaves in out and state, what hitac_run_halting does with all the
+ * steps as its budget. It may halt again; saved and state are two spaces that do not overlap. Bytes that are not those of a halt
+ * of the same table and job are HITAC_STATE_NOT_GENUINE; that is tested by a run.
+ */
+struct hitac_answer hitac_resume(const uint8_t *table, size_t table_length,
+                                 const uint8_t *job, size_t job_length,
+                                 const uint8_t *saved, size_t saved_length,
+                                 uint32_t budget,
+                                 uint8_t *work, size_t work_length,
+                                 struct hitac_frame *frames, size_t frames_length,
+                                 uint8_t *out, size_t out_length,
+                                 uint8_t *state, size_t state_length);
+
 /* Work space that each call needs, in bytes. */
-#define HITAC_CHECK_WORK 65536       /* for hitac_check */
-#define HITAC_RUN_WORK 1290752       /* for hitac_run */
-#define HITAC_FLATTEN_WORK 200704    /* for hitac_flatten */
-#define HITAC_CHECK_FLAT_WORK 65536  /* for hitac_check_flat */
-#define HITAC_WRITE_PROOF_WORK 65536 /* for hitac_write_proof */
-#define HITAC_READ_TEXT_WORK 196608  /* for hitac_read_text */
-#define HITAC_WRITE_TEXT_WORK 36864  /* for hitac_write_text */
-#define HITAC_SEARCH_WORK 2496256    /* for hitac_search */
+#define HITAC_CHECK_WORK 65536         /* for hitac_check */
+#define HITAC_RUN_WORK 1290752         /* for hitac_run */
+#define HITAC_FLATTEN_WORK 200704      /* for hitac_flatten */
+#define HITAC_CHECK_FLAT_WORK 65536    /* for hitac_check_flat */
+#define HITAC_WRITE_PROOF_WORK 65536   /* for hitac_write_proof */
+#define HITAC_READ_TEXT_WORK 196608    /* for hitac_read_text */
+#define HITAC_WRITE_TEXT_WORK 36864    /* for hitac_write_text */
+#define HITAC_SEARCH_WORK 2496256      /* for hitac_search */
+#define HITAC_RUN_HALTING_WORK 1377292 /* for hitac_run_halting */
+#define HITAC_RESUME_WORK 1377292      /* for hitac_resume */
+
+/* What hitac_run_halting and hitac_resume need besides. */
+#define HITAC_FRAMES 4096 /* frames */
+#define HITAC_STATE 86540 /* bytes of a halted run, and so of the space for it */
 
 /*
  * Machine stack that each call needs, in bytes, whatever the files: from the arguments and the return address that the
@@ -136,16 +182,18 @@ struct hitac_answer hitac_search(const uint8_t *table, size_t table_length,
 #define HITAC_READ_TEXT_STACK 512      /* for hitac_read_text */
 #define HITAC_WRITE_TEXT_STACK 1024    /* for hitac_write_text */
 #define HITAC_SEARCH_STACK 1536        /* for hitac_search */
+#define HITAC_RUN_HALTING_STACK 200704 /* for hitac_run_halting */
+#define HITAC_RESUME_STACK 200704      /* for hitac_resume */
 
 /* Output space that is always long enough, in bytes. */
-#define HITAC_LONGEST_PROOF 21510 /* for hitac_run, hitac_search and hitac_write_proof: no proof file is longer */
+#define HITAC_LONGEST_PROOF 21510 /* for the runs, hitac_search and hitac_write_proof: no proof file is longer */
 #define HITAC_LONGEST_FLAT 16131  /* for hitac_flatten: no flat form of an accepted proof is longer */
 #define HITAC_LONGEST_TERM 20480  /* for hitac_read_text: no term file is longer */
 #define HITAC_LONGEST_TEXT 28671  /* for hitac_write_text: no written text is longer */
 
 /* Limits. */
 #define HITAC_LONGEST_FILE 65535     /* bytes in a file, a text among them */
-#define HITAC_MOST_STEPS 4096        /* largest budget of hitac_run */
+#define HITAC_MOST_STEPS 4096        /* largest budget of a run; of hitac_resume with the steps before it */
 #define HITAC_MOST_SEARCH_STEPS 4096 /* largest budget of hitac_search */
 #define HITAC_MOST_HEIGHT 64         /* largest height of hitac_search; 1 is the smallest */
 #define HITAC_MOST_RULES 4096        /* rules in a table */
@@ -183,11 +231,11 @@ struct hitac_answer hitac_search(const uint8_t *table, size_t table_length,
 #define HITAC_JOINED_TOO_LONG 22  /* a tensor joins more than 256 goals */
 #define HITAC_TACTIC_FAILED 23    /* the tactic failed */
 #define HITAC_BUDGET_SPENT 24     /* a term was to begin when the budget was used up */
-#define HITAC_BUDGET_TOO_LARGE 25 /* the budget is over 4,096 */
+#define HITAC_BUDGET_TOO_LARGE 25 /* the budget is over 4,096; of hitac_resume, with the steps of the saved state */
 #define HITAC_OUTPUT_TOO_SHORT 26 /* the output space is shorter than the result */
 #define HITAC_FLAT_WRONG 27       /* an entry of the flat file does not apply, or goals are pending at its end */
 #define HITAC_ENTRIES_TOO_MANY 28 /* the flat file has more than 2,048 entries and cannot be written as a proof */
-#define HITAC_WORK_TOO_SHORT 29   /* the work space is shorter than the size named for the call */
+#define HITAC_WORK_TOO_SHORT 29   /* the work space is shorter than the size named for the call, or the frames or state are */
 
 /* Refusals of a hiproof in which goals are miscounted. An atomic without exactly one goal is 34, whether it has a rule or not. */
 #define HITAC_GOAL_COUNT_WRONG 34 /* an atomic, id or label gets no goal or more than one, or an empty gets a goal */
@@ -203,6 +251,9 @@ struct hitac_answer hitac_search(const uint8_t *table, size_t table_length,
 /* Refusals of a text. */
 #define HITAC_TEXT_WRONG 36      /* no text of the notation goes on with this byte, or the text ends early */
 #define HITAC_VALUE_TOO_LARGE 37 /* a value is over 65,535; the place is that of its first digit */
+
+/* Refusal of a halted run. */
+#define HITAC_STATE_NOT_GENUINE 30 /* the table and job, run for its step count, do not halt with just these bytes */
 
 /* Refusals of a search. */
 #define HITAC_NO_EVALUATION 41  /* the tactic has no evaluation on the goals that is at most so high */

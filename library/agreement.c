@@ -1,4 +1,4 @@
-/* Checks that include/hitac.h and the library agree: version, the answer's layout, sizes, refusal numbers and limits. C99 and C++. */
+/* Checks that include/hitac.h and the library agree: version, answer and frame, sizes, refusal numbers, limits. C99 and C++. */
 #include <stdio.h>
 #include <string.h>
 
@@ -78,13 +78,24 @@ static void marks(const char *first, size_t times, const char *last)
     text(&other, last, 1);
 }
 
-/* The file that a call takes beside the table or alone, for a success. */
+/* Leaves the halted run of table and job after so many steps in saved; the answer must be that of a halt. */
+static void halt_at(uint32_t steps)
+{
+    struct hitac_answer got = answer_in(RUN_HALTING, HITAC_RUN_HALTING_WORK, sizeof out, steps);
+    is("24 of a halt", got, HITAC_BUDGET_SPENT, HITAC_NO_FILE, 0);
+    expect("with the budget as steps", got.steps == steps);
+    memcpy(saved, state, HITAC_STATE);
+}
+
+/* The file that a call takes beside the table or alone, for a success; the halted run that is taken up. */
 static void good_files(enum call call)
 {
     small_table();
     small_proof(1, 10, 1, 2);
-    if (call == RUN || call == SEARCH)
+    if (call == RUN || call == SEARCH || call == RUN_HALTING || call == RESUME)
         other.length = 10;
+    if (call == RESUME)
+        halt_at(0);
     if (call == CHECK_FLAT || call == WRITE_PROOF) {
         other.length = 5;
         entry(&other, 1, 10);
@@ -146,6 +157,10 @@ static void layout(void)
     expect("goals", offsetof(struct hitac_answer, goals) == 36);
     expect("longest", offsetof(struct hitac_answer, longest) == 40);
     expect("tactic", offsetof(struct hitac_answer, tactic) == 44);
+    expect("a frame has 12 bytes", sizeof(struct hitac_frame) == 12);
+    expect("goals of a frame", offsetof(struct hitac_frame, goals) == 4);
+    expect("count of a frame", offsetof(struct hitac_frame, count) == 8);
+    expect("stage of a frame", offsetof(struct hitac_frame, stage) == 10);
 }
 
 static void version(void)
@@ -555,6 +570,155 @@ static void searches(void)
     expect("its counts", got.fields == 9 && got.uses == 3 && got.remaining == 0 && got.rules == 2);
 }
 
+/* Rule 1 on 10, then rule 2 beside rule 2 on what it gave: five steps. */
+static void five_steps(void)
+{
+    small_table();
+    marks("a1 ; a2 * a2", 1, "");
+    struct hitac_answer read = answer(READ_TEXT);
+    other.length = 0;
+    field(&other, 3, 1, 10);
+    for (size_t i = 0; i < read.length; i++)
+        put(&other, out[i]);
+}
+
+static int frames_are(size_t first, size_t behind, uint8_t value)
+{
+    return all((const uint8_t *)(frames + first), (behind - first) * sizeof frames[0], value);
+}
+
+static void poison(void)
+{
+    memset(work, POISON, sizeof work);
+    memset(frames, POISON, sizeof frames);
+    memset(out, POISON, sizeof out);
+    memset(state, POISON, sizeof state);
+}
+
+/* One call in poisoned spaces; what it does with frames and state. The lengths that are named, but for these. */
+static void halting_spaces(const char *what, enum call call, size_t frames_length, size_t state_length, uint32_t budget,
+                           uint32_t number)
+{
+    poison();
+    is(what, halting_in(call, work_of(call), frames_length, sizeof out, state_length, HITAC_STATE, budget), number,
+       HITAC_NO_FILE, 0);
+    if (number == HITAC_WORK_TOO_SHORT) {
+        expect("29 leaves frames and work space", frames_are(0, HITAC_FRAMES + 1, POISON) && all(work, sizeof work, POISON));
+        expect("29 leaves state and output space", all(state, sizeof state, POISON) && all(out, sizeof out, POISON));
+        return;
+    }
+    expect("the frames are cleared", frames_are(0, frames_length, 0));
+    expect("no frame behind them is", frames_are(frames_length, HITAC_FRAMES + 1, POISON));
+    size_t written = number == HITAC_BUDGET_SPENT ? HITAC_STATE : 0;
+    expect("bytes of state that are not touched", all(state + written, sizeof state - written, POISON));
+    expect("a halt leaves the output space", number != HITAC_BUDGET_SPENT || all(out, sizeof out, POISON));
+}
+
+/* Each lent space one short, exact and longer, for a halt and for a success. */
+static void halting_sizes(enum call call)
+{
+    for (uint32_t budget = 1; budget <= 5; budget += 4) {
+        uint32_t number = budget == 5 ? HITAC_SUCCESS : HITAC_BUDGET_SPENT;
+        halting_spaces("frames too few", call, HITAC_FRAMES - 1, HITAC_STATE, budget, HITAC_WORK_TOO_SHORT);
+        halting_spaces("no frames", call, 0, HITAC_STATE, budget, HITAC_WORK_TOO_SHORT);
+        halting_spaces("state too short", call, HITAC_FRAMES, HITAC_STATE - 1, budget, HITAC_WORK_TOO_SHORT);
+        halting_spaces("both", call, HITAC_FRAMES - 1, 0, budget, HITAC_WORK_TOO_SHORT);
+        halting_spaces("frames and state as long as named", call, HITAC_FRAMES, HITAC_STATE, budget, number);
+        halting_spaces("frames and state longer", call, HITAC_FRAMES + 1, HITAC_STATE + 5, budget, number);
+    }
+}
+
+/* The halt after 3 steps, byte by byte: the right term of the sequence runs, and in it the left one of the tensor. */
+static void bytes_of_a_halt(void)
+{
+    static const uint8_t HALT[] = {0, 3, 0, 5, 16, 0, 2,  0, 1, 0, 3,  3, 1, 0, 13, 0, 0, 4,
+                                   1, 0, 21, 0, 1, 0, 20, 0, 1, 0, 16, 0, 1, 0, 20};
+    halt_at(3);
+    expect("the contents of a halted run", memcmp(saved, HALT, sizeof HALT) == 0);
+    expect("zeros behind them", all(saved + sizeof HALT, HITAC_STATE - sizeof HALT, 0));
+}
+
+/* A run in two pieces is a single run, and may halt again; sums of steps over the limit are refused. */
+static void going_on(void)
+{
+    five_steps();
+    struct hitac_answer whole = answer(RUN);
+    uint8_t proof[64];
+    memcpy(proof, out, whole.length);
+    for (uint32_t made = 0; made < 5; made++) {
+        halt_at(made);
+        struct hitac_answer got = answer_in(RESUME, HITAC_RESUME_WORK, sizeof out, 5 - made);
+        is("a run that is taken up", got, HITAC_SUCCESS, HITAC_NO_FILE, 0);
+        expect("its steps and length", got.steps == 5 && got.length == whole.length);
+        expect("its proof", memcmp(out, proof, whole.length) == 0);
+        got = answer_in(RESUME, HITAC_RESUME_WORK, sizeof out, 0);
+        is("24 of no step more", got, HITAC_BUDGET_SPENT, HITAC_NO_FILE, 0);
+        expect("the same halt", got.steps == made && memcmp(state, saved, HITAC_STATE) == 0);
+        got = answer_in(RESUME, HITAC_RESUME_WORK, whole.length - 1, 5 - made);
+        is("26 of a run that is taken up", got, HITAC_OUTPUT_TOO_SHORT, HITAC_NO_FILE, 0);
+        expect("with all steps", got.steps == 5);
+        is("the most steps", answer(RESUME), HITAC_SUCCESS, HITAC_NO_FILE, 0);
+        got = answer_in(RESUME, HITAC_RESUME_WORK, sizeof out, HITAC_MOST_STEPS + 1 - made);
+        is("25 of a sum", got, HITAC_BUDGET_TOO_LARGE, HITAC_NO_FILE, 0);
+        got = answer_in(RESUME, HITAC_RESUME_WORK, sizeof out, UINT32_MAX);
+        is("25 of a sum over 32 bits", got, HITAC_BUDGET_TOO_LARGE, HITAC_NO_FILE, 0);
+    }
+    is("25 of a halting run", answer_in(RUN_HALTING, HITAC_RUN_HALTING_WORK, sizeof out, HITAC_MOST_STEPS + 1),
+       HITAC_BUDGET_TOO_LARGE, HITAC_NO_FILE, 0);
+}
+
+static void taken_up(const char *what, size_t length, uint32_t budget, uint32_t number, uint32_t file)
+{
+    poison();
+    struct hitac_answer got = halting_in(RESUME, HITAC_RESUME_WORK, HITAC_FRAMES, sizeof out, HITAC_STATE, length, budget);
+    is(what, got, number, file, 0);
+    expect("no step", got.steps == 0);
+    expect("state is not touched", all(state, sizeof state, POISON));
+}
+
+/* Saved bytes that are no halt of the run: 30, after 25 and the files, and before any step. */
+static void not_genuine(void)
+{
+    five_steps();
+    halt_at(3);
+    saved[HITAC_STATE] = 0;
+    taken_up("30 of no bytes", 0, HITAC_MOST_STEPS, HITAC_STATE_NOT_GENUINE, HITAC_NO_FILE);
+    taken_up("25 of no bytes", 0, HITAC_MOST_STEPS + 1, HITAC_BUDGET_TOO_LARGE, HITAC_NO_FILE);
+    taken_up("30 of one byte", 1, HITAC_MOST_STEPS, HITAC_STATE_NOT_GENUINE, HITAC_NO_FILE);
+    taken_up("30 of two bytes", 2, HITAC_MOST_STEPS - 3, HITAC_STATE_NOT_GENUINE, HITAC_NO_FILE);
+    taken_up("25 of two bytes", 2, HITAC_MOST_STEPS - 2, HITAC_BUDGET_TOO_LARGE, HITAC_NO_FILE);
+    taken_up("30 of a byte too few", HITAC_STATE - 1, 2, HITAC_STATE_NOT_GENUINE, HITAC_NO_FILE);
+    taken_up("30 of a byte too many", HITAC_STATE + 1, 2, HITAC_STATE_NOT_GENUINE, HITAC_NO_FILE);
+    for (size_t i = 1; i < 40; i++) {
+        saved[i]++;
+        taken_up("30 of a changed byte", HITAC_STATE, 2, HITAC_STATE_NOT_GENUINE, HITAC_NO_FILE);
+        saved[i]--;
+    }
+    saved[HITAC_STATE - 1] = 1;
+    taken_up("30 of the last byte", HITAC_STATE, 0, HITAC_STATE_NOT_GENUINE, HITAC_NO_FILE);
+    size_t length = table.length;
+    table.length = 2;
+    taken_up("the table before 30", HITAC_STATE, 0, HITAC_FIELD_TORN, HITAC_TABLE);
+    table.length = length;
+    other.length = 2;
+    taken_up("the job before 30", HITAC_STATE, 0, HITAC_FIELD_TORN, HITAC_OTHER_FILE);
+    five_steps();
+    saved[HITAC_STATE - 1] = 0;
+    is("taken up again", answer(RESUME), HITAC_SUCCESS, HITAC_NO_FILE, 0);
+}
+
+/* Runs that halt, and runs that are taken up. */
+static void halts(void)
+{
+    five_steps();
+    bytes_of_a_halt();
+    halting_sizes(RUN_HALTING);
+    halt_at(0);
+    halting_sizes(RESUME);
+    going_on();
+    not_genuine();
+}
+
 /* Whether a call leaves just these bytes, and says so. */
 static int leaves(enum call call, const void *bytes, size_t length)
 {
@@ -584,8 +748,9 @@ static void blank_proofs(void)
 /* Zero bytes are no good job, flat file, term file or text; one or two are no good proof either. The table comes first. */
 static void hardly_any_bytes(void)
 {
-    static const enum call NO_PROOF[] = {RUN, SEARCH, CHECK_FLAT, WRITE_PROOF, WRITE_TEXT}, PROOF[] = {CHECK, FLATTEN};
-    small_table();
+    static const enum call NO_PROOF[] = {RUN, SEARCH, RUN_HALTING, RESUME, CHECK_FLAT, WRITE_PROOF, WRITE_TEXT};
+    static const enum call PROOF[] = {CHECK, FLATTEN};
+    good_files(RESUME);
     other.length = 0;
     for (size_t i = 0; i < sizeof NO_PROOF / sizeof NO_PROOF[0]; i++)
         is("2 of zero bytes", answer(NO_PROOF[i]), HITAC_FIELD_TORN, HITAC_OTHER_FILE, 0);
@@ -687,6 +852,8 @@ int main(void)
     spaces(READ_TEXT);
     spaces(WRITE_TEXT);
     spaces(SEARCH);
+    spaces(RUN_HALTING);
+    spaces(RESUME);
     refusals_of_reading();
     refusals_of_tables();
     refusals_of_meaning();
@@ -703,6 +870,7 @@ int main(void)
     refusals_of_term_files();
     longest_term_and_text();
     searches();
+    halts();
     printf("agreement: %u tests, %u wrong\n", tests, failures);
     return failures != 0;
 }

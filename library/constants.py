@@ -1,4 +1,4 @@
-"""Checks that the wrappers in examples/rust and examples/python have the version, sizes, refusal numbers and answer of include/hitac.h."""
+"""Checks that the wrappers in examples/rust and examples/python have version, sizes, refusals, answer and frame of include/hitac.h."""
 import pathlib
 import re
 import sys
@@ -40,7 +40,13 @@ in_rust = numbers(r"pub struct Answer {(.*?)}", r"pub (\w+): u32,", "examples/ru
 in_python = numbers(r'\n_NUMBERS = "(.*?)"', r"\w+", "examples/python/hitac.py")
 if not answer == in_rust == in_python:
     sys.exit(f"constants: the answer is {answer} in the header, {in_rust} in rust and {in_python} in python")
+# A frame's numbers have two widths.
+frame = numbers(r"struct hitac_frame {(.*?)};", r"uint(\d+)_t (\w+);", "include/hitac.h")
+in_rust = numbers(r"pub struct Frame {(.*?)}", r"pub (\w+): u(\d+),", "examples/rust/src/raw.rs")
+in_python = numbers(r"class _Frame.*?\[(.*?)\]", r'"(\w+)", ctypes.c_uint(\d+)', "examples/python/hitac.py")
+if not [(name, width) for width, name in frame] == in_rust == in_python:
+    sys.exit(f"constants: a frame is {frame} in the header, {in_rust} in rust and {in_python} in python")
 version = f"{header['VERSION_MAJOR']}.{header['VERSION_MINOR']}.0"
 if found(r'^(version) = "(.*)"$', "examples/rust/Cargo.toml")["version"] != version:
     sys.exit(f"constants: examples/rust/Cargo.toml has not the version {version}")
-print(f"constants: {len(header)}, and the answer's {len(answer)} numbers, are the same in the header, in Rust and in Python")
+print(f"constants: {len(header)}, the answer's {len(answer)} numbers and a frame's {len(frame)} are the same in the header, in Rust and in Python")

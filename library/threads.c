@@ -95,11 +95,23 @@ static void wrong(struct tested *tested, const char *file, const char *place, co
     printf("threads: WRONG: %s, %s%s: %s\n", tested->name, file, place, why);
 }
 
+/* The halted run that the call takes up, if it takes up one: half way to the end of the run, or of zeros if there is none. */
+static void halt_half_way(enum call call)
+{
+    if (call != RESUME)
+        return;
+    uint32_t steps = answer(RUN_HALTING).steps;
+    memset(saved, 0, sizeof saved);
+    if (answer_in(RUN_HALTING, HITAC_RUN_HALTING_WORK, sizeof out, steps / 2).number == HITAC_BUDGET_SPENT)
+        memcpy(saved, state, HITAC_STATE);
+}
+
 /* One call on the files that stand ready, and the number that it must answer. */
 static void expect(struct tested *tested, const char *file, const char *place, uint32_t number)
 {
     char why[80];
     tested->files++;
+    halt_half_way(tested->call);
     if (!ends(tested->call)) {
         snprintf(why, sizeof why, "more than %zu bytes of stack and a page", tested->stack);
         wrong(tested, file, place, why);
@@ -227,7 +239,13 @@ static int takes_flat(enum call call)
 
 static int takes_job(enum call call)
 {
-    return call == RUN || call == SEARCH;
+    return call == RUN || call == SEARCH || call == RUN_HALTING || call == RESUME;
+}
+
+/* A run, whether it may halt or not. */
+static int runs(enum call call)
+{
+    return takes_job(call) && call != SEARCH;
 }
 
 /* A proof, job or flat file that is answered 0, as the entry takes it. */
@@ -255,7 +273,7 @@ static void deep_tables(struct tested *tested)
             field(&other, 3, SHAPES[i].goals, 10);
             field(&other, DEFINED, 1, 1);
         }
-        uint32_t number = tested->call == RUN ? SHAPES[i].as_definition : tested->call == SEARCH ? SHAPES[i].as_search : 0;
+        uint32_t number = runs(tested->call) ? SHAPES[i].as_definition : tested->call == SEARCH ? SHAPES[i].as_search : 0;
         expect(tested, SHAPES[i].name, " in a definition", number);
     }
     rules();
@@ -283,7 +301,7 @@ static void deep_terms(struct tested *tested)
         term(&other, shape);
         if (!job)
             field(&other, 3, shape->goals, 10);
-        uint32_t number = tested->call == RUN ? shape->as_job : job ? shape->as_search : is_hiproof(shape) ? 0 : 3;
+        uint32_t number = runs(tested->call) ? shape->as_job : job ? shape->as_search : is_hiproof(shape) ? 0 : 3;
         expect(tested, shape->name, job ? " in a job" : " in a proof", number);
     }
     other.length = 0;
@@ -327,6 +345,19 @@ static void deep_searches(struct tested *tested)
     field(&other, 3, 1, 10);
     labels(&other, HITAC_MOST_HEIGHT);
     expect(tested, "64 term fields, one in the other", "", 0);
+}
+
+/* Runs that spend all of the budget with as much waiting as there can be of each kind. */
+static void deep_halts(struct tested *tested)
+{
+    recursive(ALTERNATION, DEFINED, ID, HITAC_MOST_GOALS);
+    expect(tested, "alternations in the left term, on 256 goals", "", 24);
+    recursive(SEQUENCE, DEFINED, ID, HITAC_MOST_GOALS);
+    expect(tested, "sequences in the left term, on 256 goals", "", 24);
+    recursive(SEQUENCE, ID, DEFINED, 1);
+    expect(tested, "sequences in the right term", "", 24);
+    recursive(TENSOR, ID, DEFINED, HITAC_MOST_GOALS);
+    expect(tested, "tensors in the right term, on 256 goals", "", 23);
 }
 
 static void entries(size_t count, size_t name)
@@ -461,6 +492,8 @@ static void deep_files(struct tested *tested)
         deep_terms(tested);
     if (tested->call == SEARCH)
         deep_searches(tested);
+    if (tested->call == RUN_HALTING || tested->call == RESUME)
+        deep_halts(tested);
 }
 
 /* What the thread of an entry does, on a stack that it maps for the calls. */
@@ -492,6 +525,8 @@ int main(void)
         {READ_TEXT, "read_text", HITAC_READ_TEXT_STACK, 0, 0, 0},
         {WRITE_TEXT, "write_text", HITAC_WRITE_TEXT_STACK, 0, 0, 0},
         {SEARCH, "search", HITAC_SEARCH_STACK, 0, 0, 0},
+        {RUN_HALTING, "run_halting", HITAC_RUN_HALTING_STACK, 0, 0, 0},
+        {RESUME, "resume", HITAC_RESUME_STACK, 0, 0, 0},
     };
     unsigned failures = 0;
     struct sigaction action;

@@ -2,6 +2,7 @@
 //! in four sizes that double, the last of them at a limit of document 01 or 02.
 
 use crate::files::{self, Files, Keys};
+use crate::halts;
 use crate::searches;
 use crate::texts::{self, Join};
 use boundary::compare::name_of;
@@ -40,7 +41,7 @@ pub struct Family {
     pub unit: &'static str,
     /// The largest size.
     pub most: usize,
-    /// What the calls answer: 0, but for searches that find nothing and proofs that are refused late.
+    /// What the calls answer: 0, but for searches that find nothing, proofs that are refused late, and runs that halt.
     pub number: u32,
     make: Box<dyn Fn(usize) -> Case>,
 }
@@ -95,6 +96,19 @@ fn search(word: &str, title: &'static str, number: u32, make: impl Fn(usize) -> 
     Family { key: called.key(word), title, called, unit: "steps", most: 4_096, number, make: Box::new(make) }
 }
 
+/// A run that may halt, sized by what `unit` names, that answers that number.
+fn halting(
+    entry: Entry,
+    word: &str,
+    title: &'static str,
+    (unit, most): (&'static str, usize),
+    number: u32,
+    make: impl Fn(usize) -> Case + 'static,
+) -> Family {
+    let called = Called::Entry(entry);
+    Family { key: called.key(word), title, called, unit, most, number, make: Box::new(make) }
+}
+
 /// All of them, entry by entry; the counts stand behind check.
 pub fn all() -> Vec<Family> {
     let mut list = Vec::new();
@@ -106,6 +120,8 @@ pub fn all() -> Vec<Family> {
         Entry::ReadText,
         Entry::WriteText,
         Entry::Run,
+        Entry::RunHalting,
+        Entry::Resume,
         Entry::Search,
     ];
     for entry in entries {
@@ -125,7 +141,9 @@ pub fn all() -> Vec<Family> {
                 list.extend(sets.into_iter().flatten())
             }
             Entry::WriteProof => list.extend([of_rules(entry), of_write_proof()].into_iter().flatten()),
-            Entry::Run => list.extend(of_run()),
+            Entry::Run => list.extend(of_run(entry)),
+            Entry::RunHalting => list.extend(of_run(entry).into_iter().chain(of_run_halting())),
+            Entry::Resume => list.extend(of_run(entry).into_iter().chain(of_resume())),
             Entry::Search => list.extend(of_search()),
             Entry::ReadText => list.extend([of_chains(entry), of_labels(entry), of_read_text()].into_iter().flatten()),
             Entry::WriteText => list.extend([of_chains(entry), of_labels(entry)].into_iter().flatten()),
@@ -267,12 +285,45 @@ fn of_read_text() -> Vec<Family> {
     ]
 }
 
-fn of_run() -> Vec<Family> {
-    let entry = Entry::Run;
+/// Runs that end by themselves; a run that is taken up, half way.
+fn of_run(entry: Entry) -> Vec<Family> {
     vec![
         family(entry, "definitions", "definitions in reverse", "definitions", 256, files::definitions_in_reverse),
         family(entry, "alternatives", "failing alternatives", "steps", 4_096, files::failing_alternatives),
         family(entry, "labels", "nested labels", "steps", 4_096, files::job_of_labels),
+    ]
+}
+
+/// Runs that halt with as much of each kind as there can be.
+fn of_run_halting() -> Vec<Family> {
+    let entry = Entry::RunHalting;
+    let (steps, fields, ids, goals) = (("steps", 4_096), ("term fields", 4_096), ("ids", 2_048), ("goals", 227));
+    vec![
+        halting(entry, "alternations", "alternations on 256 goals wait", steps, 24, halts::deep_alternations),
+        halting(entry, "sequences", "sequences wait for the left", steps, 24, halts::deep_sequences),
+        halting(entry, "finished", "sequences wait for the right", steps, 24, halts::many_finished),
+        halting(entry, "used-up", "alternations with used-up goals", steps, 24, halts::many_used_up),
+        halting(entry, "all-labels", "every label waits", fields, 24, halts::all_labels),
+        halting(entry, "all-ids", "every id is finished", ids, 24, halts::all_ids),
+        halting(entry, "eights", "64 goals for each goal", goals, 24, halts::all_eights),
+    ]
+}
+
+/// The same taken up half way, and a state that is forged.
+fn of_resume() -> Vec<Family> {
+    let entry = Entry::Resume;
+    let (steps, fields, ids, goals) = (("steps", 4_096), ("term fields", 4_096), ("ids", 2_048), ("goals", 227));
+    vec![
+        halting(entry, "alternations", "alternations on 256 goals wait", steps, 24, halts::resumed_alternations),
+        halting(entry, "sequences", "sequences wait for the left", steps, 24, halts::resumed_sequences),
+        halting(entry, "finished", "sequences wait for the right", steps, 24, halts::resumed_finished),
+        halting(entry, "used-up", "alternations with used-up goals", steps, 24, halts::resumed_used_up),
+        halting(entry, "all-labels", "every label waits", fields, 0, halts::resumed_labels),
+        halting(entry, "all-ids", "every id is finished", ids, 0, halts::resumed_ids),
+        halting(entry, "definition", "labels of a definition wait", fields, 0, halts::resumed_definition),
+        halting(entry, "eights", "64 goals for each goal", goals, 22, halts::resumed_eights),
+        halting(entry, "no-step", "64 goals for each goal, no step more", goals, 24, halts::no_step_more),
+        halting(entry, "forged", "a state forged in its last byte", steps, 30, halts::forged),
     ]
 }
 
@@ -314,8 +365,8 @@ mod tests {
     #[test]
     fn every_call_is_answered_as_its_family_says() {
         for family in &all() {
-            let may_refuse = [Called::Entry(Entry::Check), Called::Entry(Entry::Search)].contains(&family.called);
-            assert!(family.number == 0 || may_refuse, "{}", family.key);
+            let may_refuse = [Entry::Check, Entry::Search, Entry::RunHalting, Entry::Resume].map(Called::Entry);
+            assert!(family.number == 0 || may_refuse.contains(&family.called), "{}", family.key);
             for size in family.sizes() {
                 let outcome = family.case(size).outcome();
                 assert_eq!(outcome.answer.number, family.number, "{} {size}", family.key);
@@ -337,6 +388,38 @@ mod tests {
         assert_eq!(largest("search-demand").0.steps, 56);
         assert_eq!(largest("search-rules").1.table.len(), 9 * 4_096);
         assert_eq!(largest("search-definitions").1.table.len(), 8 * 255 + 18);
+    }
+
+    /// The states that the largest runs halt with or are taken up from: steps, bytes of finished fields, entries.
+    #[test]
+    fn halted_runs_hold_the_most() {
+        let parts = |state: &[u8]| {
+            let value = |at: usize| usize::from(u16::from_be_bytes([state[at], state[at + 1]]));
+            (value(0), value(2), value(4 + value(2)))
+        };
+        let halted = |key: &str| parts(&largest(key).1.outcome().state);
+        let saved = |key: &str| parts(&largest(key).1.saved);
+        assert_eq!(halted("run_halting-alternations"), (4_096, 0, 2_049));
+        assert_eq!(halted("run_halting-sequences"), (4_096, 0, 2_049));
+        assert_eq!(halted("run_halting-finished"), (4_096, 3 * 1_365, 1_366));
+        assert_eq!(halted("run_halting-used-up"), (4_096, 3 * 1_024, 2_049));
+        assert_eq!(halted("run_halting-all-labels"), (4_095, 0, 4_096));
+        assert_eq!(halted("run_halting-all-ids"), (4_094, 3 * 2_047, 2_048));
+        assert_eq!(halted("run_halting-eights").0, 4_084);
+        for word in ["alternations", "sequences", "finished", "used-up", "all-labels"] {
+            assert_eq!(saved(&format!("resume-{word}")).0, 2_048, "{word}");
+        }
+        assert_eq!(saved("resume-alternations"), (2_048, 0, 1_025));
+        assert_eq!(largest("resume-alternations").0.steps, 4_096);
+        assert_eq!(largest("resume-all-labels").0.steps, 4_096);
+        assert_eq!(largest("resume-eights").0.steps, 4_085);
+        // The families that a run has, too, are of the same files.
+        for word in ["small", "definitions", "alternatives", "labels"] {
+            let [run, halting, resume] =
+                ["run", "run_halting", "resume"].map(|name| largest(&format!("{name}-{word}")).1);
+            assert_eq!((&run.table, &run.other), (&halting.table, &halting.other));
+            assert_eq!((&run.table, &run.other), (&resume.table, &resume.other));
+        }
     }
 
     /// Labels round an id, and ids with one sequence fewer. Here the second engine counts and checks; before a count is

@@ -20,7 +20,7 @@ pub fn small(entry: Entry) -> Files {
     let other = match entry {
         Entry::Check | Entry::Flatten => examples::first_proof(),
         Entry::CheckFlat | Entry::WriteProof => examples::first_flat(),
-        Entry::Run | Entry::Search => job(&[10], &defined(3)),
+        Entry::Run | Entry::Search | Entry::RunHalting | Entry::Resume => job(&[10], &defined(3)),
         Entry::ReadText => FIRST_TERM.as_bytes().to_vec(),
         Entry::WriteText => first_term(),
     };

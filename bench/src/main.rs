@@ -3,6 +3,7 @@
 mod counting;
 mod families;
 mod files;
+mod halts;
 mod measure;
 mod page;
 mod plot;

@@ -3,8 +3,8 @@
 use crate::counting::Counting;
 use crate::families::{Called, Family};
 use boundary::library::{Call, Library};
-use second::generate::case::{Case, Entry};
-use second::Answer;
+use second::generate::case::{Case, Entry, FRAME_FILL};
+use second::{Answer, Frame};
 use std::path::{Path, PathBuf};
 use std::process::Command;
 use std::time::Instant;
@@ -107,6 +107,7 @@ impl Measured {
     fn poison(&mut self) {
         if let Prepared::Entry(call) = &mut self.prepared {
             call.work.fill(165);
+            call.frames.fill(FRAME_FILL);
         }
     }
 }
@@ -116,13 +117,16 @@ struct EntryCall {
     library: Library,
     case: Case,
     work: Vec<u8>,
+    frames: Vec<Frame>,
     output: Vec<u8>,
+    state: Vec<u8>,
 }
 
 impl EntryCall {
     fn new(library: Library, case: Case) -> EntryCall {
         let (work, output) = (vec![165; case.work_length], vec![90; case.output_length]);
-        EntryCall { library, case, work, output }
+        let (frames, state) = (vec![FRAME_FILL; case.frames], vec![60; case.state_length]);
+        EntryCall { library, case, work, frames, output, state }
     }
 
     fn library_call(&mut self) -> Answer {
@@ -130,18 +134,22 @@ impl EntryCall {
             entry: self.case.entry,
             table: (self.case.table.as_ptr(), self.case.table.len()),
             other: (self.case.other.as_ptr(), self.case.other.len()),
+            saved: (self.case.saved.as_ptr(), self.case.saved.len()),
             height: self.case.height,
             budget: self.case.budget,
             work: (self.work.as_mut_ptr(), self.work.len()),
+            frames: (self.frames.as_mut_ptr(), self.frames.len()),
             output: (self.output.as_mut_ptr(), self.output.len()),
+            state: (self.state.as_mut_ptr(), self.state.len()),
         };
-        // SAFETY: four buffers of their own, each as long as it is said.
+        // SAFETY: buffers of their own, each as long as it is said.
         unsafe { self.library.call(&call) }
     }
 
-    /// The second engine clears the work space, too.
+    /// The second engine clears the work space and the frames, too.
     fn second_call(&mut self) -> Answer {
-        let EntryCall { case, work, output, .. } = self;
+        let EntryCall { case, work, frames, output, state, .. } = self;
+        let (table, other, budget) = (&case.table, &case.other, case.budget);
         match case.entry {
             Entry::Check => second::check(&case.table, &case.other, work),
             Entry::Run => second::run(&case.table, &case.other, case.budget, work, output),
@@ -151,6 +159,8 @@ impl EntryCall {
             Entry::ReadText => second::read_text(&case.other, work, output),
             Entry::WriteText => second::write_text(&case.other, work, output),
             Entry::Search => second::search(&case.table, &case.other, case.height, case.budget, work, output),
+            Entry::RunHalting => second::run_halting(table, other, budget, work, frames, output, state),
+            Entry::Resume => second::resume(table, other, &case.saved, budget, work, frames, output, state),
         }
     }
 }

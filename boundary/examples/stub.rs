@@ -2,7 +2,8 @@
 //! environment variable HITAC_STUB_FAULT makes it wrong in one way; without it, it
 //! is right.
 
-use second::Answer;
+use second::limits::STATE_SIZE;
+use second::{Answer, Frame};
 use std::slice::{from_raw_parts, from_raw_parts_mut};
 use std::sync::atomic::{AtomicU32, Ordering::Relaxed};
 
@@ -172,5 +173,81 @@ pub unsafe extern "C" fn hitac_search(
     let (table, job) = (from_raw_parts(table, table_length), from_raw_parts(job, job_length));
     let spaces = (from_raw_parts_mut(work, work_length), from_raw_parts_mut(out, out_length));
     let answer = second::search(table, job, height, budget, spaces.0, spaces.1);
+    spoil(answer, work, work_length, out, out_length)
+}
+
+/// What a wrong engine would do with frames and second space.
+unsafe fn spoil_halt(answer: &mut Answer, frames: (*mut Frame, usize), state: (Space, usize)) {
+    match (fault().as_str(), answer.number) {
+        ("frame", number) if number != 29 => (*frames.0).count = 1,
+        ("frame behind", number) if number != 29 => (*frames.0.add(frames.1)).term ^= 1,
+        // A state that is left there though the run then ended otherwise.
+        ("state of another answer", 0 | 22 | 23) => *state.0.add(1) ^= 1,
+        ("state", 24) => *state.0.add(9) ^= 1,
+        ("state behind", 24) if state.1 > STATE_SIZE => *state.0.add(STATE_SIZE) = 0,
+        ("state not ended with zeros", 24) => *state.0.add(STATE_SIZE - 1) = 1,
+        // Steps that are counted from the halt on.
+        ("steps of a part", 0 | 22 | 23) => answer.steps = answer.steps.saturating_sub(1),
+        ("genuine not tested", 30) => *answer = Answer { number: 23, ..*answer },
+        _ => {}
+    }
+}
+
+/// # Safety
+/// Every pointer is good for its length.
+#[no_mangle]
+#[allow(clippy::too_many_arguments)]
+pub unsafe extern "C" fn hitac_run_halting(
+    table: *const u8,
+    table_length: usize,
+    job: *const u8,
+    job_length: usize,
+    budget: u32,
+    work: Space,
+    work_length: usize,
+    frames: *mut Frame,
+    frames_length: usize,
+    out: Space,
+    out_length: usize,
+    state: Space,
+    state_length: usize,
+) -> Answer {
+    look_at(work, work_length);
+    let (table, job) = (from_raw_parts(table, table_length), from_raw_parts(job, job_length));
+    let spaces = (from_raw_parts_mut(work, work_length), from_raw_parts_mut(out, out_length));
+    let halted = (from_raw_parts_mut(frames, frames_length), from_raw_parts_mut(state, state_length));
+    let mut answer = second::run_halting(table, job, budget, spaces.0, halted.0, spaces.1, halted.1);
+    spoil_halt(&mut answer, (frames, frames_length), (state, state_length));
+    spoil(answer, work, work_length, out, out_length)
+}
+
+/// # Safety
+/// Every pointer is good for its length.
+#[no_mangle]
+#[allow(clippy::too_many_arguments)]
+pub unsafe extern "C" fn hitac_resume(
+    table: *const u8,
+    table_length: usize,
+    job: *const u8,
+    job_length: usize,
+    saved: *const u8,
+    saved_length: usize,
+    budget: u32,
+    work: Space,
+    work_length: usize,
+    frames: *mut Frame,
+    frames_length: usize,
+    out: Space,
+    out_length: usize,
+    state: Space,
+    state_length: usize,
+) -> Answer {
+    look_at(work, work_length);
+    let (table, job) = (from_raw_parts(table, table_length), from_raw_parts(job, job_length));
+    let saved = from_raw_parts(saved, saved_length);
+    let spaces = (from_raw_parts_mut(work, work_length), from_raw_parts_mut(out, out_length));
+    let halted = (from_raw_parts_mut(frames, frames_length), from_raw_parts_mut(state, state_length));
+    let mut answer = second::resume(table, job, saved, budget, spaces.0, halted.0, spaces.1, halted.1);
+    spoil_halt(&mut answer, (frames, frames_length), (state, state_length));
     spoil(answer, work, work_length, out, out_length)
 }

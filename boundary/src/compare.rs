@@ -1,8 +1,9 @@
 //! One case through both engines, and every difference in words.
 
-use crate::lent::{Poison, Purpose, Space};
+use crate::lent::{Frames, Poison, Purpose, Space};
 use crate::library::{Call, Library};
-use second::generate::case::{Case, Entry};
+use second::generate::case::{Case, Entry, Outcome};
+use second::limits::STATE_SIZE;
 use second::Answer;
 
 /// What came of one case.
@@ -20,8 +21,11 @@ pub struct Comparer {
     library: Library,
     table: Space,
     other: Space,
+    saved: Space,
     work: Space,
+    frames: Frames,
     output: Space,
+    state: Space,
     zeros: Vec<u8>,
 }
 
@@ -31,8 +35,11 @@ impl Comparer {
             library,
             table: Space::new(Purpose::Table),
             other: Space::new(Purpose::Other),
+            saved: Space::new(Purpose::Saved),
             work: Space::new(Purpose::Work),
+            frames: Frames::default(),
             output: Space::new(Purpose::Output),
+            state: Space::new(Purpose::State),
             zeros: Vec::new(),
         }
     }
@@ -49,9 +56,12 @@ impl Comparer {
         }
         differences.extend(self.output_fault(expected, &outcome.output));
         differences.extend(self.work_fault(expected));
+        differences.extend(self.frames.fault(expected.number != 29));
+        differences.extend(self.state_fault(case, &outcome));
         differences.extend(self.table.contents_fault(&case.table));
         differences.extend(self.other.contents_fault(&case.other));
-        let spaces = [&self.table, &self.other, &self.work, &self.output];
+        differences.extend(self.saved.contents_fault(&case.saved));
+        let spaces = [&self.table, &self.other, &self.saved, &self.work, &self.output, &self.state];
         differences.extend(spaces.into_iter().filter_map(Space::guard_fault));
         Comparison { expected, given, differences }
     }
@@ -66,18 +76,24 @@ impl Comparer {
     fn call(&mut self, case: &Case, poison: Poison) -> Answer {
         self.table.load(&case.table, poison);
         self.other.load(&case.other, poison);
+        self.saved.load(&case.saved, poison);
         self.work.poison(case.work_length, poison);
+        self.frames.poison(case.frames, poison);
         self.output.poison(case.output_length, poison);
+        self.state.poison(case.state_length, poison);
         let call = Call {
             entry: case.entry,
             table: (self.table.pointer(), self.table.len()),
             other: (self.other.pointer(), self.other.len()),
+            saved: (self.saved.pointer(), self.saved.len()),
             height: case.height,
             budget: case.budget,
             work: (self.work.pointer(), self.work.len()),
+            frames: (self.frames.pointer(), self.frames.len()),
             output: (self.output.pointer(), self.output.len()),
+            state: (self.state.pointer(), self.state.len()),
         };
-        // SAFETY: four separate buffers, each at least as long as it is said.
+        // SAFETY: separate buffers, each at least as long as it is said.
         unsafe { self.library.call(&call) }
     }
 
@@ -88,6 +104,16 @@ impl Comparer {
         let mut should = self.output.as_lent().to_vec();
         should[..length].copy_from_slice(&second_output[..length]);
         self.output.contents_fault(&should)
+    }
+
+    /// A halt "fills the first bytes ... bytes past them untouched; no other answer
+    /// touches it".
+    fn state_fault(&self, case: &Case, outcome: &Outcome) -> Option<String> {
+        let mut should = self.state.as_lent().to_vec();
+        if halts(case.entry, outcome.answer) {
+            should[..STATE_SIZE].copy_from_slice(&outcome.state[..STATE_SIZE]);
+        }
+        self.state.contents_fault(&should)
     }
 
     /// "Work space is all zero afterwards, except after 29, when it is untouched."
@@ -103,6 +129,11 @@ impl Comparer {
     }
 }
 
+/// Whether the answer is that of a halt, which leaves a state in the second space.
+pub fn halts(entry: Entry, answer: Answer) -> bool {
+    entry.may_halt() && answer.number == 24
+}
+
 /// The entry's C name, for messages.
 pub fn name_of(entry: Entry) -> &'static str {
     match entry {
@@ -114,5 +145,7 @@ pub fn name_of(entry: Entry) -> &'static str {
         Entry::ReadText => "read_text",
         Entry::WriteText => "write_text",
         Entry::Search => "search",
+        Entry::RunHalting => "run_halting",
+        Entry::Resume => "resume",
     }
 }

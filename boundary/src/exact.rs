@@ -2,10 +2,13 @@
 //! without contents. A memory checker then sees every access beside a block, and
 //! every decision that depends on what a lent space held before the call.
 
-use crate::compare::Comparison;
+use crate::compare::{halts, Comparison};
 use crate::library::{Call, Library};
 use second::generate::case::Case;
+use second::limits::STATE_SIZE;
+use second::Frame;
 use std::ffi::c_void;
+use std::mem::size_of;
 
 extern "C" {
     fn malloc(size: usize) -> *mut c_void;
@@ -47,24 +50,32 @@ impl Drop for Block {
     }
 }
 
-/// Makes the call and compares what can be compared: after 29 the work space has
-/// no contents, and behind a result the output space has none.
+/// Makes the call and compares what can be compared: after 29 work space and frames
+/// have no contents, behind a result the output space has none, and the second space has
+/// none but those of a halt.
 pub fn compare_exactly(library: &Library, case: &Case) -> Comparison {
     let outcome = case.outcome();
     let expected = outcome.answer;
     let (table, other) = (Block::of_file(&case.table), Block::of_file(&case.other));
+    let saved = Block::of_file(&case.saved);
     let work = Block::without_contents(case.work_length);
+    let frames = Block::without_contents(case.frames * size_of::<Frame>());
     let output = Block::without_contents(case.output_length);
+    let state = Block::without_contents(case.state_length);
     let call = Call {
         entry: case.entry,
         table: (table.start, table.length),
         other: (other.start, other.length),
+        saved: (saved.start, saved.length),
         height: case.height,
         budget: case.budget,
         work: (work.start, work.length),
+        // malloc aligns a block for any number.
+        frames: (frames.start.cast::<Frame>(), case.frames),
         output: (output.start, output.length),
+        state: (state.start, state.length),
     };
-    // SAFETY: four blocks of their own, each as long as it is said.
+    // SAFETY: blocks of their own, each as long as it is said.
     let given = unsafe { library.call(&call) };
     let mut differences = Vec::new();
     if given != expected {
@@ -76,6 +87,12 @@ pub fn compare_exactly(library: &Library, case: &Case) -> Comparison {
         }
         if expected.number != 29 && work.front(work.length).iter().any(|&byte| byte != 0) {
             differences.push("work space: not all zero".to_string());
+        }
+        if expected.number != 29 && frames.front(frames.length).iter().any(|&byte| byte != 0) {
+            differences.push("frames: not all zero".to_string());
+        }
+        if halts(case.entry, expected) && state.front(STATE_SIZE) != &outcome.state[..STATE_SIZE] {
+            differences.push("second space: the halted run differs".to_string());
         }
     }
     Comparison { expected, given, differences }

@@ -1,7 +1,8 @@
 //! Lent spaces with guard bytes around them: poisoned before a call, inspected
 //! after it.
 
-use second::generate::case::{OUTPUT_FILL, WORK_FILL};
+use second::generate::case::{FRAME_FILL, OUTPUT_FILL, STATE_FILL, WORK_FILL};
+use second::Frame;
 
 /// Bytes in front of and behind each space. An odd number, so that no space is
 /// aligned for wider values than bytes.
@@ -27,8 +28,10 @@ impl Poison {
 pub enum Purpose {
     Table,
     Other,
+    Saved,
     Work,
     Output,
+    State,
 }
 
 impl Purpose {
@@ -36,16 +39,18 @@ impl Purpose {
         match self {
             Purpose::Table => "table",
             Purpose::Other => "other file",
+            Purpose::Saved => "saved state",
             Purpose::Work => "work space",
             Purpose::Output => "output space",
+            Purpose::State => "second space",
         }
     }
 
     fn fixed_byte(self) -> u8 {
-        if self == Purpose::Work {
-            WORK_FILL
-        } else {
-            OUTPUT_FILL
+        match self {
+            Purpose::Work => WORK_FILL,
+            Purpose::State => STATE_FILL,
+            _ => OUTPUT_FILL,
         }
     }
 }
@@ -161,6 +166,68 @@ impl Space {
     }
 }
 
+/// Frames in front of and behind those that are lent, which no call may touch.
+const GUARD_FRAMES: usize = 7;
+
+/// Lent frames with guards. A frame is aligned for its numbers, as the language of the
+/// caller has it, so they are no bytes of a `Space`.
+#[derive(Default)]
+pub struct Frames {
+    /// Guard, frames, guard.
+    frames: Vec<Frame>,
+    as_lent: Vec<Frame>,
+}
+
+impl Frames {
+    /// Poisons so many frames and their guards.
+    pub fn poison(&mut self, count: usize, poison: Poison) {
+        let whole = count + 2 * GUARD_FRAMES;
+        self.as_lent.clear();
+        self.as_lent.extend((0..whole).map(|number| poisoned_frame(number, poison)));
+        self.frames.clone_from(&self.as_lent);
+    }
+
+    pub fn pointer(&mut self) -> *mut Frame {
+        self.frames[GUARD_FRAMES..].as_mut_ptr()
+    }
+
+    pub fn len(&self) -> usize {
+        self.frames.len() - 2 * GUARD_FRAMES
+    }
+
+    pub fn is_empty(&self) -> bool {
+        self.len() == 0
+    }
+
+    /// A frame that is not zero, or was touched though it ought not to be, in words.
+    pub fn fault(&self, ought_to_be_zero: bool) -> Option<String> {
+        let lent = GUARD_FRAMES..self.frames.len() - GUARD_FRAMES;
+        for (number, frame) in self.frames.iter().enumerate() {
+            let inside = lent.contains(&number);
+            let should = if inside && ought_to_be_zero { Frame::default() } else { self.as_lent[number] };
+            if *frame != should {
+                return Some(match number.checked_sub(GUARD_FRAMES) {
+                    Some(at) if inside => format!("frame {at} is {frame:?} and should be {should:?}"),
+                    Some(_) => "frames behind those lent were written".to_string(),
+                    None => "frames in front of those lent were written".to_string(),
+                });
+            }
+        }
+        None
+    }
+}
+
+fn poisoned_frame(number: usize, poison: Poison) -> Frame {
+    match poison {
+        Poison::Fixed => FRAME_FILL,
+        Poison::Counting => {
+            let number = number as u32;
+            Frame { term: number * 167 + 13, goals: number * 59 + 1, count: number as u16 + 3, stage: !(number as u16) }
+        }
+        Poison::Ones => Frame { term: u32::MAX, goals: u32::MAX, count: u16::MAX, stage: u16::MAX },
+    }
+}
+
 #[cfg(test)]
 mod tests {
     use super::*;
@@ -178,6 +245,25 @@ mod tests {
                 let inside = (GUARD..GUARD + 100).contains(&at);
                 assert_eq!(space.guard_fault().is_none(), inside);
                 assert_eq!(space.contents_fault(space.as_lent()).is_some(), inside);
+            }
+        }
+    }
+
+    #[test]
+    fn every_written_frame_is_seen() {
+        for poison in Poison::ALL {
+            let mut frames = Frames::default();
+            frames.poison(20, poison);
+            assert_eq!((frames.len(), frames.fault(false)), (20, None));
+            assert!(frames.fault(true).is_some());
+            frames.frames[GUARD_FRAMES..GUARD_FRAMES + 20].fill(Frame::default());
+            assert_eq!(frames.fault(true), None);
+            for at in 0..frames.frames.len() {
+                frames.poison(20, poison);
+                frames.frames[at].stage ^= 1;
+                let words = frames.fault(false).unwrap();
+                let inside = (GUARD_FRAMES..GUARD_FRAMES + 20).contains(&at);
+                assert_eq!(words.ends_with("lent were written"), !inside, "{words}");
             }
         }
     }

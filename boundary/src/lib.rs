@@ -1,7 +1,7 @@
 //! The built engine, called through its C functions, beside the second engine.
 //!
 //! - `library`: the shared library and its functions;
-//! - `lent`: lent spaces with guard bytes, poisoned before a call, inspected after;
+//! - `lent`: lent spaces and frames with guards, poisoned before a call, inspected after;
 //! - `compare`: one case through both engines, and every difference in words;
 //! - `exact`: one case in heap blocks of exact size, for a memory checker;
 //! - `mix`: generated cases of all kinds, each determined by seed and number;

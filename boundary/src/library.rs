@@ -1,7 +1,7 @@
 //! Shared libraries, loaded by path, and the C functions of the entries.
 
 use second::generate::case::Entry;
-use second::Answer;
+use second::{Answer, Frame};
 use std::ffi::{c_char, c_int, c_void, CStr, CString};
 use std::mem::transmute;
 use std::os::unix::ffi::OsStrExt;
@@ -11,6 +11,8 @@ use std::path::Path;
 pub type File = (*const u8, usize);
 /// Pointer and length of a lent space.
 pub type Lent = (*mut u8, usize);
+/// Pointer and number of lent frames.
+pub type LentFrames = (*mut Frame, usize);
 
 pub type CheckFunction = unsafe extern "C" fn(*const u8, usize, *const u8, usize, *mut u8, usize) -> Answer;
 pub type WriteFunction =
@@ -22,11 +24,47 @@ pub type RunFunction =
 pub type SearchFunction =
     unsafe extern "C" fn(*const u8, usize, *const u8, usize, u32, u32, *mut u8, usize, *mut u8, usize) -> Answer;
 
+/// As a run, with frames behind the work space and a second space behind the output.
+pub type RunHaltingFunction = unsafe extern "C" fn(
+    *const u8,
+    usize,
+    *const u8,
+    usize,
+    u32,
+    *mut u8,
+    usize,
+    *mut Frame,
+    usize,
+    *mut u8,
+    usize,
+    *mut u8,
+    usize,
+) -> Answer;
+
+/// The same with a saved state in front of the budget.
+pub type ResumeFunction = unsafe extern "C" fn(
+    *const u8,
+    usize,
+    *const u8,
+    usize,
+    *const u8,
+    usize,
+    u32,
+    *mut u8,
+    usize,
+    *mut Frame,
+    usize,
+    *mut u8,
+    usize,
+    *mut u8,
+    usize,
+) -> Answer;
+
 /// Takes one file and no table, and writes.
 pub type TextFunction = unsafe extern "C" fn(*const u8, usize, *mut u8, usize, *mut u8, usize) -> Answer;
 
 /// The functions of the entries. `Answer` of the second engine has the layout of the C
-/// struct: twelve u32 in the order of docs/ENTRIES.md.
+/// struct: twelve u32 in the order of docs/ENTRIES.md; `Frame` has that of the header.
 #[derive(Clone, Copy)]
 pub struct Library {
     pub check: CheckFunction,
@@ -37,17 +75,23 @@ pub struct Library {
     pub read_text: TextFunction,
     pub write_text: TextFunction,
     pub search: SearchFunction,
+    pub run_halting: RunHaltingFunction,
+    pub resume: ResumeFunction,
 }
 
-/// What one call is given.
+/// What one call is given. Saved state, frames and second space count only for the
+/// entries that may halt.
 pub struct Call {
     pub entry: Entry,
     pub table: File,
     pub other: File,
+    pub saved: File,
     pub height: u32,
     pub budget: u32,
     pub work: Lent,
+    pub frames: LentFrames,
     pub output: Lent,
+    pub state: Lent,
 }
 
 extern "C" {
@@ -100,6 +144,8 @@ impl Library {
                 read_text: transmute::<*mut c_void, TextFunction>(loaded.symbol(c"hitac_read_text")?),
                 write_text: transmute::<*mut c_void, TextFunction>(loaded.symbol(c"hitac_write_text")?),
                 search: transmute::<*mut c_void, SearchFunction>(loaded.symbol(c"hitac_search")?),
+                run_halting: transmute::<*mut c_void, RunHaltingFunction>(loaded.symbol(c"hitac_run_halting")?),
+                resume: transmute::<*mut c_void, ResumeFunction>(loaded.symbol(c"hitac_resume")?),
             })
         }
     }
@@ -109,7 +155,7 @@ impl Library {
     /// # Safety
     /// Every pointer is good for its length, and no two regions overlap.
     pub unsafe fn call(&self, call: &Call) -> Answer {
-        let Call { entry, table, other, height, budget, work, output } = *call;
+        let Call { entry, table, other, saved, height, budget, work, frames, output, state } = *call;
         match entry {
             Entry::Check => (self.check)(table.0, table.1, other.0, other.1, work.0, work.1),
             Entry::CheckFlat => (self.check_flat)(table.0, table.1, other.0, other.1, work.0, work.1),
@@ -124,6 +170,14 @@ impl Library {
                 let (table, length, other, other_length) = (table.0, table.1, other.0, other.1);
                 (self.search)(table, length, other, other_length, height, budget, work.0, work.1, output.0, output.1)
             }
+            Entry::RunHalting => (self.run_halting)(
+                table.0, table.1, other.0, other.1, budget, work.0, work.1, frames.0, frames.1, output.0, output.1,
+                state.0, state.1,
+            ),
+            Entry::Resume => (self.resume)(
+                table.0, table.1, other.0, other.1, saved.0, saved.1, budget, work.0, work.1, frames.0, frames.1,
+                output.0, output.1, state.0, state.1,
+            ),
         }
     }
 }

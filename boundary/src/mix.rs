@@ -139,7 +139,7 @@ fn fitting(entry: Entry, size: Size, random: &mut Random) -> (RandomTable, Case)
 
 /// A case whose spaces are still to be lent; `Case::new` would run it first.
 fn bare_case(entry: Entry, table: Vec<u8>, other: Vec<u8>) -> Case {
-    Case { entry, table, other, budget: 0, height: 0, work_length: entry.work_size(), output_length: 0 }
+    Case::bare(entry, table, other)
 }
 
 /// Whether it is the table that is to be spoilt: the other file twice as often as
@@ -265,7 +265,7 @@ mod tests {
     #[test]
     fn every_kind_and_every_entry_comes() {
         let mix = Mix::new(1);
-        let cases: Vec<(Kind, Case)> = (0..2_000).map(|number| mix.case(number)).collect();
+        let cases: Vec<(Kind, Case)> = (0..6_000).map(|number| mix.case(number)).collect();
         for kind in Kind::ALL {
             for entry in Entry::ALL {
                 let comes = cases.iter().any(|(its, case)| *its == kind && case.entry == entry);
@@ -286,7 +286,7 @@ mod tests {
     #[test]
     fn every_refusal_of_a_text_comes_at_several_places() {
         let mix = Mix::new(3);
-        let cases = (0..6_000).map(|number| mix.case(number).1).filter(|case| case.entry == Entry::ReadText);
+        let cases = (0..16_000).map(|number| mix.case(number).1).filter(|case| case.entry == Entry::ReadText);
         let answers: Vec<_> = cases.map(|case| case.outcome().answer).collect();
         for number in [5, 36, 37] {
             let places: BTreeSet<u32> =
@@ -346,6 +346,22 @@ mod tests {
                 _ => &[2],
             };
             assert_eq!(numbers, expected.iter().copied().collect(), "{entry:?}");
+        }
+    }
+
+    /// Runs halt at any step and are taken up from states that are theirs and from forged ones, so that every ending comes often.
+    #[test]
+    fn every_ending_of_a_run_that_may_halt_comes() {
+        let mix = Mix::new(8);
+        let cases: Vec<Case> = (0..16_000).map(|number| mix.case(number).1).collect();
+        for entry in Entry::THAT_HALT {
+            let of_entry = cases.iter().filter(|case| case.entry == entry);
+            let answers: Vec<_> = of_entry.map(|case| case.outcome().answer).collect();
+            for number in [0, 23, 24, 25, 26, 29, 30] {
+                let count = answers.iter().filter(|answer| answer.number == number).count();
+                let never = number == 30 && entry == Entry::RunHalting;
+                assert!(if never { count == 0 } else { count > 9 }, "{entry:?}, {number}: {count}");
+            }
         }
     }
 

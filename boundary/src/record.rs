@@ -34,6 +34,10 @@ fn describe(case: &Case, differences: &[String], vector: &Path) -> String {
         case.work_length,
         case.output_length,
     );
+    if case.entry.may_halt() {
+        let (saved, frames, state) = (case.saved.len(), case.frames, case.state_length);
+        let _ = writeln!(text, "  saved state of {saved} bytes, {frames} frames, second space of {state} bytes");
+    }
     for difference in differences {
         let _ = writeln!(text, "  {difference}");
     }

@@ -134,6 +134,6 @@ mod tests {
         assert_eq!(tally.refusals(), [23]);
         assert_eq!((tally.answered_by(Entry::Run, 23), tally.answered_by(Entry::Check, 23)), (1, 0));
         assert_eq!((tally.cases_of(Entry::Run), tally.cases_of(Entry::Flatten)), (1, 0));
-        assert!(tally.table().ends_with("| all | 1 | 1 | 0 | 0 | 0 | 0 | 0 | 0 |\n"));
+        assert!(tally.table().ends_with("| all | 1 | 1 | 0 | 0 | 0 | 0 | 0 | 0 | 0 | 0 |\n"));
     }
 }

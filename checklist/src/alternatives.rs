@@ -7,6 +7,7 @@ use crate::tree::{alternation, label, sequence, tensor, Parts, Tree};
 use boundary::tally::with_commas;
 use second::generate::case::{Case, Entry};
 use second::generate::examples;
+use second::generate::halting::state_at;
 use second::generate::random::Random;
 use second::generate::random_file::random_job;
 use second::generate::random_table::{RandomTable, Size};
@@ -26,7 +27,9 @@ pub fn inspect(inspector: &mut Inspector) -> Result<String, String> {
     }
     let runs = [0, 23, 24].map(|number| inspector.tally.answered_by(Entry::Run, number));
     let searches = [0, 41, 24].map(|number| inspector.tally.answered_by(Entry::Search, number));
-    if [runs, searches].concat().contains(&0) || unchanged == 0 {
+    let halted = inspector.tally.answered_by(Entry::RunHalting, 24);
+    let resumed = [0, 23].map(|number| inspector.tally.answered_by(Entry::Resume, number));
+    if [&runs[..], &searches, &resumed, &[halted, unchanged]].concat().contains(&0) {
         return Err("a kind of ending did not occur".to_string());
     }
     let of = |entry| with_commas(inspector.tally.cases_of(entry));
@@ -36,8 +39,10 @@ pub fn inspect(inspector: &mut Inspector) -> Result<String, String> {
     Ok(format!(
         "{} runs: {proofs} proofs, {failed} failed, {spent} out of budget; \
          {unchanged} proofs not altered by a failing alternative; \
+         {} runs halted half way and taken up; \
          {} searches: {found} proofs, {none} without an evaluation, {ended} out of budget",
         of(Entry::Run),
+        with_commas(halted),
         of(Entry::Search)
     ))
 }
@@ -96,10 +101,24 @@ fn whole_tactic(inspector: &mut Inspector, table: &[u8], job: &[u8]) -> u64 {
                 inspector.demand(same == proof, &case, "a failing alternative altered the proof");
                 unchanged += 1;
             }
+            in_two_pieces(inspector, &case, with_alternative, &same);
             search(inspector, &case, with_alternative);
         }
     }
     unchanged
+}
+
+/// A run that is halted half way, mostly in an alternative, and taken up comes to what it
+/// comes to in one piece, to the byte.
+fn in_two_pieces(inspector: &mut Inspector, run: &Case, ran: Answer, proof: &[u8]) {
+    let (table, job) = (&run.table, &run.other);
+    let half = ran.steps / 2;
+    inspector.call(&Case::new(Entry::RunHalting, table, job).with_budget(half));
+    if let Some(saved) = state_at(table, job, half) {
+        let case = Case::resumed(table, job, &saved);
+        let (taken_up, same) = inspector.call(&case);
+        inspector.demand(taken_up == ran && same == proof, &case, "a run in two pieces is not the run in one");
+    }
 }
 
 /// A search on the files of a run. An evaluation is no higher than the terms that
@@ -136,10 +155,11 @@ fn every_position(inspector: &mut Inspector, table: &[u8], job: &[u8]) {
         for change in changes {
             let term = parts.term.changed_at(position, change);
             let case = Case::new(Entry::Run, table, &parts.with(term).job());
-            let (answer, _) = inspector.call(&case);
+            let (answer, proof) = inspector.call(&case);
             for budget in [answer.steps.saturating_sub(1), answer.steps / 2] {
                 inspector.call(&case.clone().with_budget(budget));
             }
+            in_two_pieces(inspector, &case, answer, &proof);
             search(inspector, &case, answer);
         }
     }

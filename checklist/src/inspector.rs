@@ -111,6 +111,7 @@ impl Inspector {
 mod tests {
     use super::*;
     use second::generate::examples;
+    use second::Frame;
     use std::slice::{from_raw_parts, from_raw_parts_mut};
 
     unsafe extern "C" fn check(
@@ -180,6 +181,44 @@ mod tests {
         Answer::default()
     }
 
+    unsafe extern "C" fn no_halt(
+        _: *const u8,
+        _: usize,
+        _: *const u8,
+        _: usize,
+        _: u32,
+        _: *mut u8,
+        _: usize,
+        _: *mut Frame,
+        _: usize,
+        _: *mut u8,
+        _: usize,
+        _: *mut u8,
+        _: usize,
+    ) -> Answer {
+        Answer::default()
+    }
+
+    unsafe extern "C" fn no_resume(
+        _: *const u8,
+        _: usize,
+        _: *const u8,
+        _: usize,
+        _: *const u8,
+        _: usize,
+        _: u32,
+        _: *mut u8,
+        _: usize,
+        _: *mut Frame,
+        _: usize,
+        _: *mut u8,
+        _: usize,
+        _: *mut u8,
+        _: usize,
+    ) -> Answer {
+        Answer::default()
+    }
+
     unsafe extern "C" fn no_text(_: *const u8, _: usize, _: *mut u8, _: usize, _: *mut u8, _: usize) -> Answer {
         Answer::default()
     }
@@ -195,6 +234,8 @@ mod tests {
             read_text: no_text,
             write_text: no_text,
             search: no_search,
+            run_halting: no_halt,
+            resume: no_resume,
         };
         Inspector::new(library, 1, &std::env::temp_dir().join(folder)).unwrap()
     }

@@ -3,9 +3,11 @@
 use crate::inspector::Inspector;
 use boundary::tally::with_commas;
 use second::generate::case::{Case, Entry};
+use second::generate::halting::state_at;
 use second::generate::random::Random;
 use second::generate::random_table::{RandomTable, Size};
 use second::generate::{build, examples, limit_files, other_file, reading, texts};
+use second::limits::{MOST_FRAMES, STATE_SIZE};
 use second::{Answer, Reason};
 
 pub fn inspect(inspector: &mut Inspector) -> Result<String, String> {
@@ -22,7 +24,11 @@ pub fn inspect(inspector: &mut Inspector) -> Result<String, String> {
         if entry.takes_proof() {
             lent_spaces(inspector, entry, &[]);
         }
+        if entry.may_halt() {
+            frames_and_second_spaces(inspector, entry);
+        }
     }
+    torn_states(inspector);
     refusals_of_the_walk(inspector);
     reasons(inspector);
     let refusals = inspector.tally.refusals().len();
@@ -40,7 +46,7 @@ pub fn inspect(inspector: &mut Inspector) -> Result<String, String> {
 fn good_file(entry: Entry) -> Vec<u8> {
     match entry {
         Entry::Check | Entry::Flatten => reading::proof_with_every_term(),
-        Entry::Run | Entry::Search => reading::job_with_tactic_terms(),
+        Entry::Run | Entry::Search | Entry::RunHalting | Entry::Resume => reading::job_with_tactic_terms(),
         Entry::CheckFlat | Entry::WriteProof => reading::flat_with_every_entry(),
         Entry::ReadText => texts::EVERY_MARK.as_bytes().to_vec(),
         Entry::WriteText => texts::term_with_every_field(),
@@ -162,6 +168,53 @@ fn lent_spaces(inspector: &mut Inspector, entry: Entry, other: &[u8]) {
     }
 }
 
+/// 29 with frames and second spaces around their borders, for a run that halts and for
+/// one that does not.
+fn frames_and_second_spaces(inspector: &mut Inspector, entry: Entry) {
+    let good = Case::new(entry, &reading::table_with_every_field(), &good_file(entry));
+    for budget in [1, good.budget] {
+        let case = good.clone().with_budget(budget);
+        for frames in [0, 1, MOST_FRAMES / 2, MOST_FRAMES - 1, MOST_FRAMES, MOST_FRAMES + 1, MOST_FRAMES + 100] {
+            inspector.call(&case.clone().with_frames(frames));
+        }
+        for length in [0, 1, STATE_SIZE / 2, STATE_SIZE - 1, STATE_SIZE, STATE_SIZE + 1, STATE_SIZE + 4_096] {
+            inspector.call(&case.clone().with_state(length));
+        }
+    }
+}
+
+/// Halted runs that are torn, too long, changed in a byte, or of another table or job:
+/// only their own bytes are taken up.
+fn torn_states(inspector: &mut Inspector) {
+    let (table, job) = (examples::table_a(), build::job(&[10], &build::defined(3)));
+    for steps in [0, 10, 16] {
+        let state = state_at(&table, &job, steps).expect("the run has 19 steps");
+        let contents = state.iter().rposition(|&byte| byte != 0).map_or(0, |last| last + 1);
+        let lengths = (0..contents + 2).chain([STATE_SIZE / 2, STATE_SIZE - 1]);
+        let torn = lengths.map(|length| state[..length].to_vec());
+        let longer = [1, 100].map(|more| [&state[..], &vec![0; more]].concat());
+        let changed = (0..contents + 2).chain([STATE_SIZE - 1]).map(|at| {
+            let mut bytes = state.clone();
+            bytes[at] ^= 1;
+            bytes
+        });
+        for saved in torn.chain(longer).chain(changed) {
+            let case = Case::resumed(&table, &job, &saved);
+            let (answer, _) = inspector.call(&case);
+            inspector.demand([25, 30].contains(&answer.number), &case, "a state that is not genuine was taken up");
+        }
+        let case = Case::resumed(&table, &job, &state);
+        let (answer, _) = inspector.call(&case);
+        inspector.demand(answer.number == 0, &case, "a genuine state was not taken up");
+        for foreign in [Vec::new(), examples::table_of_eight(), examples::propositional_table()] {
+            inspector.call(&Case::resumed(&foreign, &job, &state));
+        }
+        for foreign in [build::job(&[20], &build::defined(3)), build::job(&[10], &build::id())] {
+            inspector.call(&Case::resumed(&table, &foreign, &state));
+        }
+    }
+}
+
 /// Proofs that do not validate: 20, 34 and 35 at each sort of term that can have them.
 fn reasons(inspector: &mut Inspector) {
     let (id, pair) = (build::id(), build::tensor(&build::id(), &build::id()));
@@ -195,6 +248,8 @@ fn refusals_of_the_walk(inspector: &mut Inspector) {
         inspector.call_with_room(Entry::Check, &eights, &examples::eights(count));
         inspector.call_with_room(Entry::Flatten, &eights, &examples::eights(count));
         inspector.call_with_room(Entry::Run, &eights, &job);
+        inspector.call_with_room(Entry::RunHalting, &eights, &job);
+        inspector.call_with_room(Entry::Resume, &eights, &job);
         inspector.call_with_room(Entry::Search, &eights, &job);
     }
     for (entry, files, table) in [
@@ -203,6 +258,8 @@ fn refusals_of_the_walk(inspector: &mut Inspector) {
         (Entry::CheckFlat, limit_files::flats(), limit_files::chain_table()),
         (Entry::WriteProof, limit_files::flats(), limit_files::chain_table()),
         (Entry::Run, limit_files::jobs(), examples::table_a()),
+        (Entry::RunHalting, limit_files::jobs(), examples::table_a()),
+        (Entry::Resume, limit_files::jobs(), examples::table_a()),
         (Entry::Search, limit_files::jobs(), examples::table_a()),
         (Entry::ReadText, texts::limit_texts(), Vec::new()),
         (Entry::WriteText, texts::limit_terms(), Vec::new()),

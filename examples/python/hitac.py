@@ -11,7 +11,7 @@ from typing import NamedTuple
 
 # The version of the header that this module follows.
 VERSION_MAJOR = 2
-VERSION_MINOR = 0
+VERSION_MINOR = 2
 
 CHECK_WORK = 65536
 RUN_WORK = 1290752
@@ -21,6 +21,12 @@ WRITE_PROOF_WORK = 65536
 READ_TEXT_WORK = 196608
 WRITE_TEXT_WORK = 36864
 SEARCH_WORK = 2496256
+RUN_HALTING_WORK = 1377292
+RESUME_WORK = 1377292
+
+# What the runs that may halt are lent besides: frames, and bytes for the halted run.
+FRAMES = 4096
+STATE = 86540
 
 # Machine stack that each call needs, in bytes, besides what Python takes: for threads with small stacks.
 CHECK_STACK = 1536
@@ -31,6 +37,8 @@ WRITE_PROOF_STACK = 172032
 READ_TEXT_STACK = 512
 WRITE_TEXT_STACK = 1024
 SEARCH_STACK = 1536
+RUN_HALTING_STACK = 200704
+RESUME_STACK = 200704
 
 LONGEST_PROOF = 21510
 LONGEST_FLAT = 16131
@@ -60,6 +68,7 @@ class Cause(enum.IntEnum):
     FLAT_WRONG = 27
     ENTRIES_TOO_MANY = 28
     WORK_TOO_SHORT = 29
+    STATE_NOT_GENUINE = 30
     GOAL_COUNT_WRONG = 34
     GOALS_TOO_FEW = 35
     TEXT_WRONG = 36
@@ -125,6 +134,12 @@ class Ran(NamedTuple):
     steps: int
 
 
+class Halted(NamedTuple):
+    """A run whose budget is spent, as bytes: for Engine.resume, and for a debugger that shows it."""
+
+    state: bytes
+
+
 # The last three are always 0 in this version; for later calls.
 _NUMBERS = "number file place steps length fields uses remaining rules goals longest tactic"
 
@@ -133,8 +148,19 @@ class _Answer(ctypes.Structure):
     _fields_ = [(name, ctypes.c_uint32) for name in _NUMBERS.split()]
 
 
+class _Frame(ctypes.Structure):
+    _fields_ = [
+        ("term", ctypes.c_uint32),
+        ("goals", ctypes.c_uint32),
+        ("count", ctypes.c_uint16),
+        ("stage", ctypes.c_uint16),
+    ]
+
+
 _FILE = [ctypes.c_char_p, ctypes.c_size_t]
 _SPACE = [ctypes.POINTER(ctypes.c_char), ctypes.c_size_t]
+# Of the runs that may halt: work space, frames, output space, and the space for the halted run.
+_HALTING = _SPACE + [ctypes.POINTER(_Frame), ctypes.c_size_t] + _SPACE + _SPACE
 _CALLS = {
     "hitac_check": _FILE + _FILE + _SPACE,
     "hitac_run": _FILE + _FILE + [ctypes.c_uint32] + _SPACE + _SPACE,
@@ -144,6 +170,8 @@ _CALLS = {
     "hitac_read_text": _FILE + _SPACE + _SPACE,
     "hitac_write_text": _FILE + _SPACE + _SPACE,
     "hitac_search": _FILE + _FILE + [ctypes.c_uint32, ctypes.c_uint32] + _SPACE + _SPACE,
+    "hitac_run_halting": _FILE + _FILE + [ctypes.c_uint32] + _HALTING,
+    "hitac_resume": _FILE + _FILE + _FILE + [ctypes.c_uint32] + _HALTING,
 }
 
 
@@ -176,6 +204,8 @@ class Engine:
         # the most demanding call is the search
         self._work = ctypes.create_string_buffer(SEARCH_WORK)
         self._out = ctypes.create_string_buffer(max(LONGEST_PROOF, LONGEST_FLAT, LONGEST_TERM, LONGEST_TEXT))
+        self._frames = (_Frame * FRAMES)()
+        self._state = ctypes.create_string_buffer(STATE)
 
     def version(self):
         """The version of the library that is loaded."""
@@ -192,6 +222,17 @@ class Engine:
         _need_32_bits("a budget", budget)
         answer = self._writes("hitac_run", RUN_WORK, table, job, budget)
         return Ran(self._result(answer), answer.steps)
+
+    def run_halting(self, table, job, budget):
+        """As run, but a run whose budget is spent is no refusal: it is Halted. With a budget of 0 it halts before the first term."""
+        _need_32_bits("a budget", budget)
+        return self._steps("hitac_run_halting", RUN_HALTING_WORK, (table, job), budget)
+
+    def resume(self, table, job, saved, budget):
+        """Goes on with a halted run of the same table and job for so many more steps, all together 4,096 at most; comes to what
+        run_halting comes to with all of them."""
+        _need_32_bits("a budget", budget)
+        return self._steps("hitac_resume", RESUME_WORK, (table, job, saved), budget)
 
     def search(self, table, job, height, budget):
         """Looks for an evaluation of the job's tactic that is at most so many rules high, 64 at most, in at most so many steps,
@@ -232,6 +273,15 @@ class Engine:
         call = getattr(self._library, name)
         spaces = (self._work, size, self._out, len(self._out))
         return _succeeded(call(table, len(table), other, len(other), *numbers, *spaces))
+
+    def _steps(self, name, size, files, budget):
+        call = getattr(self._library, name)
+        lengths = (number for file in files for number in (file, len(file)))
+        spaces = (self._work, size, self._frames, FRAMES, self._out, len(self._out), self._state, STATE)
+        answer = call(*lengths, budget, *spaces)
+        if answer.number == Cause.BUDGET_SPENT:
+            return Halted(self._state.raw)
+        return Ran(self._result(_succeeded(answer)), answer.steps)
 
     def _converts(self, name, size, file):
         call = getattr(self._library, name)

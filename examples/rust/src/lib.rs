@@ -7,10 +7,13 @@ use std::fmt;
 
 /// Machine stack that each call needs, in bytes, besides what this wrapper takes: for threads with small stacks.
 pub use raw::{
-    CHECK_FLAT_STACK, CHECK_STACK, FLATTEN_STACK, READ_TEXT_STACK, RUN_STACK, SEARCH_STACK, WRITE_PROOF_STACK,
-    WRITE_TEXT_STACK,
+    CHECK_FLAT_STACK, CHECK_STACK, FLATTEN_STACK, READ_TEXT_STACK, RESUME_STACK, RUN_HALTING_STACK, RUN_STACK,
+    SEARCH_STACK, WRITE_PROOF_STACK, WRITE_TEXT_STACK,
 };
 pub use refusal::{Cause, File, Refusal};
+
+/// Bytes of a halted run.
+pub const STATE: usize = raw::STATE;
 
 /// The version of the header that this wrapper follows.
 pub const VERSION: Version = Version { major: raw::VERSION_MAJOR, minor: raw::VERSION_MINOR };
@@ -68,10 +71,20 @@ pub struct Ran {
     pub steps: u32,
 }
 
+/// What a run that may halt comes to.
+#[derive(Clone, Debug, PartialEq, Eq)]
+pub enum Stepped {
+    Ended(Ran),
+    /// The budget is spent; the bytes are the halted run, for `Engine::resume` and for a debugger that shows it.
+    Halted(Vec<u8>),
+}
+
 /// The space that is lent to the calls. One value serves any number of calls, one after the other.
 pub struct Engine {
     work: Vec<u8>,
+    frames: Vec<raw::Frame>,
     out: Vec<u8>,
+    state: Vec<u8>,
 }
 
 impl Engine {
@@ -84,8 +97,13 @@ impl Engine {
             "the library has version {major}.{minor}, not {VERSION}"
         );
         let longest = [raw::LONGEST_PROOF, raw::LONGEST_FLAT, raw::LONGEST_TERM, raw::LONGEST_TEXT];
-        // The most demanding call is the search.
-        Engine { work: vec![0; raw::SEARCH_WORK], out: vec![0; longest.into_iter().fold(0, usize::max)] }
+        Engine {
+            // The most demanding call is the search.
+            work: vec![0; raw::SEARCH_WORK],
+            frames: vec![raw::Frame::default(); raw::FRAMES],
+            out: vec![0; longest.into_iter().fold(0, usize::max)],
+            state: vec![0; raw::STATE],
+        }
     }
 
     // Each call is lent no more work space than it needs, because it clears all that it was lent.
@@ -103,6 +121,19 @@ impl Engine {
         let work = &mut self.work[..raw::RUN_WORK];
         let answer = succeeded(raw::run(table, job, budget, work, &mut self.out))?;
         Ok(Ran { proof: self.result(answer), steps: answer.steps })
+    }
+
+    /// As `run`; a run whose budget is spent is halted, which is no refusal here. With a budget of 0 it halts before the first term.
+    pub fn run_halting(&mut self, table: &[u8], job: &[u8], budget: u32) -> Result<Stepped, Refusal> {
+        let answer = raw::run_halting(table, job, budget, self.lent(raw::RUN_HALTING_WORK));
+        self.stepped(answer)
+    }
+
+    /// Goes on with a halted run of the same table and job for so many more steps, all together 4,096 at most; comes to what
+    /// `run_halting` comes to with all of them.
+    pub fn resume(&mut self, table: &[u8], job: &[u8], saved: &[u8], budget: u32) -> Result<Stepped, Refusal> {
+        let answer = raw::resume(table, job, saved, budget, self.lent(raw::RESUME_WORK));
+        self.stepped(answer)
     }
 
     /// Looks for an evaluation of the job's tactic that is at most so many rules high, 64 at most, in at most so many steps, of
@@ -146,6 +177,19 @@ impl Engine {
         let work = &mut self.work[..raw::WRITE_TEXT_WORK];
         let answer = succeeded(raw::write_text(term, work, &mut self.out))?;
         Ok(String::from_utf8(self.result(answer)).expect("the notation has bytes of ASCII only"))
+    }
+
+    fn lent(&mut self, work: usize) -> raw::Lent<'_> {
+        let Engine { work: space, frames, out, state } = self;
+        raw::Lent { work: &mut space[..work], frames, out, state }
+    }
+
+    fn stepped(&self, answer: raw::Answer) -> Result<Stepped, Refusal> {
+        if answer.number == Cause::BudgetSpent as u32 {
+            return Ok(Stepped::Halted(self.state.clone()));
+        }
+        let answer = succeeded(answer)?;
+        Ok(Stepped::Ended(Ran { proof: self.result(answer), steps: answer.steps }))
     }
 
     fn result(&self, answer: raw::Answer) -> Vec<u8> {

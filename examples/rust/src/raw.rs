@@ -2,7 +2,7 @@
 
 /// The version of the header that this file follows.
 pub const VERSION_MAJOR: u32 = 2;
-pub const VERSION_MINOR: u32 = 0;
+pub const VERSION_MINOR: u32 = 2;
 
 /// The answer of every call.
 #[repr(C)]
@@ -23,6 +23,16 @@ pub struct Answer {
     pub tactic: u32,
 }
 
+/// Space for a waiting term; what it holds is the engine's affair.
+#[repr(C)]
+#[derive(Clone, Copy, Default)]
+pub struct Frame {
+    pub term: u32,
+    pub goals: u32,
+    pub count: u16,
+    pub stage: u16,
+}
+
 pub const CHECK_WORK: usize = 65536;
 pub const RUN_WORK: usize = 1290752;
 pub const FLATTEN_WORK: usize = 200704;
@@ -31,6 +41,11 @@ pub const WRITE_PROOF_WORK: usize = 65536;
 pub const READ_TEXT_WORK: usize = 196608;
 pub const WRITE_TEXT_WORK: usize = 36864;
 pub const SEARCH_WORK: usize = 2496256;
+pub const RUN_HALTING_WORK: usize = 1377292;
+pub const RESUME_WORK: usize = 1377292;
+
+pub const FRAMES: usize = 4096;
+pub const STATE: usize = 86540;
 
 // Machine stack that each call needs, in bytes; include/hitac.h says what is counted.
 pub const CHECK_STACK: usize = 1536;
@@ -41,6 +56,8 @@ pub const WRITE_PROOF_STACK: usize = 172032;
 pub const READ_TEXT_STACK: usize = 512;
 pub const WRITE_TEXT_STACK: usize = 1024;
 pub const SEARCH_STACK: usize = 1536;
+pub const RUN_HALTING_STACK: usize = 200704;
+pub const RESUME_STACK: usize = 200704;
 
 pub const LONGEST_PROOF: usize = 21510;
 pub const LONGEST_FLAT: usize = 16131;
@@ -88,6 +105,19 @@ extern "C" {
     fn hitac_search(
         table: *const u8, table_length: usize, job: *const u8, job_length: usize, height: u32, budget: u32,
         work: *mut u8, work_length: usize, out: *mut u8, out_length: usize,
+    ) -> Answer;
+
+    fn hitac_run_halting(
+        table: *const u8, table_length: usize, job: *const u8, job_length: usize, budget: u32,
+        work: *mut u8, work_length: usize, frames: *mut Frame, frames_length: usize,
+        out: *mut u8, out_length: usize, state: *mut u8, state_length: usize,
+    ) -> Answer;
+
+    fn hitac_resume(
+        table: *const u8, table_length: usize, job: *const u8, job_length: usize,
+        saved: *const u8, saved_length: usize, budget: u32,
+        work: *mut u8, work_length: usize, frames: *mut Frame, frames_length: usize,
+        out: *mut u8, out_length: usize, state: *mut u8, state_length: usize,
     ) -> Answer;
 }
 
@@ -174,6 +204,39 @@ pub fn search(table: &[u8], job: &[u8], height: u32, budget: u32, work: &mut [u8
         hitac_search(
             table.as_ptr(), table.len(), job.as_ptr(), job.len(), height, budget,
             work.as_mut_ptr(), work.len(), out.as_mut_ptr(), out.len(),
+        )
+    }
+}
+
+/// What the calls that may halt are lent.
+pub struct Lent<'a> {
+    pub work: &'a mut [u8],
+    pub frames: &'a mut [Frame],
+    pub out: &'a mut [u8],
+    pub state: &'a mut [u8],
+}
+
+pub fn run_halting(table: &[u8], job: &[u8], budget: u32, lent: Lent) -> Answer {
+    let Lent { work, frames, out, state } = lent;
+    // SAFETY: as said above.
+    unsafe {
+        hitac_run_halting(
+            table.as_ptr(), table.len(), job.as_ptr(), job.len(), budget,
+            work.as_mut_ptr(), work.len(), frames.as_mut_ptr(), frames.len(),
+            out.as_mut_ptr(), out.len(), state.as_mut_ptr(), state.len(),
+        )
+    }
+}
+
+pub fn resume(table: &[u8], job: &[u8], saved: &[u8], budget: u32, lent: Lent) -> Answer {
+    let Lent { work, frames, out, state } = lent;
+    // SAFETY: as said above.
+    unsafe {
+        hitac_resume(
+            table.as_ptr(), table.len(), job.as_ptr(), job.len(),
+            saved.as_ptr(), saved.len(), budget,
+            work.as_mut_ptr(), work.len(), frames.as_mut_ptr(), frames.len(),
+            out.as_mut_ptr(), out.len(), state.as_mut_ptr(), state.len(),
         )
     }
 }

@@ -24,6 +24,7 @@ pub enum Cause {
     FlatWrong = 27,
     EntriesTooMany = 28,
     WorkTooShort = 29,
+    StateNotGenuine = 30,
     GoalCountWrong = 34,
     GoalsTooFew = 35,
     TextWrong = 36,
@@ -32,7 +33,7 @@ pub enum Cause {
     HeightOutside = 42,
 }
 
-const CAUSES: [Cause; 25] = [
+const CAUSES: [Cause; 26] = [
     Cause::InputTooLong,
     Cause::FieldTorn,
     Cause::TagNotAllowed,
@@ -52,6 +53,7 @@ const CAUSES: [Cause; 25] = [
     Cause::FlatWrong,
     Cause::EntriesTooMany,
     Cause::WorkTooShort,
+    Cause::StateNotGenuine,
     Cause::GoalCountWrong,
     Cause::GoalsTooFew,
     Cause::TextWrong,
