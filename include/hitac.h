@@ -125,10 +125,10 @@ struct hitac_answer hitac_search(const uint8_t *table, size_t table_length,
                                  uint8_t *out, size_t out_length);
 
 /*
- * As hitac_run, for a debugger: if the budget is spent, HITAC_BUDGET_SPENT, the halted run stands in the first HITAC_STATE bytes
- * of state, zeros last; docs/FORMAT.md, "A halted run", has the layout. No other answer touches state. A budget of 0 halts before
- * the first term. Work, frames or state that are too short are HITAC_WORK_TOO_SHORT, also where the run would not halt, and then
- * nothing is touched.
+ * As hitac_run, for a debugger: if the budget is spent, HITAC_BUDGET_SPENT, the run is halted, and its saved state stands in the
+ * first HITAC_STATE bytes of state, zeros last; docs/FORMAT.md, "The saved state of a halted run", has the layout. No other answer
+ * touches state. A budget of 0 halts before the first term. Work, frames or state that are too short are HITAC_WORK_TOO_SHORT, also
+ * where the run would not halt, and then nothing is touched.
  */
 struct hitac_answer hitac_run_halting(const uint8_t *table, size_t table_length,
                                       const uint8_t *job, size_t job_length,
@@ -166,7 +166,7 @@ struct hitac_answer hitac_resume(const uint8_t *table, size_t table_length,
 
 /* What hitac_run_halting and hitac_resume need besides. */
 #define HITAC_FRAMES 4096 /* frames */
-#define HITAC_STATE 86540 /* bytes of a halted run, and so of the space for it */
+#define HITAC_STATE 86540 /* bytes of a saved state, and so of the space for it */
 
 /*
  * Machine stack that each call needs, in bytes, whatever the files: from the arguments and the return address that the
@@ -252,7 +252,7 @@ struct hitac_answer hitac_resume(const uint8_t *table, size_t table_length,
 #define HITAC_TEXT_WRONG 36      /* no text of the notation goes on with this byte, or the text ends early */
 #define HITAC_VALUE_TOO_LARGE 37 /* a value is over 65,535; the place is that of its first digit */
 
-/* Refusal of a halted run. */
+/* Refusal of a saved state. */
 #define HITAC_STATE_NOT_GENUINE 30 /* the table and job, run for its step count, do not halt with just these bytes */
 
 /* Refusals of a search. */

@@ -78,7 +78,7 @@ static void marks(const char *first, size_t times, const char *last)
     text(&other, last, 1);
 }
 
-/* Leaves the halted run of table and job after so many steps in saved; the answer must be that of a halt. */
+/* Leaves the state of table and job after so many steps in saved; the answer must be that of a halt. */
 static void halt_at(uint32_t steps)
 {
     struct hitac_answer got = answer_in(RUN_HALTING, HITAC_RUN_HALTING_WORK, sizeof out, steps);
@@ -87,7 +87,7 @@ static void halt_at(uint32_t steps)
     memcpy(saved, state, HITAC_STATE);
 }
 
-/* The file that a call takes beside the table or alone, for a success; the halted run that is taken up. */
+/* The file that a call takes beside the table or alone, for a success; the saved state that is taken up. */
 static void good_files(enum call call)
 {
     small_table();
@@ -634,7 +634,7 @@ static void bytes_of_a_halt(void)
     static const uint8_t HALT[] = {0, 3, 0, 5, 16, 0, 2,  0, 1, 0, 3,  3, 1, 0, 13, 0, 0, 4,
                                    1, 0, 21, 0, 1, 0, 20, 0, 1, 0, 16, 0, 1, 0, 20};
     halt_at(3);
-    expect("the contents of a halted run", memcmp(saved, HALT, sizeof HALT) == 0);
+    expect("the contents of a saved state", memcmp(saved, HALT, sizeof HALT) == 0);
     expect("zeros behind them", all(saved + sizeof HALT, HITAC_STATE - sizeof HALT, 0));
 }
 

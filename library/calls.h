@@ -8,13 +8,13 @@
 static struct bytes table, other;
 /* As much work space as the most demanding call needs. */
 static uint8_t work[HITAC_SEARCH_WORK], out[HITAC_LONGEST_FILE];
-/* What the runs that halt are lent besides, and the halted run that is taken up; each with a little more room than is needed. */
+/* What the runs that halt are lent besides, and the saved state that is taken up; each with a little more room than is needed. */
 static struct hitac_frame frames[HITAC_FRAMES + 1];
 static uint8_t state[HITAC_STATE + 5], saved[HITAC_STATE + 1];
 
 /*
  * The calls in one form, so that a case is one line. READ_TEXT and WRITE_TEXT take no table: the other file is the text or the
- * term file. A search is at the largest height; searched_at takes another. RESUME takes up the halted run that stands in saved.
+ * term file. A search is at the largest height; searched_at takes another. RESUME takes up the state in saved.
  */
 enum call { CHECK, RUN, FLATTEN, CHECK_FLAT, WRITE_PROOF, READ_TEXT, WRITE_TEXT, SEARCH, RUN_HALTING, RESUME };
 
@@ -81,7 +81,7 @@ static inline size_t work_of(enum call call)
     }
 }
 
-/* Steps that the halted run in saved has made. */
+/* Steps of the state in saved. */
 static inline uint32_t steps_made(void)
 {
     return 256u * saved[0] + saved[1];

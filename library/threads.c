@@ -95,7 +95,7 @@ static void wrong(struct tested *tested, const char *file, const char *place, co
     printf("threads: WRONG: %s, %s%s: %s\n", tested->name, file, place, why);
 }
 
-/* The halted run that the call takes up, if it takes up one: half way to the end of the run, or of zeros if there is none. */
+/* The saved state that the call takes up, if it takes up one: half way to the end of the run, or zeros if there is none. */
 static void halt_half_way(enum call call)
 {
     if (call != RESUME)

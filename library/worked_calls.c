@@ -1,6 +1,7 @@
 /* Runs the worked calls of docs/ENTRIES.md, which library/test puts into worked_calls.inc, on the files of a folder. */
 #include <stdio.h>
 #include <stdlib.h>
+#include <string.h>
 
 #include "hitac.h"
 

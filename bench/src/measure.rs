@@ -46,7 +46,7 @@ pub struct Measured {
 
 /// A call with all that it takes.
 enum Prepared {
-    Entry(EntryCall),
+    Entry(Box<EntryCall>),
     Count(Counting),
 }
 
@@ -71,7 +71,9 @@ impl Measured {
     pub fn new(libraries: &Libraries, family: &Family, size: usize) -> Result<Measured, String> {
         let call = EntryCall::new(Library::load(&libraries.hitac)?, family.case(size));
         match family.called {
-            Called::Entry(_) => Ok(Measured { prepared: Prepared::Entry(call), expected: family.number as usize }),
+            Called::Entry(_) => {
+                Ok(Measured { prepared: Prepared::Entry(Box::new(call)), expected: family.number as usize })
+            }
             Called::Count => Measured::count(&libraries.counting, call),
         }
     }

@@ -92,7 +92,7 @@ pub fn compare_exactly(library: &Library, case: &Case) -> Comparison {
             differences.push("frames: not all zero".to_string());
         }
         if halts(case.entry, expected) && state.front(STATE_SIZE) != &outcome.state[..STATE_SIZE] {
-            differences.push("second space: the halted run differs".to_string());
+            differences.push("second space: the saved state differs".to_string());
         }
     }
     Comparison { expected, given, differences }

@@ -183,7 +183,7 @@ fn frames_and_second_spaces(inspector: &mut Inspector, entry: Entry) {
     }
 }
 
-/// Halted runs that are torn, too long, changed in a byte, or of another table or job:
+/// Saved states that are torn, too long, changed in a byte, or of another table or job:
 /// only their own bytes are taken up.
 fn torn_states(inspector: &mut Inspector) {
     let (table, job) = (examples::table_a(), build::job(&[10], &build::defined(3)));

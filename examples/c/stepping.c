@@ -1,6 +1,6 @@
 /*
  * Steps through the run of a job, one term at a time, as a debugger would: after each step it shows what is finished and what
- * waits, from the bytes of the halted run alone. table.kit and job.tac of a folder.
+ * waits, from its saved state alone. table.kit and job.tac of a folder.
  */
 #include <string.h>
 
@@ -16,10 +16,10 @@ static uint8_t proof[HITAC_LONGEST_PROOF], text[HITAC_LONGEST_TEXT];
 /* The run as it was halted last, and as it is halted next: two spaces, since a call reads one and writes the other. */
 static uint8_t saved[HITAC_STATE], state[HITAC_STATE];
 
-/* What the term of an entry does; docs/FORMAT.md, "A halted run". */
+/* What the term of an entry does; docs/FORMAT.md, "The saved state of a halted run". */
 enum stage { TO_BEGIN, LABEL, SEQUENCE_LEFT, SEQUENCE_RIGHT, TENSOR_LEFT, TENSOR_RIGHT, ALTERNATION_LEFT };
 
-/* Where each entry of the halted run begins, outermost first. A run has at most as many waiting terms as frames. */
+/* Where each entry of the saved state begins, outermost first. A run has at most as many waiting terms as frames. */
 static size_t entries[HITAC_FRAMES + 1], entry_count;
 
 static unsigned value_at(size_t place)

@@ -24,7 +24,7 @@ SEARCH_WORK = 2496256
 RUN_HALTING_WORK = 1377292
 RESUME_WORK = 1377292
 
-# What the runs that may halt are lent besides: frames, and bytes for the halted run.
+# What the runs that may halt are lent besides: frames, and bytes for the saved state.
 FRAMES = 4096
 STATE = 86540
 
@@ -135,7 +135,7 @@ class Ran(NamedTuple):
 
 
 class Halted(NamedTuple):
-    """A run whose budget is spent, as bytes: for Engine.resume, and for a debugger that shows it."""
+    """The saved state of a run whose budget is spent: for Engine.resume, and for a debugger that shows it."""
 
     state: bytes
 
@@ -159,7 +159,7 @@ class _Frame(ctypes.Structure):
 
 _FILE = [ctypes.c_char_p, ctypes.c_size_t]
 _SPACE = [ctypes.POINTER(ctypes.c_char), ctypes.c_size_t]
-# Of the runs that may halt: work space, frames, output space, and the space for the halted run.
+# Of the runs that may halt: work space, frames, output space, and the space for the saved state.
 _HALTING = _SPACE + [ctypes.POINTER(_Frame), ctypes.c_size_t] + _SPACE + _SPACE
 _CALLS = {
     "hitac_check": _FILE + _FILE + _SPACE,

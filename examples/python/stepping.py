@@ -1,11 +1,11 @@
 """Steps through the run of a job, one term at a time, as a debugger would: after each step it shows what is finished and what
-waits, from the bytes of the halted run alone. table.kit and job.tac of a folder."""
+waits, from its saved state alone. table.kit and job.tac of a folder."""
 import pathlib
 import sys
 
 import hitac
 
-# What the term of an entry does; docs/FORMAT.md, "A halted run".
+# What the term of an entry does; docs/FORMAT.md, "The saved state of a halted run".
 TO_BEGIN, LABEL, SEQUENCE_LEFT, SEQUENCE_RIGHT, TENSOR_LEFT, TENSOR_RIGHT, ALTERNATION_LEFT = range(7)
 
 
@@ -15,7 +15,7 @@ def first_field(data):
 
 
 class Halt:
-    """A halted run, taken apart: steps, hiproofs that are finished, and entries of stage, file, place and goals."""
+    """A saved state, taken apart: steps, hiproofs that are finished, and entries of stage, file, place and goals."""
 
     def __init__(self, state):
         self._state, self._at = state, 0

@@ -20,9 +20,9 @@ second: the second Hitac engine
   second run TABLE JOB BUDGET OUT      run the job's tactic, write the proof to OUT
   second run-halting TABLE JOB BUDGET OUT STATE
                                        run likewise; where the budget is spent, write
-                                       the halted run to STATE
+                                       the saved state to STATE
   second resume TABLE JOB SAVED BUDGET OUT STATE
-                                       go on with the halted run SAVED for BUDGET more
+                                       go on from the state SAVED for BUDGET more
                                        steps; STATE may be SAVED again
   second search TABLE JOB HEIGHT BUDGET OUT
                                        look for an evaluation of the job's tactic at

@@ -27,7 +27,8 @@ replay: the built engine against the second engine, through the C functions
   --cases N             how many generated cases (20,000)
   --seed S              which ones (1)
   --only NUMBER         the generated case of that number alone
-  --file VECTORS        the cases of a vector file, each with every poison
+  --file VECTORS        the cases of a vector file, each with every poison; of a file of
+                        over twenty cases only those that differ are named
   --library PATH        the library (target/library/libhitac.so)
   --differences FOLDER  where cases that differ are written (target/differences)
   --threads N           threads that call at the same time (1)
@@ -208,12 +209,16 @@ fn conclude(job: &Job, tally: &Tally, start: Instant) -> ExitCode {
     ExitCode::from(u8::from(tally.differences > 0))
 }
 
+/// A file of so many cases has a line for each of them.
+const MOST_NAMED: usize = 20;
+
 /// The cases of a vector file, each with every poison. The file's expectation is
 /// compared, too: the second engine may have changed since.
 fn replay_file(library: &Library, path: &Path) -> Result<ExitCode, String> {
     let mut comparer = Comparer::new(*library);
     let mut differences = 0;
-    for (number, expected) in record::read(path)?.iter().enumerate() {
+    let cases = record::read(path)?;
+    for (number, expected) in cases.iter().enumerate() {
         let case = &expected.case;
         let mut found = Vec::new();
         for poison in Poison::ALL {
@@ -224,8 +229,11 @@ fn replay_file(library: &Library, path: &Path) -> Result<ExitCode, String> {
             found.extend(comparison.differences.iter().map(|words| format!("{words} (poison {poison:?})")));
         }
         differences += u32::from(!found.is_empty());
-        println!("case {number}, {}: {}", name_of(case.entry), if found.is_empty() { "agrees" } else { "differs" });
+        if cases.len() <= MOST_NAMED || !found.is_empty() {
+            println!("case {number}, {}: {}", name_of(case.entry), if found.is_empty() { "agrees" } else { "differs" });
+        }
         found.iter().for_each(|words| println!("  {words}"));
     }
+    println!("replay: {}, {} cases, {differences} differences", path.display(), with_commas(cases.len() as u64));
     Ok(ExitCode::from(u8::from(differences > 0)))
 }

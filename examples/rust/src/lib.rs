@@ -12,7 +12,7 @@ pub use raw::{
 };
 pub use refusal::{Cause, File, Refusal};
 
-/// Bytes of a halted run.
+/// Bytes of a saved state.
 pub const STATE: usize = raw::STATE;
 
 /// The version of the header that this wrapper follows.
@@ -75,7 +75,7 @@ pub struct Ran {
 #[derive(Clone, Debug, PartialEq, Eq)]
 pub enum Stepped {
     Ended(Ran),
-    /// The budget is spent; the bytes are the halted run, for `Engine::resume` and for a debugger that shows it.
+    /// The budget is spent; the bytes are the saved state, for `Engine::resume` and for a debugger that shows it.
     Halted(Vec<u8>),
 }
 

@@ -1,5 +1,5 @@
 //! Steps through the run of a job, one term at a time, as a debugger would: after each step it shows what is finished and what
-//! waits, from the bytes of the halted run alone. table.kit and job.tac of a folder.
+//! waits, from its saved state alone. table.kit and job.tac of a folder.
 use hitac::{Engine, Refusal, Stepped};
 use std::path::Path;
 use std::{env, error, fs};
@@ -31,7 +31,7 @@ fn main() -> Result<(), Box<dyn error::Error>> {
     Ok(())
 }
 
-/// A halted run, taken apart; docs/FORMAT.md, "A halted run".
+/// A saved state, taken apart; docs/FORMAT.md, "The saved state of a halted run".
 struct Halt<'a> {
     steps: u16,
     /// The hiproofs of left terms, each a field of its own.

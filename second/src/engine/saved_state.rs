@@ -1,4 +1,4 @@
-//! P1: a halted run as bytes, and a run that is taken up from them.
+//! P1: the saved state of a halted run, and a run that is taken up from it.
 //!
 //! "its step count, the fields finished so far, and the waiting terms, each with its
 //! goals still to come, innermost last". docs/FORMAT.md gives the layout; B1.11, B1.15
