@@ -74,7 +74,9 @@ pub enum Ending {
     Halted(Beginning),
 }
 
-pub struct Machine<'a> {
+/// The tactic machine. One that is never asked for its state need not keep the terms that
+/// wait only to be named in it: labels, and sequences whose right term runs.
+pub struct Machine<'a, const KEEPS_ALL: bool> {
     table: &'a Table,
     terms: &'a Terms,
     arities: Arities,
@@ -89,7 +91,7 @@ pub struct Machine<'a> {
 /// Runs the job's term on its goals; a success is written as a proof file with
 /// the goals given as the remaining ones (READINGS A50).
 pub fn run_job(table: &Table, terms: &Terms, job: &Job, budget: u32) -> Result<SuccessfulRun, Refusal> {
-    let mut machine = Machine::new(table, terms);
+    let mut machine = Machine::<false>::new(table, terms);
     match machine.run(job.beginning(), budget)? {
         Ending::Succeeded(remaining) => Ok(machine.success(job, &remaining)),
         Ending::Halted(_) => Err(Refusal::of_run(Reason::BudgetSpent, machine.steps)),
@@ -103,8 +105,8 @@ impl Job {
     }
 }
 
-impl<'a> Machine<'a> {
-    pub fn new(table: &'a Table, terms: &'a Terms) -> Machine<'a> {
+impl<'a, const KEEPS_ALL: bool> Machine<'a, KEEPS_ALL> {
+    pub fn new(table: &'a Table, terms: &'a Terms) -> Machine<'a, KEEPS_ALL> {
         let arities = Arities::find(table, terms);
         Machine { table, terms, arities, steps: 0, waiting: Vec::new(), fields: Vec::new() }
     }
@@ -145,7 +147,9 @@ impl<'a> Machine<'a> {
             Term::Label(_, _) if goals.len() != 1 => Control::Failed,
             Term::Label(label, inner) => {
                 let own_field = self.enter(HiproofField::Label(label));
-                self.waiting.push(Waiting::Label { inner, own_field });
+                if KEEPS_ALL {
+                    self.waiting.push(Waiting::Label { inner, own_field });
+                }
                 begin_inner(inner, goals)
             }
             Term::Sequence(left, right) => {
@@ -216,7 +220,9 @@ impl<'a> Machine<'a> {
     fn resume(&mut self, waiting: Waiting, goals: Goals) -> Result<Control, Refusal> {
         Ok(match waiting {
             Waiting::SequenceLeft { right, own_field } => {
-                self.waiting.push(Waiting::SequenceRight { right, own_field });
+                if KEEPS_ALL {
+                    self.waiting.push(Waiting::SequenceRight { right, own_field });
+                }
                 begin_inner(right, goals)
             }
             Waiting::TensorLeft { right, others, own_field } => {

@@ -4,7 +4,7 @@
 //! goals still to come, innermost last". docs/FORMAT.md gives the layout; B1.11, B1.15
 //! and B1.16 say what was decided.
 
-use super::run::{Beginning, Ending, Machine, Waiting};
+use super::run::{self, Beginning, Ending, Waiting};
 use super::HaltingRun;
 use crate::answer::{Reason, Refusal};
 use crate::format::job::Job;
@@ -13,6 +13,9 @@ use crate::format::terms::{TermNumber, Terms};
 use crate::format::write::{write_hiproof, HiproofField};
 use crate::limits::STATE_SIZE;
 use crate::names::Goal;
+
+/// A machine whose state can be saved.
+type Machine<'a> = run::Machine<'a, true>;
 
 /// Which file a term stands in.
 const IN_TABLE: u8 = 0;
