@@ -31,7 +31,7 @@ pub record HeadGiven (w : List ℕ) (s : State) (waiting : ℕ) : Type 0 where
   pub frames : List M.Frame
   pub runs : Runs table job w s place term goals frames
 
--- The waiting terms written afterwards rest on what the work space held: bytes.
+-- It also tells that the work space held bytes, which the laws of the terms written afterwards need.
 pub record Heads (w : List ℕ) (s : State) (waiting end : ℕ) (v : List ℕ) : Type 0 where
   pub bytes : Bytes w
   pub writes : (table job : List ℕ) (π : M.Place) (t : Term) (g : List Goal) (k : List M.Frame) → Runs table job w s π t g k → Writes w spaceEnd (headBytes (s .steps) k waiting) end v

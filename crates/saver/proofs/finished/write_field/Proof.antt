@@ -1,4 +1,5 @@
 -- `finished::write_field` meets its contract: the field that the frame keeps is copied, or there is none. Assumes nothing.
+use native.Mathlib.Omega.{arith}
 use borrow.Author.Needs.{needs}
 use Rattle.saver.proofs.FinishedLaws.{none-written, field-begins, field-room, field-written}
 use Rattle.saver.proofs.finished.write_field.Statement.{statement}
@@ -20,13 +21,14 @@ sub-size : tie.Need-sub-size
 sub-size c =
     let i = c .before .before .before .before .before .before in
     let a = i .args in
-    field-begins (a .work .now) (a .at) (a .end) (a .to) (i .pre) _ (c .before .before .before .load-frame .ensures) _ (c .before .before .keeps-field .ensures) (c .before .if1 .taken)
+    omega (arith, field-begins (a .work .now) (a .at) (a .end) (a .to) (i .pre) _ (c .before .before .before .load-frame .ensures) _ (c .before .before .keeps-field .ensures) (c .before .if1 .taken))
 
 move-up-requires : tie.Need-move-up-requires
 move-up-requires c κs =
     let i = c .before .before .before .before .before .before .before in
     let a = i .args in
-    field-room (a .work .now) (a .at) (a .end) (a .to) (i .pre) _ (c .before .before .before .before .load-frame .ensures) _ (c .before .before .before .keeps-field .ensures) (c .before .before .if1 .taken)
+    let z = field-room (a .work .now) (a .at) (a .end) (a .to) (i .pre) _ (c .before .before .before .before .load-frame .ensures) _ (c .before .before .before .keeps-field .ensures) (c .before .before .if1 .taken) in
+    (omega (arith, z .0), omega (arith, z .1))
 
 add-result : tie.Need-add-result
 add-result c = search needs

@@ -27,16 +27,16 @@ write-frame-requires : tie.Need-write-frame-requires
 write-frame-requires c κs = search needs
 
 add-clear : tie.Need-add-clear
-add-clear c = search needs
+add-clear c = record { fits = omega (arith, end-within (c .before .before .before .before .before .before .before .before .before .args .work .now) (c .before .before .before .before .before .before .before .before .before .args .s) (c .before .before .before .before .before .before .before .before .before .args .to) (c .before .before .before .before .before .before .before .before .before .pre) _ _ (c .before .before .write-frame .ensures) .0) }
 
 sub-clear : tie.Need-sub-clear
-sub-clear c = end-within (c .before .before .before .before .before .before .before .before .before .args .work .now) (c .before .before .before .before .before .before .before .before .before .args .s) (c .before .before .before .before .before .before .before .before .before .args .to) (c .before .before .before .before .before .before .before .before .before .pre) _ _ (c .before .before .write-frame .ensures) .0
+sub-clear c = omega (arith, end-within (c .before .before .before .before .before .before .before .before .before .args .work .now) (c .before .before .before .before .before .before .before .before .before .args .s) (c .before .before .before .before .before .before .before .before .before .args .to) (c .before .before .before .before .before .before .before .before .before .pre) _ _ (c .before .before .write-frame .ensures) .0)
 
 part-clear-start : tie.Need-part-clear-start
 part-clear-start c = let z = end-within (c .before .before .before .before .before .before .before .before .before .args .work .now) (c .before .before .before .before .before .before .before .before .before .args .s) (c .before .before .before .before .before .before .before .before .before .args .to) (c .before .before .before .before .before .before .before .before .before .pre) _ _ (c .before .before .write-frame .ensures) in omega (arith, z .0, z .1)
 
 part-clear-end : tie.Need-part-clear-end
-part-clear-end c = search needs
+part-clear-end c = let z = end-within (c .before .before .before .before .before .before .before .before .before .args .work .now) (c .before .before .before .before .before .before .before .before .before .args .s) (c .before .before .before .before .before .before .before .before .before .args .to) (c .before .before .before .before .before .before .before .before .before .pre) _ _ (c .before .before .write-frame .ensures) in omega (arith, z .0, z .1)
 
 clear-requires : tie.Need-clear-requires
 clear-requires c κs = search needs
