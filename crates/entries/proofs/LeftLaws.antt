@@ -33,7 +33,7 @@ either-way : (b : Bool) (a a′ : Answer) (o o′ w : List ℕ) → _≡_ {A = W
 either-way true a a′ o o′ w = refl
 either-way false a a′ o o′ w = refl
 
-any-work : (work out : List ℕ) (o : Outcome (List ℕ)) → writeOut work out o ≡ record { answer = leftIn out o .answer; work = cleared work; out = leftIn out o .out }
+pub any-work : (work out : List ℕ) (o : Outcome (List ℕ)) → writeOut work out o ≡ record { answer = leftIn out o .answer; work = cleared work; out = leftIn out o .out }
 unfolding writeOut
 any-work work out (outcomes.refusal c f p k) = refl
 any-work work out (success bytes k) = either-way (ltb (length out) (length bytes)) _ _ out _ (cleared work)

@@ -5,3 +5,7 @@ pub mod FirstLaws
 pub mod AgainLaws
 pub mod OnLaws
 pub mod HandLaws
+pub mod SavedLaws
+pub mod ShortLaws
+pub mod EndLaws
+pub mod EntryLaws

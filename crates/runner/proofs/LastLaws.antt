@@ -88,7 +88,7 @@ module _ (t s : List ℕ) (b : ℕ) (w : List ℕ) (x : State) (first term : ℕ
       subst (λ (n : ℕ). kept r v ≡ leftIn o (runEnd (q .job) n (σ .control))) (q .shows .steps-are) (h t (q .job) (σ .control) (q .job-stands) (q .shows .shows))
 
 -- a run that halted stands as before after a write behind all that a run uses
-pub reached-kept : (t s : List ℕ) (b : ℕ) (w v : List ℕ) (x : State) (first term : ℕ) → Reached t s b w x first term → x .mode ≡ 0 → b ≤ mostSteps → length v ≡ length w → Same 0 spaceEnd w v
+unfoldable pub reached-kept : (t s : List ℕ) (b : ℕ) (w v : List ℕ) (x : State) (first term : ℕ) → Reached t s b w x first term → x .mode ≡ 0 → b ≤ mostSteps → length v ≡ length w → Same 0 spaceEnd w v
     → Reached t s b v x first term
 unfolding Shows
 reached-kept t s b w v x first term q m h len same = record {
