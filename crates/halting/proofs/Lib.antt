@@ -9,3 +9,4 @@ pub mod SavedLaws
 pub mod ShortLaws
 pub mod EndLaws
 pub mod EntryLaws
+pub mod Cited
