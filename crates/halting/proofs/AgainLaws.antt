@@ -4,7 +4,7 @@ use Prim.Native.Nat.{ℕ, _+_, _≤_, _<_}
 use mathlib.Core.Path.{_≡_, refl, sym, ap, subst, _∙_}
 use mathlib.Core.Bool.{Bool, true, false}
 use mathlib.Core.List.{List}
-use mathlib.Core.Option.{Option, none}
+use mathlib.Core.Option.{Option}
 use native.Mathlib.Omega.{arith}
 use lib.Dec.{ltb}
 use lib.ListN.{length}
@@ -12,11 +12,8 @@ use borrow.Author.Tests.{lt-ltb, le-ltb, ltb-true, ltb-false}
 use Rattle.words.specs.Word.{word}
 use Rattle.format.specs.Limits.{mostSteps}
 use Rattle.format.specs.Refusals.{number, stateNotGenuine}
-use Rattle.hitac.specs.Machine.{run}
 use Rattle.answers.specs.declared.Answer.{Answer}
 use Rattle.answers.specs.Answers as said
-use Rattle.entries.specs.Run.{begins}
-use Rattle.entries.specs.SavedState.{savedState}
 use Rattle.entries.specs.Halting.{stepsOf, isSaved, genuine, goingOn, resumeOutcome}
 use Rattle.entries.proofs.HaltingLaws.{both-read, not-genuine}
 use Rattle.tactics.specs.Entry.{FilesRefused}
@@ -24,7 +21,7 @@ use Rattle.machine.specs.declared.state.State.{State}
 use Rattle.runner.specs.LastState.{Reached}
 use Rattle.halting.specs.declared.halted.Halted.{Halted}
 use Rattle.halting.specs.Halted.{Ended}
-use Rattle.halting.specs.Again.{Refuses, HaltedAgain, Again}
+use Rattle.halting.specs.Again.{Refuses, Again}
 use Rattle.halting.proofs.HaltLaws.{keeps}
 use Rattle.halting.proofs.ComesLaws.{limit-refuses, files-refuse}
 

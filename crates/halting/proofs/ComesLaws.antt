@@ -3,18 +3,15 @@
 use Prim.Native.Nat.{ℕ, _≤_, _<_}
 use mathlib.Core.Path.{_≡_, refl, sym, ap, subst, _∙_}
 use mathlib.Core.List.{List}
-use mathlib.Core.Option.{Option, none}
 use lib.ListN.{length}
 use Rattle.format.specs.Limits.{mostSteps}
 use Rattle.format.specs.Refusals.{number, budgetTooLarge}
 use Rattle.tables.specs.Tables.{Table}
 use Rattle.files.specs.Jobs.{Job}
-use Rattle.hitac.specs.Machine.{run}
 use Rattle.answers.specs.declared.Answer.{Answer}
 use Rattle.answers.specs.Answers as said
-use Rattle.entries.specs.Run.{begins}
 use Rattle.entries.specs.Halting.{HaltingOutcome, ranFor, withinLimit}
-use Rattle.entries.specs.Left.{kept, leftIn}
+use Rattle.entries.specs.Left.{leftIn}
 use Rattle.entries.proofs.LeftLaws.{refuses}
 use Rattle.entries.proofs.HaltingLaws.{over-limit, table-refused, job-refused}
 use Rattle.tactics.specs.Entry.{FilesRefused, no-table, no-job}

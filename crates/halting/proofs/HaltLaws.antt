@@ -1,17 +1,16 @@
 -- The last state of a run: a term is to begin in it exactly if the machine's state is saved, and then the code's state is one that can be saved.
 -- Assumes nothing.
-use Prim.Native.Nat.{ℕ, _≤_, _<_}
-use mathlib.Core.Path.{_≡_, refl, sym, ap, subst}
+use Prim.Native.Nat.{ℕ, _≤_}
+use mathlib.Core.Path.{_≡_, refl, sym, ap}
 use mathlib.Core.List.{List}
 use mathlib.Core.Option.{none, some}
 use native.Mathlib.Omega.{arith}
-use lib.ListN.{length}
 use Rattle.format.specs.declared.values.Goal.{Goal}
 use Rattle.format.specs.Limits.{mostSteps}
 use Rattle.format.specs.Terms.{Term}
 use Rattle.files.specs.Counts.{jobTermPlace}
 use Rattle.hitac.specs.Machine as M
-use Rattle.hitac.specs.Machine.{Control, running, stopped, after, run}
+use Rattle.hitac.specs.Machine.{running, after, run}
 use Rattle.hitac.proofs.SharedGoals.{run-shared}
 use Rattle.entries.specs.Run.{begins}
 use Rattle.entries.specs.SavedState.{savedSize, savedContents, zerosTo, savedIn, savedState}

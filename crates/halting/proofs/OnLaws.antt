@@ -1,6 +1,6 @@
 -- Going on: what has ended stays, a state that is not the run's own is refused, and else the run of its steps and of the budget is one run of both.
 -- Assumes nothing.
-use Prim.Native.Nat.{ℕ, _+_, _≤_, _<_}
+use Prim.Native.Nat.{ℕ, _+_, _≤_}
 use mathlib.Core.Path.{_≡_, refl, sym, ap, subst, _∙_}
 use mathlib.Core.Bool.{Bool, true, false}
 use mathlib.Core.List.{List}
@@ -8,13 +8,11 @@ use mathlib.Core.Option.{Option}
 use native.Mathlib.Omega.{arith}
 use lib.ListN.{length}
 use Rattle.format.specs.Limits.{mostSteps}
-use Rattle.tables.specs.Tables.{Table}
 use Rattle.hitac.specs.Machine as M
-use Rattle.hitac.specs.Machine.{running, after, run}
+use Rattle.hitac.specs.Machine.{after, run}
 use Rattle.hitac.proofs.RunLaws.{run-add}
-use Rattle.answers.specs.declared.Answer.{Answer}
 use Rattle.entries.specs.Run.{begins}
-use Rattle.entries.specs.Halting.{stepsOf, sameBytes, isSaved, genuine, goingOn, ranFor, resumeOutcome, haltingWork}
+use Rattle.entries.specs.Halting.{stepsOf, sameBytes, isSaved, genuine, goingOn, resumeOutcome}
 use Rattle.entries.proofs.HaltingLaws.{both-read, genuine-goes-on}
 use Rattle.arities.specs.Layout.{spaceEnd}
 use Rattle.arities.specs.Arities.{arities}

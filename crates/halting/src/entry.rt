@@ -10,11 +10,11 @@ use crate::halted::state_of;
 use crate::hand::finish;
 use crate::layout::HALTING_WORK;
 use crate::layout::MOST_FRAMES;
-use crate::layout::SAVED_SIZE;
 use crate::on::go_on;
 use answers::Answer;
 use answers::refusal;
 use lent_frames::LentFrame;
+use saver::layout::SAVED_SIZE;
 use saver::save::save;
 
 // Whether the work space, the frames or the second space, of so many bytes, frames and bytes, are too short.

@@ -1,5 +1,4 @@
 // The first run of a job, which may halt.
-ghost use mathlib.Core.Path.{_≡_};
 ghost use Prim.Native.Nat.{_≤_};
 ghost use lib.ListN.{length};
 ghost use Rattle.arities.specs.Layout.{spaceEnd};

@@ -1,6 +1,5 @@
 // What the calls of an entry that may halt hand on to one another.
 ghost use mathlib.Core.Path.{_≡_};
-ghost use Prim.Native.Nat.{_≤_};
 ghost use Rattle.runner.specs.Jobs.{FinishGiven};
 ghost use Rattle.halting.specs.Halted.{Ended, Answered};
 use answers::Answer;

@@ -6,11 +6,11 @@ ghost use Rattle.entries.specs.SavedState.{savedSize};
 ghost use Rattle.entries.specs.Halting.{haltingWork};
 ghost use Rattle.halting.specs.Hand.{handed};
 use crate::halted::Halted;
-use crate::layout::SAVED_SIZE;
 use answers::Answer;
 use arities::layout::SPACE_END;
 use machine::state::RUNNING;
 use machine::state::State;
+use saver::layout::SAVED_SIZE;
 use words::clear;
 use words::copy_in;
 

@@ -1,8 +1,6 @@
-// The sizes of the spaces that a maker lends. specs of entries say how each follows from the most steps of a run.
+// How long the spaces are that a maker lends; entries' specs/Halting says where the sizes come from.
 
-// The saved state, behind what a run uses of the work space: run_halting copies it to the second space, resume compares it.
-pub const SAVED_SIZE: usize = 86540;
-
+// What a run uses, and a saved state behind it.
 pub const HALTING_WORK: usize = 1377292;
 
 pub const MOST_FRAMES: usize = 4096;

@@ -1,17 +1,15 @@
 // A run that goes on from a saved state.
-ghost use mathlib.Core.Path.{_≡_};
-ghost use Prim.Native.Nat.{_≤_};
 ghost use Rattle.entries.specs.Halting.{resumeOutcome};
 ghost use Rattle.halting.specs.Halted.{Comes};
 ghost use Rattle.halting.specs.On.{GoOnGiven};
 use crate::halted::Halted;
 use crate::halted::answered;
 use crate::halted::ended;
-use crate::layout::SAVED_SIZE;
 use crate::same::same_bytes;
 use arities::layout::SPACE_END;
 use machine::state::RUNNING;
 use runner::run::run_steps;
+use saver::layout::SAVED_SIZE;
 
 // A call that has ended stays as it is. A halted run goes on if the saved bytes are those of its own state, which stand behind what a run uses of the work space.
 pub fn go_on(

@@ -17,13 +17,12 @@ use Rattle.files.specs.Proofs.{proofBytes}
 use Rattle.files.specs.Jobs.{Job}
 use Rattle.files.specs.Counts.{jobTermPlace}
 use Rattle.files.specs.Standing.{JobStands}
-use Rattle.files.specs.Shapes.{jobPartsOf}
 use Rattle.hitac.specs.Machine as M
 use Rattle.hitac.specs.Machine.{running, stopped, after}
 use Rattle.answers.specs.declared.Answer.{Answer}
 use Rattle.answers.specs.Answers as said
 use Rattle.entries.specs.Outcomes.{success}
-use Rattle.entries.specs.Run.{begins, runEnd}
+use Rattle.entries.specs.Run.{runEnd}
 use Rattle.entries.specs.Left.{kept, leftIn}
 use Rattle.entries.proofs.LeftLaws.{refuses}
 use Rattle.arities.specs.Layout.{outputEnd, framesEnd}

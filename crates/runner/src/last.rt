@@ -1,5 +1,4 @@
 // Both files read and the job run: its last state. The run that may halt and the run that goes on begin alike.
-ghost use mathlib.Core.Path.{_≡_};
 ghost use Prim.Native.Nat.{_≤_};
 ghost use lib.ListN.{length};
 ghost use Rattle.format.specs.Limits.{mostSteps};

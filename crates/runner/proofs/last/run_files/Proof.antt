@@ -1,7 +1,6 @@
 -- `last::run_files` meets its contract: a file is refused, or both are read and the job is run. Reading leaves the work space its length.
 -- Assumes nothing.
 use mathlib.Core.Path.{_≡_, sym, _∙_}
-use Prim.Native.Nat.{_≤_}
 use native.Mathlib.Omega.{arith}
 use denote.Ref.{now}
 use lib.ListN.{length}
