@@ -15,7 +15,7 @@ use Rattle.format.specs.Terms.{Term, atomic, id, label, sequence, tensor, empty
 use Rattle.format.specs.Standing.{Stands}
 use Rattle.format.proofs.StandsLaws.{tagOf, known}
 use Rattle.format.proofs.ByTag.{Two, by-tag}
-use Rattle.hitac.specs.TacticArity.{sumArity, commonArity, arityIn}
+use Rattle.evaluation.specs.TacticArity.{sumArity, commonArity, arityIn}
 use Rattle.arities.specs.Arities.{arityCode, Pair}
 
 -- the numbers that stand for the sum and for the common arity

@@ -25,7 +25,7 @@ use Rattle.tables.specs.Repeats.{definitionSize}
 use Rattle.tables.specs.Standing.{InRow, DefinitionStands, DefinitionsStand, TableStands}
 use Rattle.tables.proofs.RowLaws.{row-le, first-in-row, definition-size, definition-positive}
 use Rattle.tables.proofs.BodyLookup.{body-member}
-use Rattle.hitac.specs.TacticArity.{arityIn, arityAfter}
+use Rattle.evaluation.specs.TacticArity.{arityIn, arityAfter}
 use Rattle.arities.specs.Layout.{framesEnd, spaceEnd}
 use Rattle.arities.specs.Arities.{arityCode, ArityTable, arities}
 use Rattle.arities.specs.Rounds.{decoded, knownIn, Between, Updated, RoundGiven, Rounded, FillGiven, Settled, Cleared, Filled}

@@ -20,8 +20,8 @@ use Rattle.format.specs.Terms.{Term}
 use Rattle.tables.specs.Tables.{Definition, Table, UniqueDefinitions}
 use Rattle.tables.specs.Lookup.{findBodyIn, findBody}
 use Rattle.tables.proofs.BodyLookup.{body-member, found↔definition}
-use Rattle.hitac.specs.TacticArity.{arityIn, bodyArity, arityAfter}
-use Rattle.hitac.proofs.UnfoldingLaws.{Within, arityIn-within, same-arity, after-suc, has-body, after-update}
+use Rattle.evaluation.specs.TacticArity.{arityIn, bodyArity, arityAfter}
+use Rattle.evaluation.proofs.UnfoldingLaws.{Within, arityIn-within, same-arity, after-suc, has-body, after-update}
 use Rattle.arities.specs.Layout.{framesEnd, spaceEnd}
 use Rattle.arities.specs.Arities.{arityCode, ArityTable, arities}
 use Rattle.arities.specs.Rounds.{decoded, knownIn, Between, Updated}

@@ -10,7 +10,7 @@ use Rattle.format.specs.Values.{tacticNo}
 use Rattle.format.specs.Terms.{Term, size}
 use Rattle.format.specs.Standing.{Stands}
 use Rattle.tables.specs.Tables.{Table}
-use Rattle.hitac.specs.TacticArity.{arityAfter}
+use Rattle.evaluation.specs.TacticArity.{arityAfter}
 use Rattle.arities.specs.Layout.{framesEnd}
 
 -- an arity as the code has it: with one added, and 0 for none

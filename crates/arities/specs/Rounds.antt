@@ -10,7 +10,7 @@ use Rattle.words.specs.Word.{word, putWord}
 use Rattle.format.specs.declared.values.TacticNo.{TacticNo}
 use Rattle.tables.specs.Tables.{Table, UniqueDefinitions}
 use Rattle.tables.specs.Standing.{TableStands}
-use Rattle.hitac.specs.TacticArity.{arityAfter}
+use Rattle.evaluation.specs.TacticArity.{arityAfter}
 use Rattle.arities.specs.Layout.{framesEnd, spaceEnd}
 use Rattle.arities.specs.Arities.{ArityTable, arities}
 

@@ -8,7 +8,7 @@ ghost use Rattle.format.specs.declared.values.TacticNo.{TacticNo};
 ghost use Rattle.format.specs.Values.{tacticNo};
 ghost use Rattle.format.specs.Terms.{Term, size};
 ghost use Rattle.format.specs.Standing.{Stands};
-ghost use Rattle.hitac.specs.TacticArity.{sumArity, commonArity, arityIn};
+ghost use Rattle.evaluation.specs.TacticArity.{sumArity, commonArity, arityIn};
 ghost use Rattle.arities.specs.Layout.{spaceEnd};
 ghost use Rattle.arities.specs.Arities.{arityCode, ArityTable, Pair};
 use crate::layout::FRAMES_END;

@@ -16,7 +16,7 @@ use Rattle.format.specs.Results.{Result, gives, refused}
 use Rattle.tables.specs.Tables.{Table}
 use Rattle.tables.specs.ReadTables.{readTable}
 use Rattle.files.specs.Jobs.{Job, readJob}
-use Rattle.hitac.specs.Machine.{run}
+use Rattle.evaluation.specs.Machine.{run}
 use Rattle.answers.specs.Answers as answer
 use Rattle.lent_frames.specs.declared.LentFrame.{LentFrame}
 use Rattle.entries.specs.Outcomes.{refusal, inFile}

@@ -21,11 +21,11 @@ use Rattle.tables.proofs.ReadsTable.{reads-few-premises}
 use Rattle.files.specs.Jobs.{Job, readJob}
 use Rattle.files.specs.Counts.{jobTermPlace}
 use Rattle.files.proofs.WhatStands.{job-stands}
-use Rattle.hitac.specs.Machine.{Place, Frame, labelled, sequenceLeft, sequenceRight, tensorLeft, tensorRight, alternationLeft, Control, running, stopped, State, after, Running, run}
-use Rattle.hitac.specs.Halts.{stage, lastPlace, ownGoals, heldOf, ownCount, keptSize, keptBytes}
-use Rattle.hitac.proofs.RunBounds.{running-kept}
-use Rattle.hitac.proofs.RunLaws.{spent-steps, run-steps}
-use Rattle.hitac.proofs.HaltBounds.{waiting-is, kept-bytes, held-goals}
+use Rattle.evaluation.specs.Machine.{Place, Frame, labelled, sequenceLeft, sequenceRight, tensorLeft, tensorRight, alternationLeft, Control, running, stopped, State, after, Running, run}
+use Rattle.evaluation.specs.Halts.{stage, lastPlace, ownGoals, heldOf, ownCount, keptSize, keptBytes}
+use Rattle.evaluation.proofs.RunBounds.{running-kept}
+use Rattle.evaluation.proofs.RunLaws.{spent-steps, run-steps}
+use Rattle.evaluation.proofs.HaltBounds.{waiting-is, kept-bytes, held-goals}
 use Rattle.entries.specs.Run.{begins}
 use Rattle.entries.specs.SavedState.{savedSize, waitingTerm, finishedField, finishedFields, waitingTerms, savedContents, zerosTo, savedIn, savedState}
 use Rattle.entries.specs.Halting.{stepsOf}

@@ -33,8 +33,8 @@ use Rattle.hitac.specs.UsedRules.{foundNumber, lookedUp, walkedRules, flatRules
 use Rattle.hitac.specs.FlatWalk.{flatWalk}
 use Rattle.hitac.specs.Forest.{forest}
 use Rattle.hitac.specs.Hiproofs.{inputArity, atomics, dropLabels, Unlabelled}
-use Rattle.hitac.specs.Machine.{unwind, begin, stepFrom, step, run, start}
-use Rattle.hitac.specs.TacticArity.{arityIn, arityAfter, tacticArity}
+use Rattle.evaluation.specs.Machine.{unwind, begin, stepFrom, step, run, start}
+use Rattle.evaluation.specs.TacticArity.{arityIn, arityAfter, tacticArity}
 use Rattle.hitac.specs.Walk.{onOneGoal, onNoGoal, premisesOr, tooLong, joined, walk}
 use Rattle.hitac.specs.Write.{treeTerms, written}
 use Rattle.entries.specs.Check.{sameGoals, remainingAre, checked, onProof, proofCounts, forestFile, check, flatten}

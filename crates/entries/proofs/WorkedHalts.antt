@@ -19,8 +19,8 @@ use Rattle.tables.specs.Search.{searchedTag, stepAt, besides, clashAt, places, 
 use Rattle.files.specs.Counts.{jobTermPlace}
 use Rattle.files.specs.Jobs.{lastTermOf, readLastTerm, jobOf, readJob}
 use Rattle.files.specs.Proofs.{proofBytes}
-use Rattle.hitac.specs.Machine.{unwind, begin, stepFrom, step, run, start}
-use Rattle.hitac.specs.TacticArity.{arityIn, arityAfter, tacticArity}
+use Rattle.evaluation.specs.Machine.{unwind, begin, stepFrom, step, run, start}
+use Rattle.evaluation.specs.TacticArity.{arityIn, arityAfter, tacticArity}
 use Rattle.entries.specs.Lines.{Holds, AllHold, no-more, _&_}
 use Rattle.entries.specs.Run.{runEnd, runResult}
 use Rattle.entries.specs.SavedState.{finishedFields, waitingTerms, savedContents, savedIn, savedState}

@@ -10,8 +10,8 @@ use Rattle.tables.specs.ReadTables.{readTable}
 use Rattle.files.specs.Proofs.{Proof, proofBytes}
 use Rattle.files.specs.Jobs.{Job, readJob}
 use Rattle.files.specs.Counts.{jobTermPlace}
-use Rattle.hitac.specs.Outcomes.{proved, failed, ended}
-use Rattle.hitac.specs.Machine.{Control, running, stopped, State, run, start}
+use Rattle.evaluation.specs.Outcomes.{proved, failed, ended}
+use Rattle.evaluation.specs.Machine.{Control, running, stopped, State, run, start}
 use Rattle.entries.specs.Outcomes.{Outcome, success, refusal, inFile, tableFile, otherFile, noFile}
 use Rattle.entries.specs.LentSpace.{Written, writeIn}
 

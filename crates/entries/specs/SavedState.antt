@@ -6,8 +6,8 @@ use mathlib.Core.Option.{Option, none, some}
 use lib.ListN.{length, replicate}
 use Rattle.format.specs.declared.values.Goal.{Goal}
 use Rattle.format.specs.Encoding.{wordBytes, termBytes, goalBytes}
-use Rattle.hitac.specs.Machine.{Place, Frame, labelled, sequenceLeft, sequenceRight, tensorLeft, tensorRight, alternationLeft, Control, running, stopped, State}
-use Rattle.hitac.specs.Halts.{stage, lastPlace, ownGoals, heldOf}
+use Rattle.evaluation.specs.Machine.{Place, Frame, labelled, sequenceLeft, sequenceRight, tensorLeft, tensorRight, alternationLeft, Control, running, stopped, State}
+use Rattle.evaluation.specs.Halts.{stage, lastPlace, ownGoals, heldOf}
 
 -- "as many as docs/ names": the bytes of every saved state. A halted run of n steps has at most n waiting terms and finished fields together: 6 bytes for each
 -- waiting term, and 5 + 16 for each finished field and the goals that it gave; the job's 256 goals, the term to begin and three numbers make 524 more.

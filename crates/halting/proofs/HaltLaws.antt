@@ -9,9 +9,9 @@ use Rattle.format.specs.declared.values.Goal.{Goal}
 use Rattle.format.specs.Limits.{mostSteps}
 use Rattle.format.specs.Terms.{Term}
 use Rattle.files.specs.Counts.{jobTermPlace}
-use Rattle.hitac.specs.Machine as M
-use Rattle.hitac.specs.Machine.{running, after, run}
-use Rattle.hitac.proofs.SharedGoals.{run-shared}
+use Rattle.evaluation.specs.Machine as M
+use Rattle.evaluation.specs.Machine.{running, after, run}
+use Rattle.evaluation.proofs.SharedGoals.{run-shared}
 use Rattle.entries.specs.Run.{begins}
 use Rattle.entries.specs.SavedState.{savedSize, savedContents, zerosTo, savedIn, savedState}
 use Rattle.entries.proofs.SavedStateLaws.{contents-fit}

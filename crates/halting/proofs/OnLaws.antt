@@ -8,9 +8,9 @@ use mathlib.Core.Option.{Option}
 use native.Mathlib.Omega.{arith}
 use lib.ListN.{length}
 use Rattle.format.specs.Limits.{mostSteps}
-use Rattle.hitac.specs.Machine as M
-use Rattle.hitac.specs.Machine.{after, run}
-use Rattle.hitac.proofs.RunLaws.{run-add}
+use Rattle.evaluation.specs.Machine as M
+use Rattle.evaluation.specs.Machine.{after, run}
+use Rattle.evaluation.proofs.RunLaws.{run-add}
 use Rattle.entries.specs.Run.{begins}
 use Rattle.entries.specs.Halting.{stepsOf, sameBytes, isSaved, genuine, goingOn, resumeOutcome}
 use Rattle.entries.proofs.HaltingLaws.{both-read, genuine-goes-on}

@@ -4,7 +4,7 @@ use mathlib.Core.Path.{_≡_}
 use mathlib.Core.List.{List}
 use mathlib.Core.Option.{some}
 use lib.ListN.{length, take, drop}
-use Rattle.hitac.specs.Machine.{run}
+use Rattle.evaluation.specs.Machine.{run}
 use Rattle.entries.specs.Run.{begins}
 use Rattle.entries.specs.SavedState.{savedSize, savedState}
 use Rattle.entries.specs.Halting.{stepsOf, resumeOutcome, haltingWork}

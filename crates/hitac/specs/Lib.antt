@@ -14,13 +14,4 @@ pub mod Counts
 pub mod UsedRules
 pub mod Write
 pub mod Writes
-pub mod TacticArity
-pub mod Outcomes
-pub mod Machine
 pub mod Arity
-pub mod Ends
-pub mod Evaluates
-pub mod EndingOf
-pub mod RunSizes
-pub mod Halts
-pub mod Placed

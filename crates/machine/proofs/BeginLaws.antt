@@ -14,10 +14,10 @@ use Rattle.format.specs.declared.values.Label.{Label}
 use Rattle.format.specs.Terms.{Term, id, label, sequence, empty, alternation, assert, size}
 use Rattle.format.specs.Standing.{Head, Stands}
 use Rattle.tables.specs.Tables.{Table}
-use Rattle.hitac.specs.Outcomes as outcome
-use Rattle.hitac.specs.Outcomes.{proved, oneGoal, noGoal, assertGives, finished}
-use Rattle.hitac.specs.Machine as M
-use Rattle.hitac.specs.Machine.{past, labelled, sequenceLeft, alternationLeft}
+use Rattle.evaluation.specs.Outcomes as outcome
+use Rattle.evaluation.specs.Outcomes.{proved, oneGoal, noGoal, assertGives, finished}
+use Rattle.evaluation.specs.Machine as M
+use Rattle.evaluation.specs.Machine.{past, labelled, sequenceLeft, alternationLeft}
 use Rattle.arities.specs.Layout.{framesEnd}
 use Rattle.tactics.specs.Memory.{Only}
 use Rattle.tactics.specs.Numbers.{putHeader}

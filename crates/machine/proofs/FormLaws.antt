@@ -27,8 +27,8 @@ use Rattle.tables.specs.Tables.{Table}
 use Rattle.tables.specs.Standing.{TableStands}
 use Rattle.tables.specs.Found.{ruleFound, FindsRule, BodyStands, BodyPlaced, FindsBody}
 use Rattle.tables.specs.Places.{bodyPlace}
-use Rattle.hitac.specs.Outcomes.{splitAt, finished, foundPremises, ruleGives}
-use Rattle.hitac.specs.Machine.{past, tensorLeft}
+use Rattle.evaluation.specs.Outcomes.{splitAt, finished, foundPremises, ruleGives}
+use Rattle.evaluation.specs.Machine.{past, tensorLeft}
 use Rattle.arities.specs.Layout.{outputEnd}
 use Rattle.arities.specs.Arities.{arityCode}
 use Rattle.tactics.specs.Memory.{Same, Only}

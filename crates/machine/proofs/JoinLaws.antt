@@ -14,9 +14,9 @@ use Rattle.format.specs.Refusals.{joinedTooLong}
 use Rattle.format.specs.Terms.{Term, tensor, size}
 use Rattle.format.specs.Standing.{Head, Stands}
 use Rattle.format.proofs.GoalsLaws.{length-goalsAt}
-use Rattle.hitac.specs.Outcomes.{Ending, proved, ended, joinedFits, besideLeft}
-use Rattle.hitac.specs.Machine as M
-use Rattle.hitac.specs.Machine.{tensorRight}
+use Rattle.evaluation.specs.Outcomes.{Ending, proved, ended, joinedFits, besideLeft}
+use Rattle.evaluation.specs.Machine as M
+use Rattle.evaluation.specs.Machine.{tensorRight}
 use Rattle.arities.specs.Layout.{outputEnd, goalsEnd, framesEnd}
 use Rattle.tactics.specs.Memory.{Only}
 use Rattle.tactics.specs.Goals.{Gathered}

@@ -9,8 +9,8 @@ use Rattle.words.specs.Word.{word}
 use Rattle.format.specs.declared.values.Goal.{Goal}
 use Rattle.format.specs.Limits.{mostSteps}
 use Rattle.format.specs.Terms.{Term}
-use Rattle.hitac.specs.Machine as M
-use Rattle.hitac.specs.Machine.{labelled, sequenceLeft, sequenceRight, tensorLeft, tensorRight, alternationLeft}
+use Rattle.evaluation.specs.Machine as M
+use Rattle.evaluation.specs.Machine.{labelled, sequenceLeft, sequenceRight, tensorLeft, tensorRight, alternationLeft}
 use Rattle.arities.specs.Layout.{outputEnd, framesEnd, spaceEnd}
 use Rattle.tactics.specs.Memory.{Same, Only}
 use Rattle.tactics.specs.Numbers.{long}

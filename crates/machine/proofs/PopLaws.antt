@@ -12,9 +12,9 @@ use Rattle.format.specs.declared.values.Goal.{Goal}
 use Rattle.format.specs.Refusals.{Cause}
 use Rattle.format.specs.Terms.{Term, size}
 use Rattle.format.specs.Standing.{Head, Stands}
-use Rattle.hitac.specs.Outcomes.{Ending, proved, failed, ended}
-use Rattle.hitac.specs.Machine as M
-use Rattle.hitac.specs.Machine.{labelled, sequenceLeft, sequenceRight, tensorLeft, tensorRight, alternationLeft, unwind}
+use Rattle.evaluation.specs.Outcomes.{Ending, proved, failed, ended}
+use Rattle.evaluation.specs.Machine as M
+use Rattle.evaluation.specs.Machine.{labelled, sequenceLeft, sequenceRight, tensorLeft, tensorRight, alternationLeft, unwind}
 use Rattle.tactics.specs.Memory.{Same, Only}
 use Rattle.tactics.proofs.MemoryLaws.{only-word, same-word, same-term}
 use Rattle.frames.specs.declared.Frame.{Frame}

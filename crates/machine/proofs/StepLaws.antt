@@ -18,10 +18,10 @@ use Rattle.format.proofs.ByTag.{by-tag}
 use Rattle.tables.specs.Tables.{Table}
 use Rattle.tables.specs.Standing.{TableStands}
 use Rattle.tables.specs.Lookup.{findBody}
-use Rattle.hitac.specs.TacticArity.{arityIn, tacticArity}
-use Rattle.hitac.specs.Outcomes.{oneGoal, splitBy}
-use Rattle.hitac.specs.Machine as M
-use Rattle.hitac.specs.Machine.{enterOrFail}
+use Rattle.evaluation.specs.TacticArity.{arityIn, tacticArity}
+use Rattle.evaluation.specs.Outcomes.{oneGoal, splitBy}
+use Rattle.evaluation.specs.Machine as M
+use Rattle.evaluation.specs.Machine.{enterOrFail}
 use Rattle.arities.specs.Arities.{arityCode, ArityTable, arities, Pair}
 use Rattle.arities.proofs.ArityLaws.{Inner, pair-of}
 use Rattle.tactics.specs.Source.{source}

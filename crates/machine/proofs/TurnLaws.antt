@@ -8,9 +8,9 @@ use lib.ListN.{getD}
 use Rattle.format.specs.declared.values.Goal.{Goal}
 use Rattle.format.specs.Terms.{Term, size}
 use Rattle.format.specs.Standing.{Stands}
-use Rattle.hitac.specs.Outcomes.{proved}
-use Rattle.hitac.specs.Machine as M
-use Rattle.hitac.specs.Machine.{sequenceRight, tensorRight}
+use Rattle.evaluation.specs.Outcomes.{proved}
+use Rattle.evaluation.specs.Machine as M
+use Rattle.evaluation.specs.Machine.{sequenceRight, tensorRight}
 use Rattle.arities.specs.Layout.{goalsEnd}
 use Rattle.tactics.specs.Memory.{Only}
 use Rattle.tactics.proofs.MemoryLaws.{same-term}

@@ -4,9 +4,9 @@ use Prim.Native.Nat.{ℕ, _≤_, _<_}
 use mathlib.Core.Path.{_≡_, refl, sym, ap, subst, _∙_}
 use mathlib.Core.List.{List, [], _∷_}
 use native.Mathlib.Omega.{arith}
-use Rattle.hitac.specs.Outcomes.{Ending, proved, failed, ended}
-use Rattle.hitac.specs.Machine as M
-use Rattle.hitac.specs.Machine.{unwind}
+use Rattle.evaluation.specs.Outcomes.{Ending, proved, failed, ended}
+use Rattle.evaluation.specs.Machine as M
+use Rattle.evaluation.specs.Machine.{unwind}
 use Rattle.arities.specs.Layout.{framesEnd}
 use Rattle.machine.specs.declared.state.State.{State}
 use Rattle.machine.specs.Shows.{FramesAt, Ends, Config, next, done, Holds, Shows}

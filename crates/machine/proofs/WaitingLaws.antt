@@ -13,9 +13,9 @@ use Rattle.format.specs.declared.values.Label.{Label}
 use Rattle.format.specs.Limits.{mostSteps}
 use Rattle.format.specs.Refusals.{Cause}
 use Rattle.format.specs.Terms.{Term}
-use Rattle.hitac.specs.Outcomes.{Ending, proved, failed, ended}
-use Rattle.hitac.specs.Machine as M
-use Rattle.hitac.specs.Machine.{labelled, sequenceLeft, sequenceRight, tensorLeft, tensorRight, alternationLeft}
+use Rattle.evaluation.specs.Outcomes.{Ending, proved, failed, ended}
+use Rattle.evaluation.specs.Machine as M
+use Rattle.evaluation.specs.Machine.{labelled, sequenceLeft, sequenceRight, tensorLeft, tensorRight, alternationLeft}
 use Rattle.arities.specs.Layout.{spaceEnd, framesEnd}
 use Rattle.frames.specs.declared.Frame.{Frame}
 use Rattle.frames.specs.Frames.{frameAt}

@@ -12,11 +12,11 @@ use Rattle.format.specs.Terms.{Term, atomic, id, label, sequence, tensor, empty
 use Rattle.tables.specs.Tables.{Table}
 use Rattle.tables.specs.Lookup.{findBody}
 use Rattle.tables.specs.Places.{bodyPlace}
-use Rattle.hitac.specs.TacticArity.{tacticArity}
-use Rattle.hitac.specs.Outcomes as outcome
-use Rattle.hitac.specs.Outcomes.{ruleGives, oneGoal, noGoal, assertGives, splitBy, finished}
-use Rattle.hitac.specs.Machine as M
-use Rattle.hitac.specs.Machine.{past, labelled, sequenceLeft, tensorLeft, alternationLeft}
+use Rattle.evaluation.specs.TacticArity.{tacticArity}
+use Rattle.evaluation.specs.Outcomes as outcome
+use Rattle.evaluation.specs.Outcomes.{ruleGives, oneGoal, noGoal, assertGives, splitBy, finished}
+use Rattle.evaluation.specs.Machine as M
+use Rattle.evaluation.specs.Machine.{past, labelled, sequenceLeft, tensorLeft, alternationLeft}
 use Rattle.arities.specs.Layout.{outputEnd, goalsEnd, framesEnd, spaceEnd}
 use Rattle.frames.specs.declared.Frame.{Frame}
 use Rattle.machine.specs.declared.state.State.{State}

@@ -4,9 +4,9 @@ use mathlib.Core.Path.{_≡_}
 use mathlib.Core.List.{List, _∷_}
 use lib.ListN.{length, getD}
 use Rattle.format.specs.Limits.{mostSteps}
-use Rattle.hitac.specs.Outcomes.{Ending, proved, failed, ended, inLabel, afterLeft, besideLeft}
-use Rattle.hitac.specs.Machine as M
-use Rattle.hitac.specs.Machine.{labelled, sequenceLeft, sequenceRight, tensorLeft, tensorRight, alternationLeft, running, unwind}
+use Rattle.evaluation.specs.Outcomes.{Ending, proved, failed, ended, inLabel, afterLeft, besideLeft}
+use Rattle.evaluation.specs.Machine as M
+use Rattle.evaluation.specs.Machine.{labelled, sequenceLeft, sequenceRight, tensorLeft, tensorRight, alternationLeft, running, unwind}
 use Rattle.arities.specs.Layout.{outputEnd, goalsEnd, framesEnd, spaceEnd}
 use Rattle.frames.specs.declared.Frame.{Frame}
 use Rattle.machine.specs.declared.state.State.{State}

@@ -9,9 +9,9 @@ use Rattle.format.specs.Refusals.{Cause, joinedTooLong}
 use Rattle.format.specs.Goals.{goalsAt}
 use Rattle.format.specs.Terms.{Term, size}
 use Rattle.format.specs.Standing.{Stands}
-use Rattle.hitac.specs.Outcomes.{Ending, proved, failed, ended}
-use Rattle.hitac.specs.Machine as M
-use Rattle.hitac.specs.Machine.{labelled, sequenceLeft, sequenceRight, tensorLeft, tensorRight, alternationLeft, running, stopped}
+use Rattle.evaluation.specs.Outcomes.{Ending, proved, failed, ended}
+use Rattle.evaluation.specs.Machine as M
+use Rattle.evaluation.specs.Machine.{labelled, sequenceLeft, sequenceRight, tensorLeft, tensorRight, alternationLeft, running, stopped}
 use Rattle.arities.specs.Layout.{outputEnd, framesEnd}
 use Rattle.tactics.specs.Source.{source}
 use Rattle.frames.specs.declared.Frame.{Frame}

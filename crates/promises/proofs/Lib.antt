@@ -11,15 +11,5 @@ pub mod FlattenedWithin
 pub mod FlattenPromises
 pub mod RulesPromises
 pub mod NoBytesPromises
-pub mod RunWithin
-pub mod RunPromises
-pub mod RunMeaning
-pub mod HaltingCases
-pub mod HaltingPromises
-pub mod ResumeCases
-pub mod ResumePromises
-pub mod OwnGoals
-pub mod SavedPlaces
-pub mod SearchPromises
 pub mod ReadTextPromises
 pub mod WriteTextPromises

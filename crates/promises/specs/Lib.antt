@@ -11,12 +11,5 @@ pub mod WriteProofPromises
 pub mod FlattenPromises
 pub mod RulesPromises
 pub mod NoBytesPromises
-pub mod RunPromises
-pub mod RunMeaning
-pub mod HaltingPromises
-pub mod ResumePromises
-pub mod OwnGoals
-pub mod SavedPlaces
-pub mod SearchPromises
 pub mod ReadTextPromises
 pub mod WriteTextPromises

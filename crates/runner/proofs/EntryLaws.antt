@@ -8,7 +8,7 @@ use Rattle.format.specs.Limits.{mostSteps}
 use Rattle.format.specs.Refusals.{number, budgetTooLarge}
 use Rattle.tables.specs.Tables.{Table}
 use Rattle.files.specs.Jobs.{Job}
-use Rattle.hitac.specs.Machine as M
+use Rattle.evaluation.specs.Machine as M
 use Rattle.answers.specs.declared.Answer.{Answer}
 use Rattle.answers.specs.Answers as said
 use Rattle.entries.specs.Outcomes.{Outcome, refusal, noFile}

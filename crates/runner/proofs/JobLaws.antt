@@ -17,8 +17,8 @@ use Rattle.files.specs.Proofs.{proofBytes}
 use Rattle.files.specs.Jobs.{Job}
 use Rattle.files.specs.Counts.{jobTermPlace}
 use Rattle.files.specs.Standing.{JobStands}
-use Rattle.hitac.specs.Machine as M
-use Rattle.hitac.specs.Machine.{running, stopped, after}
+use Rattle.evaluation.specs.Machine as M
+use Rattle.evaluation.specs.Machine.{running, stopped, after}
 use Rattle.answers.specs.declared.Answer.{Answer}
 use Rattle.answers.specs.Answers as said
 use Rattle.entries.specs.Outcomes.{success}

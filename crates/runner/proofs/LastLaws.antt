@@ -7,7 +7,7 @@ use native.Mathlib.Omega.{arith}
 use lib.ListN.{length}
 use Rattle.format.specs.Limits.{mostSteps}
 use Rattle.files.specs.declared.jobs.JobParts.{JobParts}
-use Rattle.hitac.specs.Machine as M
+use Rattle.evaluation.specs.Machine as M
 use Rattle.answers.specs.declared.Answer.{Answer}
 use Rattle.entries.specs.Run.{begins, runEnd, runResult}
 use Rattle.entries.specs.Left.{kept, leftIn}

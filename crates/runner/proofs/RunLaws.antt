@@ -11,10 +11,10 @@ use Rattle.format.specs.declared.values.TacticNo.{TacticNo}
 use Rattle.format.specs.Terms.{Term}
 use Rattle.tables.specs.Tables.{Table}
 use Rattle.tables.specs.Standing.{TableStands}
-use Rattle.hitac.specs.Outcomes.{Ending}
-use Rattle.hitac.specs.Machine as M
-use Rattle.hitac.specs.Machine.{Control, running, stopped, after, stepFrom, step, run}
-use Rattle.hitac.proofs.RunLaws.{run-stopped}
+use Rattle.evaluation.specs.Outcomes.{Ending}
+use Rattle.evaluation.specs.Machine as M
+use Rattle.evaluation.specs.Machine.{Control, running, stopped, after, stepFrom, step, run}
+use Rattle.evaluation.proofs.RunLaws.{run-stopped}
 use Rattle.arities.specs.Layout.{framesEnd, spaceEnd}
 use Rattle.arities.specs.Arities.{ArityTable, arities}
 use Rattle.tactics.specs.Memory.{Same}

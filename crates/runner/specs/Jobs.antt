@@ -11,7 +11,7 @@ use Rattle.files.specs.Jobs.{Job}
 use Rattle.files.specs.Counts.{jobTermPlace}
 use Rattle.files.specs.Standing.{JobStands}
 use Rattle.files.specs.Shapes.{jobPartsOf}
-use Rattle.hitac.specs.Machine as M
+use Rattle.evaluation.specs.Machine as M
 use Rattle.answers.specs.declared.Answer.{Answer}
 use Rattle.entries.specs.Run.{begins, runEnd}
 use Rattle.entries.specs.Left.{kept, leftIn}

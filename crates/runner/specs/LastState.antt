@@ -10,7 +10,7 @@ use Rattle.tables.specs.Standing.{TableStands}
 use Rattle.files.specs.Jobs.{Job, readJob}
 use Rattle.files.specs.Counts.{jobTermPlace}
 use Rattle.files.specs.Standing.{JobStands}
-use Rattle.hitac.specs.Machine as M
+use Rattle.evaluation.specs.Machine as M
 use Rattle.entries.specs.Run.{begins}
 use Rattle.arities.specs.Arities.{ArityTable, arities}
 use Rattle.tactics.specs.Entry.{FilesRefused}

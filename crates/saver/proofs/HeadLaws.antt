@@ -13,8 +13,8 @@ use Rattle.format.specs.Encoding.{Bytes, wordBytes, termBytes}
 use Rattle.format.specs.Standing.{Stands}
 use Rattle.format.specs.Terms.{Term, size}
 use Rattle.format.proofs.Encoded.{length-termBytes, term-bytes}
-use Rattle.hitac.specs.Machine as M
-use Rattle.hitac.specs.Machine.{labelled, sequenceLeft, sequenceRight, tensorLeft, tensorRight, alternationLeft}
+use Rattle.evaluation.specs.Machine as M
+use Rattle.evaluation.specs.Machine.{labelled, sequenceLeft, sequenceRight, tensorLeft, tensorRight, alternationLeft}
 use Rattle.entries.specs.SavedState.{finishedField, finishedFields}
 use Rattle.arities.specs.Layout.{framesEnd, spaceEnd}
 use Rattle.frames.specs.declared.Frame.{Frame}

@@ -8,7 +8,7 @@ use lib.ListN.{length, take, drop, replicate, length-drop, length-replicate}
 use lib.Seq.{take-length, drop-drop, length-take-le}
 use borrow.Rule.Slice.PartMut.{midOf, putMid}
 use Rattle.format.specs.Goals.{goalsAt}
-use Rattle.hitac.specs.Machine as M
+use Rattle.evaluation.specs.Machine as M
 use Rattle.lent_frames.specs.declared.LentFrame.{LentFrame}
 use Rattle.entries.specs.SavedState.{savedSize, waitingTerm, zerosTo}
 use Rattle.arities.specs.Layout.{spaceEnd}

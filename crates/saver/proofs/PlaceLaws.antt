@@ -10,9 +10,9 @@ use Rattle.format.specs.Terms.{Term, atomic, id, label, sequence, tensor, empty
 use Rattle.tables.specs.Tables.{Table}
 use Rattle.tables.specs.Lookup.{findBody}
 use Rattle.tables.specs.Places.{bodyPlace}
-use Rattle.hitac.specs.TacticArity.{tacticArity}
-use Rattle.hitac.specs.Outcomes.{Ending, proved, failed, ended, ruleGives, oneGoal, noGoal, assertGives, splitBy, finished, inLabel, afterLeft, besideLeft}
-use Rattle.hitac.specs.Machine.{Place, past, Frame, labelled, sequenceLeft, sequenceRight, tensorLeft, tensorRight, alternationLeft, Control, running, stopped, State, after, unwind, enterOrFail, begin, stepFrom, step, run, start}
+use Rattle.evaluation.specs.TacticArity.{tacticArity}
+use Rattle.evaluation.specs.Outcomes.{Ending, proved, failed, ended, ruleGives, oneGoal, noGoal, assertGives, splitBy, finished, inLabel, afterLeft, besideLeft}
+use Rattle.evaluation.specs.Machine.{Place, past, Frame, labelled, sequenceLeft, sequenceRight, tensorLeft, tensorRight, alternationLeft, Control, running, stopped, State, after, unwind, enterOrFail, begin, stepFrom, step, run, start}
 use Rattle.saver.specs.Save.{InFiles}
 
 abbrev KnownFiles : Control → Type 0

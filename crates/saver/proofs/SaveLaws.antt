@@ -12,7 +12,7 @@ use Rattle.format.specs.Limits.{mostSteps}
 use Rattle.format.specs.Terms.{Term}
 use Rattle.format.proofs.GoalsLaws.{length-goalsAt}
 use Rattle.format.proofs.StandsLaws.{known}
-use Rattle.hitac.specs.Machine as M
+use Rattle.evaluation.specs.Machine as M
 use Rattle.lent_frames.specs.declared.LentFrame.{LentFrame}
 use Rattle.entries.specs.SavedState.{savedSize, waitingTerm, waitingTerms, savedContents, zerosTo}
 use Rattle.entries.proofs.SavedStateLaws.{term-length, contents-length, zeros-length}

@@ -12,10 +12,10 @@ use Rattle.format.specs.Goals.{goalsAt}
 use Rattle.format.proofs.GoalBytes.{word-value}
 use Rattle.format.proofs.GoalsLaws.{length-goalsAt}
 use Rattle.format.proofs.GoalsAt.{take-goals}
-use Rattle.hitac.specs.Machine as M
-use Rattle.hitac.specs.Machine.{labelled, sequenceLeft, sequenceRight, tensorLeft, tensorRight, alternationLeft}
-use Rattle.hitac.specs.Halts.{stage, lastPlace, ownGoals, heldOf, ownCount, heldGoals, Rebuilt, Shared}
-use Rattle.hitac.proofs.SharedGoals.{held-length, inside-most}
+use Rattle.evaluation.specs.Machine as M
+use Rattle.evaluation.specs.Machine.{labelled, sequenceLeft, sequenceRight, tensorLeft, tensorRight, alternationLeft}
+use Rattle.evaluation.specs.Halts.{stage, lastPlace, ownGoals, heldOf, ownCount, heldGoals, Rebuilt, Shared}
+use Rattle.evaluation.proofs.SharedGoals.{held-length, inside-most}
 use Rattle.entries.specs.SavedState.{waitingTerm, waitingTerms}
 use Rattle.arities.specs.Layout.{framesEnd, spaceEnd}
 use Rattle.frames.specs.declared.Frame.{Frame}

@@ -6,7 +6,7 @@ use Rattle.format.specs.declared.values.Goal.{Goal}
 use Rattle.format.specs.Encoding.{Bytes, wordBytes}
 use Rattle.format.specs.Limits.{mostSteps}
 use Rattle.format.specs.Terms.{Term}
-use Rattle.hitac.specs.Machine as M
+use Rattle.evaluation.specs.Machine as M
 use Rattle.entries.specs.SavedState.{finishedFields}
 use Rattle.entries.specs.Halting.{haltingWork}
 use Rattle.arities.specs.Layout.{spaceEnd}

@@ -6,8 +6,8 @@ use lib.ListN.{length}
 use Rattle.format.specs.declared.values.Goal.{Goal}
 use Rattle.format.specs.Limits.{mostSteps}
 use Rattle.format.specs.Terms.{Term}
-use Rattle.hitac.specs.Machine as M
-use Rattle.hitac.specs.Halts.{lastPlace, Shared}
+use Rattle.evaluation.specs.Machine as M
+use Rattle.evaluation.specs.Halts.{lastPlace, Shared}
 use Rattle.lent_frames.specs.declared.LentFrame.{LentFrame}
 use Rattle.entries.specs.SavedState.{savedSize, savedContents, zerosTo}
 use Rattle.entries.specs.Halting.{haltingWork, mostFrames}

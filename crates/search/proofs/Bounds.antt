@@ -10,7 +10,7 @@ use Rattle.format.specs.declared.values.Goal.{Goal}
 use Rattle.format.specs.Terms.{Term, atomic, id, label, sequence, tensor, empty, alternation, assert, defined, fields}
 use Rattle.tables.specs.Tables.{Table}
 use Rattle.tables.specs.Lookup.{findBody}
-use Rattle.hitac.specs.Outcomes.{ruleGives, oneGoal, noGoal, assertGives, joinedFits}
+use Rattle.evaluation.specs.Outcomes.{ruleGives, oneGoal, noGoal, assertGives, joinedFits}
 use Rattle.search.specs.Events.{Event, begun, found}
 use Rattle.search.specs.Trace.{trace}
 use Rattle.search.specs.Answer.{Searched, proved, exhausted, spent, firstFound, search}

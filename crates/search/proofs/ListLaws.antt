@@ -10,7 +10,7 @@ use Rattle.format.specs.Terms.{Term}
 use Rattle.tables.specs.Tables.{Table, UniqueRules, UniqueDefinitions}
 use Rattle.hitac.specs.Validates.{AnyList, AtMost256}
 use Rattle.hitac.specs.Premises.{FewPremises}
-use Rattle.hitac.specs.Evaluates.{Evaluates, B-Atomic, B-Id, B-Label, B-Seq, B-Tensor, B-Empty, B-Alt-L, B-Alt-R, B-Assert, B-Def}
+use Rattle.evaluation.specs.Evaluates.{Evaluates, B-Atomic, B-Id, B-Label, B-Seq, B-Tensor, B-Empty, B-Alt-L, B-Alt-R, B-Assert, B-Def}
 use Rattle.search.specs.Events.{FoundIn}
 use Rattle.search.specs.Trace.{trace}
 use Rattle.search.specs.EvaluatesWithin.{ListsFit, EvaluatesWithin}

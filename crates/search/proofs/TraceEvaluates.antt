@@ -19,8 +19,8 @@ use Rattle.tables.specs.Lookup.{FoundRule, findRule, findBody, matches}
 use Rattle.tables.proofs.RuleLookup.{same-goal, found-member, found↔rule}
 use Rattle.tables.proofs.BodyLookup.{body-member, found↔definition}
 use Rattle.hitac.specs.Validates.{AtMost256}
-use Rattle.hitac.specs.Outcomes.{foundPremises, onOne, ruleGives, oneGoal, noGoal, assertGives, joinedFits}
-use Rattle.hitac.specs.Evaluates.{Evaluates, B-Atomic, B-Id, B-Label, B-Seq, B-Tensor, B-Empty, B-Alt-L, B-Alt-R, B-Assert, B-Def}
+use Rattle.evaluation.specs.Outcomes.{foundPremises, onOne, ruleGives, oneGoal, noGoal, assertGives, joinedFits}
+use Rattle.evaluation.specs.Evaluates.{Evaluates, B-Atomic, B-Id, B-Label, B-Seq, B-Tensor, B-Empty, B-Alt-L, B-Alt-R, B-Assert, B-Def}
 use Rattle.search.specs.Events.{Event, begun, found, FoundIn, here, later}
 use Rattle.search.specs.Trace.{foundIf, enterIf, inLabel, thenRight, foundJoined, besideRight, splits, following, trace}
 use Rattle.search.proofs.EventLaws.{finds-left, finds-right, finds-either, none-found, one-found, finds-each, each-finds}

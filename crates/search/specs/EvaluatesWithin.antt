@@ -7,7 +7,7 @@ use Rattle.format.specs.Limits.{mostGoals}
 use Rattle.format.specs.Terms.{Term}
 use Rattle.tables.specs.Tables.{Table}
 use Rattle.hitac.specs.Validates.{AnyList}
-use Rattle.hitac.specs.Evaluates.{Evaluates, B-Atomic, B-Id, B-Label, B-Seq, B-Tensor, B-Empty, B-Alt-L, B-Alt-R, B-Assert, B-Def}
+use Rattle.evaluation.specs.Evaluates.{Evaluates, B-Atomic, B-Id, B-Label, B-Seq, B-Tensor, B-Empty, B-Alt-L, B-Alt-R, B-Assert, B-Def}
 
 -- what a term takes and what it gives
 abbrev pub BothFit : (taken gave : List Goal) → Type 0

@@ -8,7 +8,7 @@ use Rattle.format.specs.declared.values.Label.{Label}
 use Rattle.format.specs.Terms.{Term, atomic, id, label, sequence, tensor, empty, alternation, assert, defined}
 use Rattle.tables.specs.Tables.{Table}
 use Rattle.tables.specs.Lookup.{findBody}
-use Rattle.hitac.specs.Outcomes.{ruleGives, oneGoal, noGoal, assertGives, joinedFits}
+use Rattle.evaluation.specs.Outcomes.{ruleGives, oneGoal, noGoal, assertGives, joinedFits}
 use Rattle.search.specs.Answer.{Searched, proved, exhausted, spent}
 
 -- A term that waits for an inner term to end, with what it still needs. `below` is how many levels may begin below the right term.

@@ -5,7 +5,7 @@ use mathlib.Core.List.{List, [], _∷_, _++_}
 use Rattle.format.specs.declared.values.Goal.{Goal}
 use Rattle.format.specs.Terms.{Term, label, sequence, tensor}
 use Rattle.tables.specs.Tables.{Table}
-use Rattle.hitac.specs.Outcomes.{joinedFits}
+use Rattle.evaluation.specs.Outcomes.{joinedFits}
 use Rattle.search.specs.Events.{Event, found, forEach}
 use Rattle.search.specs.Trace.{trace, splits}
 use Rattle.search.specs.Machine.{Frame, labelled, sequenceLeft, sequenceRight, tensorLeft, tensorRight, Choice, orElse, nextSplit, Control, running, finished, nothing}

@@ -8,7 +8,7 @@ use Rattle.format.specs.declared.values.Label.{Label}
 use Rattle.format.specs.Terms.{Term, atomic, id, label, sequence, tensor, empty, alternation, assert, defined}
 use Rattle.tables.specs.Tables.{Table}
 use Rattle.tables.specs.Lookup.{findBody}
-use Rattle.hitac.specs.Outcomes.{ruleGives, oneGoal, noGoal, assertGives, joinedFits}
+use Rattle.evaluation.specs.Outcomes.{ruleGives, oneGoal, noGoal, assertGives, joinedFits}
 use Rattle.search.specs.Events.{Event, begun, found, forEach}
 
 -- a term on a list of goals, and its events

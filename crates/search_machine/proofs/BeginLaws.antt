@@ -24,7 +24,7 @@ use Rattle.tables.specs.Tables.{Table}
 use Rattle.tables.specs.Lookup.{findBody}
 use Rattle.tables.specs.Standing.{TableStands}
 use Rattle.tables.specs.Found.{ruleFound, FindsRule, BodyStands, FindsBody}
-use Rattle.hitac.specs.Outcomes.{oneGoal, noGoal, assertGives, foundPremises, ruleGives}
+use Rattle.evaluation.specs.Outcomes.{oneGoal, noGoal, assertGives, foundPremises, ruleGives}
 use Rattle.tactics.specs.Memory.{Same, Only}
 use Rattle.tactics.specs.Numbers.{putHeader}
 use Rattle.tactics.specs.Source.{source}

@@ -12,7 +12,7 @@ use Rattle.format.specs.Terms.{Term, tensor}
 use Rattle.format.proofs.GoalsLaws.{length-goalsAt}
 use Rattle.tactics.specs.Goals.{Gathered}
 use Rattle.tactics.specs.Memory.{Same}
-use Rattle.hitac.specs.Outcomes.{joinedFits}
+use Rattle.evaluation.specs.Outcomes.{joinedFits}
 use Rattle.outline.specs.Layout.{outlineEnd}
 use Rattle.outline.specs.Outline.{outlineOf}
 use Rattle.search.specs.Machine as M

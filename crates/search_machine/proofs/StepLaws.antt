@@ -19,7 +19,7 @@ use Rattle.tables.specs.Tables.{Table}
 use Rattle.tables.specs.Standing.{TableStands}
 use Rattle.tables.specs.Lookup.{findBody}
 use Rattle.index.proofs.IndexKept.{tree-kept}
-use Rattle.hitac.specs.Outcomes.{oneGoal, noGoal, assertGives, ruleGives}
+use Rattle.evaluation.specs.Outcomes.{oneGoal, noGoal, assertGives, ruleGives}
 use Rattle.arities.specs.Arities.{Pair}
 use Rattle.arities.proofs.ArityLaws.{Inner, pair-of}
 use Rattle.outline.specs.Layout.{outlineEnd}

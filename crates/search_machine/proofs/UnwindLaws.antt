@@ -10,7 +10,7 @@ use borrow.Author.Tests.{eq-eqb, eqb-true}
 use Rattle.format.specs.declared.values.Goal.{Goal}
 use Rattle.format.specs.declared.values.Label.{Label}
 use Rattle.format.specs.Terms.{Term, label, sequence, tensor}
-use Rattle.hitac.specs.Outcomes.{joinedFits}
+use Rattle.evaluation.specs.Outcomes.{joinedFits}
 use Rattle.outline.specs.Outline.{outlineOf}
 use Rattle.search.specs.Machine as M
 use Rattle.search.specs.Machine.{labelled, sequenceLeft, sequenceRight, tensorLeft, tensorRight, give}

@@ -11,7 +11,7 @@ use Rattle.format.specs.Terms.{Term, atomic, id, label, sequence, tensor, empty
 use Rattle.format.specs.Standing.{Stands}
 use Rattle.tables.specs.Tables.{Table}
 use Rattle.tables.specs.Lookup.{findBody}
-use Rattle.hitac.specs.Outcomes.{ruleGives, oneGoal, noGoal, assertGives}
+use Rattle.evaluation.specs.Outcomes.{ruleGives, oneGoal, noGoal, assertGives}
 use Rattle.search.specs.Machine as M
 use Rattle.search.specs.Machine.{labelled, sequenceLeft, tensorLeft, orElse, withNext}
 use Rattle.search_machine.specs.declared.nodes.Node.{Node}

@@ -8,7 +8,7 @@ use Rattle.format.specs.declared.values.Goal.{Goal}
 use Rattle.format.specs.Limits.{mostSearchSteps}
 use Rattle.format.specs.Terms.{Term, label, sequence, tensor}
 use Rattle.words.specs.Word.{putWord}
-use Rattle.hitac.specs.Outcomes.{joinedFits}
+use Rattle.evaluation.specs.Outcomes.{joinedFits}
 use Rattle.tactics.specs.Goals.{Gathered}
 use Rattle.search.specs.Machine as M
 use Rattle.search.specs.Machine.{labelled, sequenceLeft, sequenceRight, tensorLeft, tensorRight}

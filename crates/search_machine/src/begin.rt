@@ -12,7 +12,7 @@ ghost use Rattle.format.specs.Goals.{goalsAt};
 ghost use Rattle.format.specs.Terms.{Term, atomic, id, label, sequence, tensor, empty, alternation, assert, defined, size};
 ghost use Rattle.tables.specs.Tables.{Table};
 ghost use Rattle.tables.specs.Standing.{TableStands};
-ghost use Rattle.hitac.specs.Outcomes.{oneGoal, noGoal, assertGives, ruleGives};
+ghost use Rattle.evaluation.specs.Outcomes.{oneGoal, noGoal, assertGives, ruleGives};
 ghost use Rattle.index.specs.Build.{RulesIndexed, DefinitionsIndexed};
 ghost use Rattle.tactics.specs.Numbers.{putHeader};
 ghost use Rattle.outline.specs.Layout.{outlineEnd};

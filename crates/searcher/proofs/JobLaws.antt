@@ -20,7 +20,7 @@ use Rattle.files.specs.Counts.{jobTermPlace}
 use Rattle.files.specs.Standing.{JobStands}
 use Rattle.files.specs.Shapes.{jobPartsOf}
 use Rattle.hitac.proofs.ValidatesLaws.{validates-hiproof}
-use Rattle.hitac.proofs.BigStep.{evaluates-validates}
+use Rattle.evaluation.proofs.BigStep.{evaluates-validates}
 use Rattle.answers.specs.declared.Answer.{Answer}
 use Rattle.answers.specs.Answers as said
 use Rattle.entries.specs.Outcomes.{success}

@@ -11,7 +11,7 @@ use Rattle.format.specs.declared.values.Goal.{Goal}
 use Rattle.format.specs.Goals.{goalsAt}
 use Rattle.tables.specs.Tables.{Table}
 use Rattle.tables.specs.Lookup.{matches}
-use Rattle.hitac.specs.Outcomes.{onOne, oneGoal, noGoal, assertGives}
+use Rattle.evaluation.specs.Outcomes.{onOne, oneGoal, noGoal, assertGives}
 
 -- what the forms on one goal and on none give for the goals in bytes
 module _ (w : List ℕ) (at : ℕ) where

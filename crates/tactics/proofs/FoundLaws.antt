@@ -17,7 +17,7 @@ use Rattle.tables.specs.Lookup.{findRule, findBody}
 use Rattle.tables.specs.Standing.{TableStands}
 use Rattle.tables.specs.Found.{ruleFound, FindsRule, FoundInside, BodyStands, BodyPlaced, FindsBody}
 use Rattle.tables.specs.Places.{bodyPlace}
-use Rattle.hitac.specs.Outcomes.{foundPremises, ruleGives}
+use Rattle.evaluation.specs.Outcomes.{foundPremises, ruleGives}
 use Rattle.tactics.proofs.FormLaws.{one-at}
 
 -- the rule of an atomic term

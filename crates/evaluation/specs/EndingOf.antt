@@ -1,0 +1,9 @@
+-- Document 01, "Running a tactic": the machine's ending for each end of the rules (Ends).
+use Rattle.format.specs.Refusals.{joinedTooLong}
+use Rattle.evaluation.specs.Outcomes.{Ending, proved, failed, ended}
+use Rattle.evaluation.specs.Ends.{End, proof, failure, overflow}
+
+abbrev pub endingOf : End → Ending
+endingOf (proof s h) = proved s h
+endingOf failure = failed
+endingOf overflow = ended joinedTooLong

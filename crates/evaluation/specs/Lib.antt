@@ -1,0 +1,9 @@
+pub mod TacticArity
+pub mod Outcomes
+pub mod Machine
+pub mod Ends
+pub mod Evaluates
+pub mod EndingOf
+pub mod RunSizes
+pub mod Halts
+pub mod Placed

@@ -1,0 +1,10 @@
+pub mod RunWithin
+pub mod RunPromises
+pub mod RunMeaning
+pub mod HaltingCases
+pub mod HaltingPromises
+pub mod ResumeCases
+pub mod ResumePromises
+pub mod OwnGoals
+pub mod SavedPlaces
+pub mod SearchPromises
