@@ -2,6 +2,7 @@
 ghost use mathlib.Core.Path.{_≡_};
 ghost use Rattle.entries.specs.Check as entry;
 ghost use Rattle.entries.specs.CheckFlat.{checkFlat, writeProof};
+ghost use Rattle.entries.specs.Halting.{runHalting, resumeRun};
 ghost use Rattle.entries.specs.Run.{runTactic};
 ghost use Rattle.entries.specs.Search.{searchTactic};
 ghost use Rattle.entries.specs.Texts.{readText, writeText};
@@ -11,6 +12,9 @@ use answers::Answer;
 use checker::check::check;
 use derivation::check::check_flat;
 use flattener::flatten::flatten;
+use halting::entry::resume;
+use halting::entry::run_halting;
+use lent_frames::LentFrame;
 use runner::entry::run;
 use searcher::entry::search;
 use text_reader::entry::read_text;
@@ -20,7 +24,7 @@ use writer::entry::write_proof;
 // The minor number goes up with each new call, the major number when programs must be compiled anew.
 const MAJOR: u32 = 2;
 
-const MINOR: u32 = 0;
+const MINOR: u32 = 2;
 
 // Whether the proof is accepted in the table.
 #[no_mangle]
@@ -121,6 +125,47 @@ pub extern "C" fn hitac_search(
     ensures out { λ _. ⌜ now (out .exit) ≡ searchTactic (now (table .entry)) (now (job .entry)) height budget (now (work .entry)) (now (out .entry)) .out ⌝ }
 {
     search(table, job, height, budget, work, out)
+}
+
+// Runs the job's tactic in the table, within the budget: a proof file in the output space, or at a halt the saved state in the second space.
+#[no_mangle]
+pub extern "C" fn hitac_run_halting(
+    table: &[u8],
+    job: &[u8],
+    budget: u32,
+    work: &mut [u8],
+    frames: &mut [LentFrame],
+    out: &mut [u8],
+    state: &mut [u8],
+) -> Answer
+    ensures answer { λ r. ⌜ r ≡ runHalting (now (table .entry)) (now (job .entry)) budget (now (work .entry)) (now (frames .entry)) (now (out .entry)) (now (state .entry)) .answer ⌝ }
+    ensures work { λ _. ⌜ now (work .exit) ≡ runHalting (now (table .entry)) (now (job .entry)) budget (now (work .entry)) (now (frames .entry)) (now (out .entry)) (now (state .entry)) .work ⌝ }
+    ensures frames { λ _. ⌜ now (frames .exit) ≡ runHalting (now (table .entry)) (now (job .entry)) budget (now (work .entry)) (now (frames .entry)) (now (out .entry)) (now (state .entry)) .frames ⌝ }
+    ensures out { λ _. ⌜ now (out .exit) ≡ runHalting (now (table .entry)) (now (job .entry)) budget (now (work .entry)) (now (frames .entry)) (now (out .entry)) (now (state .entry)) .out ⌝ }
+    ensures state { λ _. ⌜ now (state .exit) ≡ runHalting (now (table .entry)) (now (job .entry)) budget (now (work .entry)) (now (frames .entry)) (now (out .entry)) (now (state .entry)) .state ⌝ }
+{
+    run_halting(table, job, budget, work, frames, out, state)
+}
+
+// Goes on from a saved state, within the budget: a proof file in the output space, or at a halt the next saved state in the second space.
+#[no_mangle]
+pub extern "C" fn hitac_resume(
+    table: &[u8],
+    job: &[u8],
+    saved: &[u8],
+    budget: u32,
+    work: &mut [u8],
+    frames: &mut [LentFrame],
+    out: &mut [u8],
+    state: &mut [u8],
+) -> Answer
+    ensures answer { λ r. ⌜ r ≡ resumeRun (now (table .entry)) (now (job .entry)) (now (saved .entry)) budget (now (work .entry)) (now (frames .entry)) (now (out .entry)) (now (state .entry)) .answer ⌝ }
+    ensures work { λ _. ⌜ now (work .exit) ≡ resumeRun (now (table .entry)) (now (job .entry)) (now (saved .entry)) budget (now (work .entry)) (now (frames .entry)) (now (out .entry)) (now (state .entry)) .work ⌝ }
+    ensures frames { λ _. ⌜ now (frames .exit) ≡ resumeRun (now (table .entry)) (now (job .entry)) (now (saved .entry)) budget (now (work .entry)) (now (frames .entry)) (now (out .entry)) (now (state .entry)) .frames ⌝ }
+    ensures out { λ _. ⌜ now (out .exit) ≡ resumeRun (now (table .entry)) (now (job .entry)) (now (saved .entry)) budget (now (work .entry)) (now (frames .entry)) (now (out .entry)) (now (state .entry)) .out ⌝ }
+    ensures state { λ _. ⌜ now (state .exit) ≡ resumeRun (now (table .entry)) (now (job .entry)) (now (saved .entry)) budget (now (work .entry)) (now (frames .entry)) (now (out .entry)) (now (state .entry)) .state ⌝ }
+{
+    resume(table, job, saved, budget, work, frames, out, state)
 }
 
 // The version of the library: the major number times 65,536, and the minor number.
