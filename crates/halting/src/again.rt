@@ -36,12 +36,13 @@ pub fn run_again(table: &[u8], job: &[u8], saved: &[u8], budget: u32, work: &mut
     requires { ⌜ spaceEnd ≤ length (now work) ⌝ }
     ensures { λ r. ⌜ Again (now (table .entry)) (now (job .entry)) (now (saved .entry)) budget (now (work .entry)) (now (work .exit)) r ⌝ }
 {
-    let steps = steps_of(saved);
-    if over_limit(steps, budget) {
+    let held = steps_of(saved);
+    if over_limit(held, budget) {
         let answer = refusal(25, 0, 0, 0);
         return ended(answer);
     }
-    let last = run_files(table, job, steps as usize, work);
+    let steps = held as usize;
+    let last = run_files(table, job, steps, work);
     match last {
         LastState::Refused(answer) => ended(answer),
         LastState::Reached(s, first, term) => {

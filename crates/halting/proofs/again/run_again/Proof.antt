@@ -35,8 +35,8 @@ returns c =
     let a = c .before .before .before .before .before .before .before .before .before .args in
     limit-again (a .table .now) (a .job .now) (a .saved .now) (a .budget) (a .work .now) _ _ (over _ (c .before .before .before .before .steps-of .result) _ (c .before .before .before .before .steps-of .ensures) _ (c .before .before .before .over-limit .ensures) (c .before .before .if1 .taken)) (c .before .refusal .ensures) (c .ended .ensures)
 
-cast-run-files : tie.Need-cast-run-files
-cast-run-files c = search needs
+cast-steps : tie.Need-cast-steps
+cast-steps c = search needs
 
 run-files-requires : tie.Need-run-files-requires
 run-files-requires c κs = (omega (arith, fits (c .before), c .before .before .before .steps-of .ensures), c .before .before .before .before .before .before .before .before .pre)
@@ -80,7 +80,7 @@ run-again-spec =
     refusal-requires
     ended-requires
     returns
-    cast-run-files
+    cast-steps
     run-files-requires
     enum-known-last
     ended-requires-2

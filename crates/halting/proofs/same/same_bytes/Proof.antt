@@ -17,12 +17,12 @@ abbrev μ-loop : tie.MeasureT-loop
 returns : tie.Need-returns Inv-loop μ-loop
 returns c =
     let a = c .before .args in
-    size-end (a .s .now) (a .at) (a .n) (a .other .now) (c .before .pre) _ (c .if1 .taken) refl
+    size-end (a .s .now) (a .at) (a .n) (a .other .now) (c .before .pre) _ (λ q. omega (arith, c .if1 .taken, q)) refl
 
 loop-holds : tie.Need-loop-holds Inv-loop μ-loop
 loop-holds c =
     let a = c .before .args in
-    λ h. left-start (a .s .now) (a .at) (a .n) (a .other .now) h (c .if1 .left)
+    λ h. left-start (a .s .now) (a .at) (a .n) (a .other .now) h (omega (arith, c .if1 .left))
 
 add-if2 : tie.Need-add-if2 Inv-loop μ-loop
 add-if2 c = omega (arith, c .before .before .before .pre)
@@ -38,7 +38,7 @@ returns-2 c =
     let a = c .before .before .before .before .before .before .args in
     let p = c .before .before .before .before .before .before .pre in
     let l = c .before .before .before .before .loop in
-    differ-end (a .s .now) (a .at) (a .n) (a .other .now) p (l .i) (l .inv p) (omega (arith, c .before .before .before .loop-test .taken)) _ (c .if2 .taken) refl
+    differ-end (a .s .now) (a .at) (a .n) (a .other .now) p (l .i) (l .inv p) (omega (arith, c .before .before .before .loop-test .taken)) _ (λ q. omega (arith, c .if2 .taken, q)) refl
 
 add-i : tie.Need-add-i Inv-loop μ-loop
 add-i c = let l = c .before .before .before .before .loop .inv (c .before .before .before .before .before .before .pre) in omega (arith, c .before .before .before .before .before .before .pre)
@@ -50,7 +50,7 @@ loop-again : tie.Need-loop-again Inv-loop μ-loop
 loop-again c =
     let a = c .before .before .before .before .before .before .args in
     let l = c .before .before .before .before .loop in
-    λ h. left-next (a .s .now) (a .at) (a .n) (a .other .now) h (l .i) (l .inv h) (omega (arith, c .before .before .before .loop-test .taken)) (c .if2 .left)
+    λ h. left-next (a .s .now) (a .at) (a .n) (a .other .now) h (l .i) (l .inv h) (omega (arith, c .before .before .before .loop-test .taken)) (omega (arith, c .if2 .left))
 
 returns-3 : tie.Need-returns-3 Inv-loop μ-loop
 returns-3 c =
