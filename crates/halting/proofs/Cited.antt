@@ -15,8 +15,8 @@ use Rattle.halting.proofs.entry.too_short as too-short
 use Rattle.halting.proofs.first.first_run as first-run
 use Rattle.halting.proofs.again.run_again as run-again
 use Rattle.halting.proofs.halted.state_of as state-of
-use Rattle.halting.proofs.on.go_on as go-on
-use Rattle.halting.proofs.hand.finish as finish
+use Rattle.halting.proofs.go_on.go_on as go-on
+use Rattle.halting.proofs.finish.finish as finish
 
 module _ {M : Type 1} (𝓤 : URA M) (H : Heap 𝓤) (A : Atoms 𝓤) (mem : Memory → SProp 𝓤) (run : Routine → Fun 𝓤) where
   abbrev pub Refusal : Contract 𝓤

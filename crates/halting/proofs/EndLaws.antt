@@ -19,8 +19,8 @@ use Rattle.saver.specs.Save.{Halts, SaveGiven, Saves}
 use Rattle.halting.specs.declared.halted.Halted.{Halted}
 use Rattle.halting.specs.Halted.{Keeps, Comes}
 use Rattle.halting.specs.Again.{Again}
-use Rattle.halting.specs.On.{GoOnGiven}
-use Rattle.halting.specs.Hand.{handed}
+use Rattle.halting.specs.GoOn.{GoOnGiven}
+use Rattle.halting.specs.Finish.{handed}
 use Rattle.halting.proofs.HaltLaws.{keeps}
 use Rattle.halting.proofs.SavedLaws.{same-size, same-front, stands-saved, hands-saved}
 use Rattle.halting.proofs.ShortLaws.{Leaves}

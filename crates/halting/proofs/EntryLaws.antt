@@ -19,8 +19,8 @@ use Rattle.saver.specs.Save.{SaveGiven, Saves}
 use Rattle.halting.specs.declared.halted.Halted.{Halted}
 use Rattle.halting.specs.Halted.{Comes}
 use Rattle.halting.specs.Again.{Again}
-use Rattle.halting.specs.On.{GoOnGiven}
-use Rattle.halting.specs.Hand.{handed}
+use Rattle.halting.specs.GoOn.{GoOnGiven}
+use Rattle.halting.specs.Finish.{handed}
 use Rattle.halting.proofs.ShortLaws.{short-leaves, enough}
 use Rattle.halting.proofs.EndLaws.{save-given, finish-given, finished, again-save-given, again-size, go-on-given}
 

@@ -3,8 +3,8 @@ pub mod HaltLaws
 pub mod ComesLaws
 pub mod FirstLaws
 pub mod AgainLaws
-pub mod OnLaws
-pub mod HandLaws
+pub mod GoOnLaws
+pub mod FinishLaws
 pub mod SavedLaws
 pub mod ShortLaws
 pub mod EndLaws

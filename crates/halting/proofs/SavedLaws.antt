@@ -18,8 +18,8 @@ use Rattle.machine.specs.declared.state.State.{State}
 use Rattle.saver.specs.Save.{Halts, Saves}
 use Rattle.saver.proofs.PutLaws.{same-below}
 use Rattle.saver.proofs.SaveLaws.{saved-length, saved-front, saved-block}
-use Rattle.halting.specs.On.{savedPart}
-use Rattle.halting.specs.Hand.{handed}
+use Rattle.halting.specs.GoOn.{savedPart}
+use Rattle.halting.specs.Finish.{handed}
 
 -- by whether a term is to begin
 either : (s : State) (P : Type 0) → ((s .mode ≡ 0 → ⊥) → P) → (s .mode ≡ 0 → P) → P

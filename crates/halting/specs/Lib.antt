@@ -1,4 +1,4 @@
 pub mod Halted
 pub mod Again
-pub mod On
-pub mod Hand
+pub mod GoOn
+pub mod Finish

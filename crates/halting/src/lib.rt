@@ -2,9 +2,9 @@
 // Document 02, P1, "Stepping for the debugger": 24 with the saved state, 25 for both budgets together, 30.
 pub mod again;
 pub mod entry;
+pub mod finish;
 pub mod first;
+pub mod go_on;
 pub mod halted;
-pub mod hand;
 pub mod layout;
-pub mod on;
 pub mod same;

@@ -58,9 +58,9 @@ use Rattle.halting.specs.declared.halted.Halted.{Halted}
 use Rattle.halting.proofs.halted.Halted as R
 use Rattle.halting.proofs.halted.Halted.Laws as R′
 use Rattle.halting.specs.Halted.{Comes}
-use Rattle.halting.specs.Hand.{handed}
+use Rattle.halting.specs.Finish.{handed}
 use Rattle.halting.specs.Again.{Again}
-use Rattle.halting.specs.On.{GoOnGiven}
+use Rattle.halting.specs.GoOn.{GoOnGiven}
 use Rattle.halting.proofs.EntryLaws.{Is as FiveClauses, resume-short, run-given, resume-save-given, resume-on-given, resume-second-given, resume-finish-given, resume-end}
 use Rattle.halting.proofs.Cited.{TooShort, Refusal, RunAgain, StateOf, Save, GoOn, Finish}
 use Rattle.halting.proofs.entry.too_short.Symbol as too-short-def
@@ -78,12 +78,12 @@ use Rattle.halting.proofs.halted.state_of.Met as state-of-thm
 use Rattle.saver.proofs.save.save.Symbol as save-def
 use Rattle.saver.proofs.save.save.Symbol.{name as #save}
 use Rattle.saver.proofs.save.save.Met as save-thm
-use Rattle.halting.proofs.on.go_on.Symbol as go-on-def
-use Rattle.halting.proofs.on.go_on.Symbol.{name as #go-on}
-use Rattle.halting.proofs.on.go_on.Met as go-on-thm
-use Rattle.halting.proofs.hand.finish.Symbol as finish-def
-use Rattle.halting.proofs.hand.finish.Symbol.{name as #finish}
-use Rattle.halting.proofs.hand.finish.Met as finish-thm
+use Rattle.halting.proofs.go_on.go_on.Symbol as go-on-def
+use Rattle.halting.proofs.go_on.go_on.Symbol.{name as #go-on}
+use Rattle.halting.proofs.go_on.go_on.Met as go-on-thm
+use Rattle.halting.proofs.finish.finish.Symbol as finish-def
+use Rattle.halting.proofs.finish.finish.Symbol.{name as #finish}
+use Rattle.halting.proofs.finish.finish.Met as finish-thm
 use Rattle.halting.proofs.entry.resume.Key.{name as #resume}
 use Rattle.halting.proofs.entry.resume as resume
 use Rattle.halting.proofs.entry.resume.Statement as stated
@@ -302,5 +302,5 @@ resume-spec 𝓤 H 𝓜 𝓖 𝓡 =
     (cited 𝓤 H (RunAgain 𝓤 H (𝓖 .A) (𝓜 .mem) (𝓡 .run)) 𝓜 𝓡 code.env #run-again run-again-def.routine code.calls-halting·again·run-again (run-again-thm.met 𝓤 H 𝓜 𝓖 𝓡))
     (cited 𝓤 H (StateOf 𝓤 H (𝓖 .A) (𝓜 .mem) (𝓡 .run)) 𝓜 𝓡 code.env #state-of state-of-def.routine code.calls-halting·halted·state-of (state-of-thm.met 𝓤 H 𝓜 𝓖 𝓡))
     (cited 𝓤 H (Save 𝓤 H (𝓖 .A) (𝓜 .mem) (𝓡 .run)) 𝓜 𝓡 code.env #save save-def.routine code.calls-saver·save·save (save-thm.met 𝓤 H 𝓜 𝓖 𝓡))
-    (cited 𝓤 H (GoOn 𝓤 H (𝓖 .A) (𝓜 .mem) (𝓡 .run)) 𝓜 𝓡 code.env #go-on go-on-def.routine code.calls-halting·on·go-on (go-on-thm.met 𝓤 H 𝓜 𝓖 𝓡))
-    (cited 𝓤 H (Finish 𝓤 H (𝓖 .A) (𝓜 .mem) (𝓡 .run)) 𝓜 𝓡 code.env #finish finish-def.routine code.calls-halting·hand·finish (finish-thm.met 𝓤 H 𝓜 𝓖 𝓡)))
+    (cited 𝓤 H (GoOn 𝓤 H (𝓖 .A) (𝓜 .mem) (𝓡 .run)) 𝓜 𝓡 code.env #go-on go-on-def.routine code.calls-halting·go-on·go-on (go-on-thm.met 𝓤 H 𝓜 𝓖 𝓡))
+    (cited 𝓤 H (Finish 𝓤 H (𝓖 .A) (𝓜 .mem) (𝓡 .run)) 𝓜 𝓡 code.env #finish finish-def.routine code.calls-halting·finish·finish (finish-thm.met 𝓤 H 𝓜 𝓖 𝓡)))

@@ -58,7 +58,7 @@ use Rattle.halting.specs.declared.halted.Halted.{Halted}
 use Rattle.halting.proofs.halted.Halted as R
 use Rattle.halting.proofs.halted.Halted.Laws as R′
 use Rattle.halting.specs.Halted.{Comes}
-use Rattle.halting.specs.Hand.{handed}
+use Rattle.halting.specs.Finish.{handed}
 use Rattle.halting.proofs.EntryLaws.{Is as FiveClauses, halting-short, run-given, halting-save-given, halting-finish-given, halting-end}
 use Rattle.halting.proofs.Cited.{TooShort, Refusal, FirstRun, StateOf, Save, Finish}
 use Rattle.halting.proofs.entry.too_short.Symbol as too-short-def
@@ -76,9 +76,9 @@ use Rattle.halting.proofs.halted.state_of.Met as state-of-thm
 use Rattle.saver.proofs.save.save.Symbol as save-def
 use Rattle.saver.proofs.save.save.Symbol.{name as #save}
 use Rattle.saver.proofs.save.save.Met as save-thm
-use Rattle.halting.proofs.hand.finish.Symbol as finish-def
-use Rattle.halting.proofs.hand.finish.Symbol.{name as #finish}
-use Rattle.halting.proofs.hand.finish.Met as finish-thm
+use Rattle.halting.proofs.finish.finish.Symbol as finish-def
+use Rattle.halting.proofs.finish.finish.Symbol.{name as #finish}
+use Rattle.halting.proofs.finish.finish.Met as finish-thm
 use Rattle.halting.proofs.entry.run_halting.Key.{name as #run-halting}
 use Rattle.halting.proofs.entry.run_halting as run-halting
 use Rattle.halting.proofs.entry.run_halting.Statement as stated
@@ -266,4 +266,4 @@ run-halting-spec 𝓤 H 𝓜 𝓖 𝓡 =
     (cited 𝓤 H (FirstRun 𝓤 H (𝓖 .A) (𝓜 .mem) (𝓡 .run)) 𝓜 𝓡 code.env #first-run first-run-def.routine code.calls-halting·first·first-run (first-run-thm.met 𝓤 H 𝓜 𝓖 𝓡))
     (cited 𝓤 H (StateOf 𝓤 H (𝓖 .A) (𝓜 .mem) (𝓡 .run)) 𝓜 𝓡 code.env #state-of state-of-def.routine code.calls-halting·halted·state-of (state-of-thm.met 𝓤 H 𝓜 𝓖 𝓡))
     (cited 𝓤 H (Save 𝓤 H (𝓖 .A) (𝓜 .mem) (𝓡 .run)) 𝓜 𝓡 code.env #save save-def.routine code.calls-saver·save·save (save-thm.met 𝓤 H 𝓜 𝓖 𝓡))
-    (cited 𝓤 H (Finish 𝓤 H (𝓖 .A) (𝓜 .mem) (𝓡 .run)) 𝓜 𝓡 code.env #finish finish-def.routine code.calls-halting·hand·finish (finish-thm.met 𝓤 H 𝓜 𝓖 𝓡)))
+    (cited 𝓤 H (Finish 𝓤 H (𝓖 .A) (𝓜 .mem) (𝓡 .run)) 𝓜 𝓡 code.env #finish finish-def.routine code.calls-halting·finish·finish (finish-thm.met 𝓤 H 𝓜 𝓖 𝓡)))

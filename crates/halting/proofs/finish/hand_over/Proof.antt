@@ -1,11 +1,11 @@
--- `hand::hand_over` meets its contract: by whether the run halted.
+-- `finish::hand_over` meets its contract: by whether the run halted.
 -- Assumes nothing.
 use mathlib.Core.Path.{refl}
 use native.Mathlib.Omega.{arith}
 use borrow.Author.Needs.{needs}
-use Rattle.halting.proofs.HandLaws.{halted-end, other-end}
-use Rattle.halting.proofs.hand.hand_over.Statement.{statement}
-use Rattle.halting.proofs.hand.hand_over.Tie as tie
+use Rattle.halting.proofs.FinishLaws.{halted-end, other-end}
+use Rattle.halting.proofs.finish.hand_over.Statement.{statement}
+use Rattle.halting.proofs.finish.hand_over.Tie as tie
 
 copy-in-requires : tie.Need-copy-in-requires
 copy-in-requires c κs = search needs

@@ -24,7 +24,7 @@ use Rattle.runner.proofs.RunLaws.{known-same, if-running}
 use Rattle.runner.proofs.LastLaws.{finish-given}
 use Rattle.halting.specs.declared.halted.Halted.{Halted}
 use Rattle.halting.specs.Halted.{Ended, Answered, Comes}
-use Rattle.halting.specs.On.{savedPart, Candidate, GoOnGiven}
+use Rattle.halting.specs.GoOn.{savedPart, Candidate, GoOnGiven}
 use Rattle.halting.proofs.HaltLaws.{steps-stand}
 use Rattle.halting.proofs.ComesLaws.{refusal-comes, ended-comes, run-comes}
 use Rattle.halting.proofs.AgainLaws.{not-genuine-refuses}

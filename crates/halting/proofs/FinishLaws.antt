@@ -10,7 +10,7 @@ use borrow.Author.Tests.{eq-eqb, ne-eqb}
 use Rattle.entries.specs.SavedState.{savedSize}
 use Rattle.arities.specs.Layout.{spaceEnd}
 use Rattle.machine.specs.declared.state.State.{State}
-use Rattle.halting.specs.Hand.{handed}
+use Rattle.halting.specs.Finish.{handed}
 
 copied : (d s : List ℕ) (n : ℕ) → paste d 0 s n ≡ take n s ++ drop n d
 copied d s n = ap (λ (i : ℕ). take n s ++ drop i d) (zero-add n)

@@ -4,7 +4,7 @@ ghost use Prim.Native.Nat.{_≤_};
 ghost use lib.ListN.{length, replicate};
 ghost use Rattle.entries.specs.SavedState.{savedSize};
 ghost use Rattle.entries.specs.Halting.{haltingWork};
-ghost use Rattle.halting.specs.Hand.{handed};
+ghost use Rattle.halting.specs.Finish.{handed};
 use crate::halted::Halted;
 use answers::Answer;
 use arities::layout::SPACE_END;

@@ -1,7 +1,7 @@
 // A run that goes on from a saved state.
 ghost use Rattle.entries.specs.Halting.{resumeOutcome};
 ghost use Rattle.halting.specs.Halted.{Comes};
-ghost use Rattle.halting.specs.On.{GoOnGiven};
+ghost use Rattle.halting.specs.GoOn.{GoOnGiven};
 use crate::halted::Halted;
 use crate::halted::answered;
 use crate::halted::ended;

@@ -1,10 +1,10 @@
--- `on::go_on` meets its contract: by whether the call has ended, and by the comparison.
+-- `go_on::go_on` meets its contract: by whether the call has ended, and by the comparison.
 -- Assumes nothing.
 use native.Mathlib.Omega.{arith}
 use borrow.Author.Needs.{needs}
-use Rattle.halting.proofs.OnLaws.{ended-end, steps-given, other-end, answer-given, on-end}
-use Rattle.halting.proofs.on.go_on.Statement.{statement}
-use Rattle.halting.proofs.on.go_on.Tie as tie
+use Rattle.halting.proofs.GoOnLaws.{ended-end, steps-given, other-end, answer-given, on-end}
+use Rattle.halting.proofs.go_on.go_on.Statement.{statement}
+use Rattle.halting.proofs.go_on.go_on.Tie as tie
 
 returns : tie.Need-returns
 returns c =
