@@ -76,8 +76,8 @@ module _ (t s saved : List ℕ) (c : ℕ) (w : List ℕ) (h : Halted) where
     unfolding resumeOutcome
     files-again a f e = ended-again v a len (files-refuse t s (stepsOf saved + c) (goingOn saved c) fits a f) e
 
-    pub run-again : (n : ℕ) → n ≡ stepsOf saved → Reached t s n v (h .state) (h .first) (h .term) → h .answer ≡ said.refusal 30 0 0 0 → Again t s saved c w v h
-    run-again n e q a =
+    pub run-again : (n : ℕ) → Reached t s n v (h .state) (h .first) (h .term) → n ≡ stepsOf saved → h .answer ≡ said.refusal 30 0 0 0 → Again t s saved c w v h
+    run-again n q e a =
         let q′ : Reached t s (stepsOf saved) v (h .state) (h .first) (h .term) = subst (λ (i : ℕ). Reached t s i v (h .state) (h .first) (h .term)) e q in
         record {
           same-length = len;

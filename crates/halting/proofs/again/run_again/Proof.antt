@@ -69,7 +69,7 @@ returns-3 : tie.Need-returns-3
 returns-3 c =
     let a = c .before .before .before .before .before .before .before .before .before .before .before .before .before .before .before .args in
     let f = c .before .before .before .before .before .before .run-files in
-    run-again (a .table .now) (a .job .now) (a .saved .now) (a .budget) (a .work .now) _ (fits (c .before .before .before .before .before .before .before .before)) _ (f .kept .1 .1 .1 .0) _ (c .before .before .before .before .before .before .before .before .before .before .steps-of .ensures) (is-reached _ _ _ _ _ (f .ensures) _ _ _ (c .before .before .last2 .given .1)) (c .refusal2 .ensures)
+    run-again (a .table .now) (a .job .now) (a .saved .now) (a .budget) (a .work .now) _ (fits (c .before .before .before .before .before .before .before .before)) _ (f .kept .1 .1 .1 .0) _ (is-reached _ _ _ _ _ (f .ensures) _ _ _ (c .before .before .last2 .given .1)) (omega (arith, c .before .before .before .before .before .before .before .before .before .before .steps-of .ensures)) (c .refusal2 .ensures)
 
 pub run-again-spec : {M : Type 1} → statement M
 run-again-spec =
