@@ -21,7 +21,7 @@ use Rattle.frames.specs.declared.Frame.{Frame}
 use Rattle.frames.specs.Frames.{frameAt}
 use Rattle.machine.specs.declared.state.State.{State}
 use Rattle.machine.specs.Shows.{GoalsIs, FrameIs, FramesAt, setAside, Proved, Lost, Ends, Config, done, Holds}
-use Rattle.machine.specs.Popping.{pop, settle, Fits, Smaller, Waiting, Popped, leave, resume}
+use Rattle.machine.specs.Popping.{pop, settle, Fits, Smaller, Waiting, Popped, leave, alternative}
 use Rattle.machine.proofs.KeepLaws.{kept-output, goals-kept, frames-kept, frame-mark}
 use Rattle.machine.proofs.WaitingLaws.{by-kind, kindOf, if-proved, if-failed, if-ended, waiting-fits, innermost}
 
@@ -95,13 +95,13 @@ module _ (w : List ℕ) (s : State) where
         (sym (failure-passes x k (λ i. n (innermost table job w s f (l .from) x k e (l .frames) .kind ∙ i)))) (lost-leave 2 table job x k l)) z h)
 
     -- the right term of an alternation, on the same goals, the output cut back
-    pub resume-end : s .mode ≡ 2 → f .kind ≡ 6 → Popped w s w (resume s f) × Smaller w s w (resume s f)
+    pub alternative-end : s .mode ≡ 2 → f .kind ≡ 6 → Popped w s w (alternative s f) × Smaller w s w (alternative s f)
     unfolding Ends Holds pop FrameIs setAside
-    resume-end m n = (
+    alternative-end m n = (
       λ table job z x k h.
-          if-failed table job w s (x ∷ k) (λ y. Holds table job w (resume s f) (pop y x k)) m
+          if-failed table job w s (x ∷ k) (λ y. Holds table job w (alternative s f) (pop y x k)) m
           (λ l. let i = innermost table job w s f (l .from) x k e (l .frames) in
-          by-kind (λ y. Lost 2 table job w s (y ∷ k) → FrameIs table job w (s .arena) f (l .from) y → Holds table job w (resume s f) (pop failed y k)) 6
+          by-kind (λ y. Lost 2 table job w s (y ∷ k) → FrameIs table job w (s .arena) f (l .from) y → Holds table job w (alternative s f) (pop failed y k)) 6
           (λ π u g a t. record {
             mode-is = refl;
             place-is = t .4;

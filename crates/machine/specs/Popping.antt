@@ -1,4 +1,4 @@
--- One frame taken off, and frames taken off until a term is to begin or none waits: what hitac's machine does, and what the code does.
+-- One frame taken off, and frames taken off until a term is to begin or none waits: what evaluation's machine does, and what the code does.
 use Prim.Native.Nat.{ℕ, _+_, _*_, _≤_, _<_}
 use mathlib.Core.Path.{_≡_}
 use mathlib.Core.List.{List, _∷_}
@@ -85,8 +85,8 @@ abbrev pub leave : State → State
 leave s = record { mode = s .mode; file = s .file; at = s .at; start = s .start; count = s .count; top = s .top + 14; arena = s .arena; out = s .out; steps = s .steps }
 
 -- go on with the term of a frame, on the goals of the frame, its output from the frame's mark on
-abbrev pub resume : State → Frame → State
-resume s f = record { mode = 0; file = f .file; at = f .at; start = f .start; count = f .count; top = s .top + 14; arena = s .arena; out = f .mark; steps = s .steps }
+abbrev pub alternative : State → Frame → State
+alternative s f = record { mode = 0; file = f .file; at = f .at; start = f .start; count = f .count; top = s .top + 14; arena = s .arena; out = f .mark; steps = s .steps }
 
 -- go on with the right term of a frame that stays, on the goals that its left term gave
 abbrev pub turn : State → Frame → State

@@ -1,4 +1,4 @@
--- What the code's state and its work space stand for: a state of hitac's machine.
+-- What the code's state and its work space stand for: a state of evaluation's machine.
 use Prim.Native.Nat.{ℕ, _+_, _*_, _≤_}
 use mathlib.Core.Path.{_≡_}
 use mathlib.Core.List.{List, [], _∷_}

@@ -22,7 +22,7 @@ use Rattle.run_promises.specs.RunPromises.{RunRefuses}
 
 -- each lent space for which docs/ names a size is long enough; "shorter is 29"
 abbrev pub Enough : (work : List ℕ) → List LentFrame → (state : List ℕ) → Type 0
-Enough w fs st = (haltingWork ≤ length w) × (mostFrames ≤ length fs) × (savedSize ≤ length st)
+Enough w fs st = (1377292 ≤ length w) × (4096 ≤ length fs) × (86540 ≤ length st)
 
 -- after 29: everything as it was
 abbrev pub untouched : (work : List ℕ) → List LentFrame → (out state : List ℕ) → Halting
@@ -55,7 +55,7 @@ stateOf c st = c ++ replicate (savedSize - length c) 0 ++ drop savedSize st
 
 -- "as many as docs/ names" are enough, for every run that halts within the limit of steps
 abbrev pub State-size : Type 0
-State-size = (t f : List ℕ) (n : ℕ) → n ≤ 4096 → (x : HaltsAfter t f n) → length (contentsOf x) ≤ savedSize
+State-size = (t f : List ℕ) (n : ℕ) → n ≤ 4096 → (x : HaltsAfter t f n) → length (contentsOf x) ≤ 86540
 
 -- what a halt with these bytes leaves: 24 with its steps, work space and frames all zero, the output space untouched, and the state
 abbrev pub haltedAfter : (steps : ℕ) → (contents : List ℕ) → (work : List ℕ) → List LentFrame → (out state : List ℕ) → Halting

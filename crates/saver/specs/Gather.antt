@@ -11,11 +11,11 @@ use Rattle.frames.specs.declared.Frame.{Frame}
 use Rattle.frames.specs.Frames.{frameAt}
 use Rattle.saver.specs.declared.gather.Gathered.{Gathered}
 
--- how many of a waiting term's goals no term inside it holds (hitac's `ownGoals`)
+-- how many of a waiting term's goals no term inside it holds (evaluation's `ownGoals`)
 unfoldable pub ownCountOf : (kind count inside : ℕ) → ℕ
 ownCountOf k c x = cond (eqb k 4) c (cond (eqb k 5) c (cond (eqb k 6) (c - x) 0))
 
--- how many goals of its list it holds, together with the terms inside it (hitac's `heldOf`)
+-- how many goals of its list it holds, together with the terms inside it (evaluation's `heldOf`)
 unfoldable pub heldAfter : (kind count inside : ℕ) → ℕ
 heldAfter k c x = cond (eqb k 4) (x + c) (cond (eqb k 6) c (cond (eqb k 3) 0 x))
 

@@ -2,7 +2,7 @@
 -- Assumes nothing.
 use native.Mathlib.Omega.{arith}
 use Rattle.machine.proofs.WaitingLaws.{waiting-top, waiting-fits}
-use Rattle.machine.proofs.PopLaws.{failed-end, resume-end}
+use Rattle.machine.proofs.PopLaws.{failed-end, alternative-end}
 use Rattle.machine.proofs.state.State.pop_failed.Statement.{statement}
 use Rattle.machine.proofs.state.State.pop_failed.Tie as tie
 use Rattle.machine.proofs.state.State.pop_failed.Reads as reads
@@ -47,7 +47,7 @@ returns-2 : tie.Need-returns-2
 returns-2 c =
     let a = c .before .before .before .before .before .before .before .args in
     let p = c .before .before .before .before .before .before .before .pre in
-    resume-end (a .work .now) (a .self) (c .before .before .before .before .before .load-frame .result) (c .before .before .before .before .before .load-frame .ensures) (p .0) (c .before .before .if1 .left)
+    alternative-end (a .work .now) (a .self) (c .before .before .before .before .before .load-frame .result) (c .before .before .before .before .before .load-frame .ensures) (p .0) (c .before .before .if1 .left)
 
 pub pop-failed-spec : {M : Type 1} → statement M
 pop-failed-spec =
