@@ -1,4 +1,3 @@
-pub mod Again
 pub mod Loans
 pub mod Calling
 pub mod Locals

@@ -27,7 +27,7 @@ use denote.Ref.{RefT}
 use denote.Slice.{sliceVal, MutSlice, ShrSlice, heres, Room, finally, at-slice, codedHoleys, shr-slice-copy}
 use denote.Lend.{Held, lends-shr-slice}
 use denote.Index.{opens-slice, closes-slice}
-use Rattle.lent_frames.proofs.Again.{LentAgain, lends-again, comes-back}
+use Rattle.words.proofs.LentAgain.{LentAgain, lends-again, comes-back}
 
 pub record Span : Type 2 where
   pub row : RattleType

@@ -1,4 +1,3 @@
-pub mod Again
 pub mod TermLaws
 pub mod Depth
 pub mod ShapeLaws

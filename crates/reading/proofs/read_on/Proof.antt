@@ -72,7 +72,7 @@ use Rattle.reading.specs.Reading.{Reading, Reads, Step, Reaches, none, m
 use Rattle.reading.specs.declared.reader.Reader.{Reader}
 use Rattle.reading.proofs.TurnLaws.{inside}
 use Rattle.reading.proofs.ReachLaws.{reaches-reading, reads-at}
-use Rattle.reading.proofs.Again.{LentAgain, lends-again, comes-back}
+use Rattle.words.proofs.LentAgain.{LentAgain, lends-again, comes-back}
 use Rattle.reading.proofs.reader.Reader as T
 use Rattle.reading.proofs.reader.Reader.Laws as T′
 use Rattle.reading.proofs.reader.new as new
