@@ -12,12 +12,11 @@ pub fn same_bytes(s: &[u8], at: usize, n: usize, other: &[u8]) -> bool
     if other.len() != n {
         return false;
     }
+    let mut differ: u8 = 0;
     let mut i: usize = 0;
     while i < n {
-        if s[at + i] != other[i] {
-            return false;
-        }
+        differ = differ | (s[at + i] ^ other[i]);
         i += 1;
     }
-    true
+    differ == 0
 }
