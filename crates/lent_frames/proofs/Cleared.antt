@@ -1,12 +1,12 @@
 -- Frames that are cleared from the front: so many are all zero, and the others are as they were.
 -- Assumes nothing.
-use mathlib.Core.Path.{_≡_, refl, sym, ap, subst, _∙_}
+use mathlib.Core.Path.{_≡_, refl, sym, ap, subst}
 use mathlib.Core.List.{List, [], _∷_, _++_, append-nil}
 use Prim.Native.Nat.{ℕ, zero, suc, _+_, _≤_, _<_}
 use native.Mathlib.Nat.{not-suc-le-zero, le-of-suc-le-suc}
 use native.Mathlib.Numerals.{add-one}
 use native.Mathlib.Omega.{arith}
-use lib.ListN.{length, set, drop, replicate, length-set, drop-of-length-le}
+use lib.ListN.{length, set, drop, replicate, drop-of-length-le}
 use Rattle.lent_frames.specs.declared.LentFrame.{LentFrame}
 use Rattle.lent_frames.specs.Frames.{noFrame}
 

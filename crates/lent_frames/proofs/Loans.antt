@@ -5,7 +5,7 @@
 --     seen-out, seen-home      it is lent as a `&[T]`, and comes back as it was
 --     shared-out, shared-home  a `&[T]` is copied, and the token comes back
 -- Assumes `Given`.
-use mathlib.Core.Path.{_≡_, refl, sym, ap, subst, _∙_}
+use mathlib.Core.Path.{_≡_, refl, sym, ap, subst}
 use Prim.Native.Nat.{ℕ}
 use mathlib.Core.List.{List, [], _∷_}
 use lib.ListN.{length}
@@ -17,7 +17,7 @@ use base.Logic.{SProp, ent, sep, ex}
 use base.Fml.{Lft, GName, Share, Fml, fsep, flft, flent, fobor, fobs, fauth}
 use prog.Wp.{Heap}
 use ghost.Atoms.{Atoms, sem}
-use types.Kit.{Given, Item, ‵, _⊛_, some, later, mean, _$_, _∵_, !, qed, move, use1, use2, use3, drop, split, join, pick, rewrite, fsplit, fjoin, feqI, frame, await, updating, now as at-once, show, done}
+use types.Kit.{Given, Item, ‵, _⊛_, some, later, mean, _$_, _∵_, !, qed, move, use1, use2, use3, drop, split, pick, rewrite, fsplit, fjoin, feqI, frame, await, updating, now as at-once, show, done}
 use types.Tokens.{lft-new, lft-end, lent-back}
 use types.Share.{arr-parts}
 use denote.RattleType.{RattleType}

@@ -1,9 +1,9 @@
 -- `clear_frames` meets its contract: a walk of its MIR, by hand. Local i stands at the place i of the context, and the slice behind the locals. Each turn of the loop
 -- lends the slice to `push`, which clears one frame more. All that the proof knows of `push` is that it meets its contract.
 -- Assumes nothing.
-use mathlib.Core.Path.{_≡_, refl, sym, ap, subst, _∙_}
+use mathlib.Core.Path.{_≡_, refl, ap, _∙_}
 use native.Mathlib.Omega.{arith}
-use Prim.Native.Nat.{ℕ, _+_, _-_, _≤_, _<_, _^_}
+use Prim.Native.Nat.{ℕ, _+_, _-_, _≤_, _<_}
 use mathlib.Core.List.{[], _∷_, List}
 use lib.Dec.{ltb→lt, nltb→le, lit<}
 use lib.ListN.{length, set, replicate}
@@ -15,12 +15,12 @@ use base.Logic.{SProp, ent, via, fst∗, emp}
 use base.Fml.{fat}
 use prog.Memory.{Memory}
 use prog.Routine.{Routine}
-use prog.Wp.{Heap, Env, WpFn, Tables}
+use prog.Wp.{Heap, WpFn, Tables}
 use ghost.Atoms.{Atoms}
 use contract.Monad.{Fun}
 use contract.Lifetimes.{Lfts, Shares}
 use contract.Running.{givenOf, tables, tablesOf}
-use types.Kit.{Given, Item, ‵, ⋆, _$_, _∵_, !, qed, by, move, rewrite}
+use types.Kit.{Given, ‵, ⋆, _$_, _∵_, !, qed, by, move, rewrite}
 use types.Run.{look, init, store, forget, stop, hop, fld, from, load, addr, lit, unit-lit, of-opd, bin, and-then, no-more, assigns, land-last, returns, enter, params1, pass1, pass0}
 use types.Part.{agg, whole, sub, look-in}
 use sound.WpLaws.{fmOf, WpFn-mono}
@@ -42,7 +42,7 @@ use Rattle.lent_frames.specs.Frames.{noFrame}
 use Rattle.lent_frames.proofs.LentFrame as T
 use Rattle.lent_frames.proofs.LentFrame.Laws as T′
 use Rattle.lent_frames.proofs.Loans.{Span, machine, Mut}
-use Rattle.lent_frames.proofs.Calling.{Arg, value, lent, lives, parts, dens, valss, machines, befores, afters, calls-lent-last, entry, leaves}
+use Rattle.lent_frames.proofs.Calling.{Arg, value, lent, lives, parts, dens, valss, machines, befores, calls-lent-last, entry, leaves}
 use Rattle.lent_frames.proofs.Locals.{envOf, holding, alloc-all, free-all, sinks, turns-on, loops-then}
 use Rattle.lent_frames.proofs.Cleared.{cleared, clear-more, clear-length, clear-all}
 use Rattle.lent_frames.proofs.push as push

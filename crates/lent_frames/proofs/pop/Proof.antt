@@ -1,6 +1,6 @@
 -- `lent_frames::pop` meets its contract: a walk of its MIR, by hand. The slice is looked into, one frame is taken out of the row, read whole, and put back.
 -- Assumes nothing.
-use mathlib.Core.Path.{_≡_, refl, sym}
+use mathlib.Core.Path.{refl, sym}
 use native.Mathlib.Omega.{arith}
 use Prim.Native.Nat.{ℕ, _*_, _<_, _^_}
 use mathlib.Core.List.{[], _∷_, List}

@@ -1,5 +1,5 @@
 -- `reading::read_on` meets its contract: a walk of its MIR, by hand, with a loop and six calls in each turn. One `Reader` is made before the loop, held in a local, and moved in each turn.
--- The loop's invariant has the reader at the place of the state, and work owned at some list of the same length; each turn lends work again to `turn` for a lifetime of its own, and it comes back (`Again.antt`). The loop is by `Sound/Loop.antt`'s `loop-rule`.
+-- The loop's invariant has the reader at the place of the state, and work owned at some list of the same length; each turn lends work again to `turn` for a lifetime of its own, and it comes back (`LentAgain.antt` of words). The loop is by `Sound/Loop.antt`'s `loop-rule`.
 -- Assumes nothing.
 use mathlib.Core.Path.{_≡_, refl, sym, ap, subst, _∙_}
 use native.Mathlib.Omega.{arith}

@@ -21,7 +21,7 @@ use contract.Monad.{Fun}
 use contract.Lifetimes.{Lfts, Shares}
 use contract.Running.{givenOf, tables, tablesOf}
 use types.Kit.{Given, ‵, ⋆, _$_, _∵_, !, qed, by, move, rewrite}
-use types.Run.{look, init, store, forget, stop, hop, fld, from, load, addr, lit, of-opd, and-then, no-more, assigns, land, returns, returns-within, enter, params1, pass1, pass0}
+use types.Run.{look, init, forget, stop, hop, fld, from, load, addr, lit, of-opd, and-then, no-more, assigns, land, returns, returns-within, enter, params1, pass1, pass0}
 use types.Part.{agg, whole, sub, look-in}
 use sound.WpLaws.{FmC, fmOf, WpFn-mono}
 use denote.Laws.{Is}
