@@ -4,7 +4,7 @@
 
 use crate::compare::{halts, Comparison};
 use crate::library::{Call, Library};
-use second::generate::case::Case;
+use second::generate::case::{Case, Outcome};
 use second::limits::STATE_SIZE;
 use second::Frame;
 use std::ffi::c_void;
@@ -77,23 +77,33 @@ pub fn compare_exactly(library: &Library, case: &Case) -> Comparison {
     };
     // SAFETY: blocks of their own, each as long as it is said.
     let given = unsafe { library.call(&call) };
-    let mut differences = Vec::new();
-    if given != expected {
-        differences.push(format!("answer: {given:?} should be {expected:?}"));
+    let differences = if given == expected {
+        differences_in_spaces(case, &outcome, &work, &frames, &output, &state)
     } else {
-        let length = expected.length as usize;
-        if output.front(length) != &outcome.output[..length] {
-            differences.push("output space: the result differs".to_string());
-        }
-        if expected.number != 29 && work.front(work.length).iter().any(|&byte| byte != 0) {
-            differences.push("work space: not all zero".to_string());
-        }
-        if expected.number != 29 && frames.front(frames.length).iter().any(|&byte| byte != 0) {
-            differences.push("frames: not all zero".to_string());
-        }
-        if halts(case.entry, expected) && state.front(STATE_SIZE) != &outcome.state[..STATE_SIZE] {
-            differences.push("second space: the saved state differs".to_string());
-        }
-    }
+        vec![format!("answer: {given:?} should be {expected:?}")]
+    };
     Comparison { expected, given, differences }
+}
+
+/// What the spaces hold after the answer that was expected; looked at only as far as the
+/// engine writes them.
+fn differences_in_spaces(
+    case: &Case,
+    outcome: &Outcome,
+    work: &Block,
+    frames: &Block,
+    output: &Block,
+    state: &Block,
+) -> Vec<String> {
+    let answer = outcome.answer;
+    let length = answer.length as usize;
+    let cleared = |block: &Block| answer.number == 29 || block.front(block.length).iter().all(|&byte| byte == 0);
+    let saved = halts(case.entry, answer);
+    let found = [
+        (output.front(length) != &outcome.output[..length], "output space: the result differs"),
+        (!cleared(work), "work space: not all zero"),
+        (!cleared(frames), "frames: not all zero"),
+        (saved && state.front(STATE_SIZE) != &outcome.state[..STATE_SIZE], "second space: the saved state differs"),
+    ];
+    found.iter().filter(|(differs, _)| *differs).map(|(_, what)| what.to_string()).collect()
 }

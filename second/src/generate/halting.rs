@@ -242,8 +242,6 @@ pub fn lent_spaces() -> Vec<Case> {
 pub fn order_of_refusals() -> Vec<Case> {
     let (table, first_job) = (examples::table_a(), job(&[10], &defined(3)));
     let state = state_at(&table, &first_job, 9).unwrap_or_default();
-    let mut forged = state.clone();
-    forged[STATE_SIZE - 1] = 1;
     let torn: [u8; 2] = [1, 0];
     let over = MOST_BUDGET + 1;
     let mut cases = Vec::new();
@@ -269,14 +267,23 @@ pub fn order_of_refusals() -> Vec<Case> {
             good.clone().with_budget(18).with_output(0),
         ]);
     }
-    // The same with saved states that are not genuine: 30 behind the files, before any step
-    // and before 26.
+    cases.extend(order_with_forged_states(&table, &first_job, &state));
+    cases
+}
+
+/// The same with saved states that are not genuine: 30 behind the files, before any step
+/// and before 26.
+fn order_with_forged_states(table: &[u8], job: &[u8], state: &[u8]) -> Vec<Case> {
+    let torn: [u8; 2] = [1, 0];
+    let mut forged = state.to_vec();
+    forged[STATE_SIZE - 1] = 1;
+    let mut cases = Vec::new();
     for saved in [&forged[..], &[], &state[..STATE_SIZE - 1], &[0; STATE_SIZE]] {
-        let bad = Case::resumed(&table, &first_job, saved).with_budget(10);
+        let bad = Case::resumed(table, job, saved).with_budget(10);
         cases.extend([
             Case { table: torn.to_vec(), ..bad.clone() },
             Case { other: torn.to_vec(), ..bad.clone() },
-            bad.clone().with_budget(over).with_output(0),
+            bad.clone().with_budget(MOST_BUDGET + 1).with_output(0),
             bad.clone().with_state(STATE_SIZE - 1),
             bad.clone().with_budget(0),
             bad.clone().with_output(0),
@@ -355,23 +362,30 @@ fn entries_in(file: u8, entries: &[StateEntry]) -> Vec<StateEntry> {
 /// the first goal. The fields of the job: goals at 0, alternation at 9, sequence at 12,
 /// tensor at 15, a2 at 18, tensor at 23, id at 26, a2 at 29, T99 at 34, T4 at 39.
 pub fn forged_states() -> Vec<Vec<u8>> {
-    let closed = atomic(2);
-    let both = [closed.clone(), id()].concat();
-    let alternation = |own: &[u16]| entry(6, 39, own);
-    let sequence = || entry(2, 34, &[]);
-    let outer = |given: &[u16]| entry(5, 23, given);
-    let inner = |others: &[u16]| entry(4, 29, others);
-    let to_begin = |goals: &[u16]| entry(0, 26, goals);
-    let entries = |own: &[u16], given: &[u16], others: &[u16], goals: &[u16]| {
-        vec![alternation(own), sequence(), outer(given), inner(others), to_begin(goals)]
-    };
-    let genuine = entries(&[20], &[], &[20], &[30]);
-    let of = |entries: &[StateEntry]| built_state(5, &closed, entries);
-    let counted = |steps: u16| built_state(steps, &closed, &genuine);
-    let finished = |fields: &[u8]| built_state(5, fields, &genuine);
-    let backwards: Vec<StateEntry> = genuine.iter().rev().cloned().collect();
+    [forged_counts_and_goals(), forged_fields(), forged_terms()].concat()
+}
+
+/// The terms of the genuine state: what the alternation has used up, what the outer
+/// tensor's left gave, what waits in the inner tensor, and the goals of the term to begin.
+fn waiting(own: &[u16], given: &[u16], others: &[u16], goals: &[u16]) -> Vec<StateEntry> {
+    vec![entry(6, 39, own), entry(2, 34, &[]), entry(5, 23, given), entry(4, 29, others), entry(0, 26, goals)]
+}
+
+fn genuine_terms() -> Vec<StateEntry> {
+    waiting(&[20], &[], &[20], &[30])
+}
+
+/// The terms after five steps, with the field that is finished then.
+fn after_five(entries: &[StateEntry]) -> Vec<u8> {
+    built_state(5, &atomic(2), entries)
+}
+
+fn forged_counts_and_goals() -> Vec<Vec<u8>> {
+    let counted = |steps: u16| built_state(steps, &atomic(2), &genuine_terms());
+    let of = |own: &[u16], given: &[u16], others: &[u16], goals: &[u16]| after_five(&waiting(own, given, others, goals));
+    let both = [atomic(2), id()].concat();
     vec![
-        of(&genuine),
+        after_five(&genuine_terms()),
         // Another step count: the run halts elsewhere then, or has ended, or not begun.
         counted(4),
         counted(6),
@@ -379,42 +393,57 @@ pub fn forged_states() -> Vec<Vec<u8>> {
         counted(12),
         counted(4_096),
         // The states before and after this one, with its step count.
-        of(&[alternation(&[20]), sequence(), outer(&[]), entry(0, 23, &[30, 20])]),
+        after_five(&[entry(6, 39, &[20]), entry(2, 34, &[]), entry(5, 23, &[]), entry(0, 23, &[30, 20])]),
         built_state(
             5,
             &both,
-            &[alternation(&[20, 30]), sequence(), outer(&[]), entry(5, 29, &[30]), entry(0, 29, &[20])],
+            &[entry(6, 39, &[20, 30]), entry(2, 34, &[]), entry(5, 23, &[]), entry(5, 29, &[30]), entry(0, 29, &[20])],
         ),
         // The alternation with all of its goals, with none, and with another.
-        of(&entries(&[20, 30, 20], &[], &[20], &[30])),
-        of(&entries(&[], &[], &[20], &[30])),
-        of(&entries(&[30], &[], &[20], &[30])),
+        of(&[20, 30, 20], &[], &[20], &[30]),
+        of(&[], &[], &[20], &[30]),
+        of(&[30], &[], &[20], &[30]),
         // Goals exchanged, lost, and given twice.
-        of(&entries(&[20], &[], &[30], &[20])),
-        of(&entries(&[20], &[], &[], &[30])),
-        of(&entries(&[20], &[], &[20, 20], &[30])),
-        of(&entries(&[20], &[20], &[20], &[30])),
-        of(&entries(&[20], &[], &[20], &[20, 30])),
-        // Another field finished, none, one too many, and one around it.
+        of(&[20], &[], &[30], &[20]),
+        of(&[20], &[], &[], &[30]),
+        of(&[20], &[], &[20, 20], &[30]),
+        of(&[20], &[20], &[20], &[30]),
+        of(&[20], &[], &[20], &[20, 30]),
+    ]
+}
+
+/// Another field finished, none, one too many, and one around it.
+fn forged_fields() -> Vec<Vec<u8>> {
+    let finished = |fields: &[u8]| built_state(5, fields, &genuine_terms());
+    vec![
         finished(&atomic(3)),
         finished(&id()),
         finished(&[]),
-        finished(&both),
-        finished(&tensor(&closed, &id())),
+        finished(&[atomic(2), id()].concat()),
+        finished(&tensor(&atomic(2), &id())),
+    ]
+}
+
+fn forged_terms() -> Vec<Vec<u8>> {
+    let genuine = genuine_terms();
+    let [alternation, sequence, outer, inner, to_begin] = &genuine[..] else { unreachable!("five terms") };
+    let of = |terms: [&StateEntry; 5]| after_five(&terms.map(Clone::clone));
+    let backwards: Vec<StateEntry> = genuine.iter().rev().cloned().collect();
+    vec![
         // A term missing, one too many, two exchanged, the innermost first, none at all.
-        of(&genuine[1..]),
-        of(&[&[alternation(&[])], &genuine[..]].concat()),
-        of(&[alternation(&[20]), outer(&[]), sequence(), inner(&[20]), to_begin(&[30])]),
-        of(&backwards),
-        of(&[]),
+        after_five(&genuine[1..]),
+        after_five(&[&[entry(6, 39, &[])], &genuine[..]].concat()),
+        of([alternation, outer, sequence, inner, to_begin]),
+        after_five(&backwards),
+        after_five(&[]),
         // Other stages of the same terms, and another term to begin.
-        of(&[alternation(&[20]), entry(3, 34, &[]), outer(&[]), inner(&[20]), to_begin(&[30])]),
-        of(&[alternation(&[20]), sequence(), entry(4, 23, &[]), inner(&[20]), to_begin(&[30])]),
-        of(&[alternation(&[20]), sequence(), outer(&[]), inner(&[20]), entry(0, 29, &[30])]),
+        of([alternation, &entry(3, 34, &[]), outer, inner, to_begin]),
+        of([alternation, sequence, &entry(4, 23, &[]), inner, to_begin]),
+        of([alternation, sequence, outer, inner, &entry(0, 29, &[30])]),
         // The terms' own places, and the other files.
-        of(&[entry(6, 9, &[20]), entry(2, 12, &[]), entry(5, 15, &[]), entry(4, 23, &[20]), to_begin(&[30])]),
-        of(&entries_in(0, &genuine)),
-        of(&entries_in(2, &genuine)),
+        of([&entry(6, 9, &[20]), &entry(2, 12, &[]), &entry(5, 15, &[]), &entry(4, 23, &[20]), to_begin]),
+        after_five(&entries_in(0, &genuine)),
+        after_five(&entries_in(2, &genuine)),
         built_state(0, &[], &[]),
         vec![255; STATE_SIZE],
     ]
