@@ -382,7 +382,8 @@ fn after_five(entries: &[StateEntry]) -> Vec<u8> {
 
 fn forged_counts_and_goals() -> Vec<Vec<u8>> {
     let counted = |steps: u16| built_state(steps, &atomic(2), &genuine_terms());
-    let of = |own: &[u16], given: &[u16], others: &[u16], goals: &[u16]| after_five(&waiting(own, given, others, goals));
+    let of =
+        |own: &[u16], given: &[u16], others: &[u16], goals: &[u16]| after_five(&waiting(own, given, others, goals));
     let both = [atomic(2), id()].concat();
     vec![
         after_five(&genuine_terms()),
