@@ -74,6 +74,7 @@ pub enum Reason {
     GoalsTooFew = 35,
     NotInNotation = 36,
     ValueTooLarge = 37,
+    TooManyFieldsHeld = 40,
     NoEvaluation = 41,
     HeightOutsideLimits = 42,
 }
@@ -97,7 +98,7 @@ pub struct Refusal {
 }
 
 impl Reason {
-    pub const ALL: [Reason; 26] = [
+    pub const ALL: [Reason; 27] = [
         Reason::InputTooLong,
         Reason::FieldTorn,
         Reason::TagNotAllowed,
@@ -122,6 +123,7 @@ impl Reason {
         Reason::GoalsTooFew,
         Reason::NotInNotation,
         Reason::ValueTooLarge,
+        Reason::TooManyFieldsHeld,
         Reason::NoEvaluation,
         Reason::HeightOutsideLimits,
     ];
@@ -151,7 +153,9 @@ impl Reason {
             Reason::JoinedListTooLong => "a tensor joins to more than 256 goals",
             Reason::TacticFailed => "the tactic failed",
             Reason::BudgetSpent => "the budget is spent",
-            Reason::BudgetTooLarge => "the budget is over 4,096, with the steps of a saved state if there is one",
+            Reason::BudgetTooLarge => {
+                "the budget is over 16,384, with the steps of a saved state if there is one, or over 4,096 for a search"
+            }
             Reason::OutputSpaceTooShort => "the output space is shorter than the result",
             Reason::FlatFileWrong => "this entry does not apply, or goals are pending at the file's end",
             Reason::TooManyEntries => "over 2,048 entries cannot be written back as a proof",
@@ -165,6 +169,7 @@ impl Reason {
             Reason::GoalsTooFew => "the proof does not validate: this tensor has fewer goals than its left part takes",
             Reason::NotInNotation => "no text of the notation goes on with this byte, or the text ends early",
             Reason::ValueTooLarge => "a value is over 65,535",
+            Reason::TooManyFieldsHeld => "more than 4,096 finished term fields would be held",
             Reason::NoEvaluation => "no evaluation at most that high exists with lists of at most 256 goals",
             Reason::HeightOutsideLimits => "the height is outside 1 to 64",
         }

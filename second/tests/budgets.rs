@@ -22,12 +22,12 @@ fn on_random_jobs() {
     for _ in 0..1_500 {
         let table = RandomTable::make(&mut random, Size::Small);
         let (table, job) = (table.bytes(), random_job(&mut random, &table));
-        let whole = outcome(&table, &job, 4_096);
-        for budget in [0, 1, 2, 3, 5, 10, 30, 100, 1_000, whole.1.saturating_sub(1), whole.1] {
+        let whole = outcome(&table, &job, 16_384);
+        for budget in [0, 1, 2, 3, 5, 10, 30, 100, 1_000, 4_096, 4_097, whole.1.saturating_sub(1), whole.1] {
             let smaller = outcome(&table, &job, budget);
             if smaller.0 == 24 {
                 assert_eq!(smaller.1, budget);
-                assert!(whole.0 == 24 || budget < whole.1 || whole.1 == 4_096);
+                assert!(whole.0 == 24 || budget < whole.1 || whole.1 == 16_384);
             } else {
                 assert_eq!(smaller, whole);
             }
@@ -43,7 +43,7 @@ fn every_budget_up_to_the_steps_of_a_run() {
         assert_eq!(run(&table, &first_job, budget).0, run_refused(24, budget));
     }
     let whole = run(&table, &first_job, 19);
-    for budget in [20, 100, 4_096] {
+    for budget in [20, 100, 4_096, 4_097, 16_384] {
         assert_eq!(run(&table, &first_job, budget), whole);
     }
 }

@@ -112,11 +112,11 @@ fn a_run_is_halted_and_taken_up() {
         |saved: &str, budget: &str| folder.says(&["resume", "table.kit", "job", saved, budget, "proof.hip", "state"]);
     let halted = folder.says(&["run-halting", "table.kit", "job", "7", "proof.hip", "state"]);
     assert_eq!(halted, refused("refused 24 file 0 place 0 steps 7\n"));
-    assert_eq!(folder.get("state").len(), 86_540);
+    assert_eq!(folder.get("state").len(), 160_268);
     assert_eq!(resume("state", "9"), refused("refused 24 file 0 place 0 steps 16\n"));
     assert_eq!(folder.get("state")[..2], [0, 16]);
     assert!(!folder.0.join("proof.hip").exists());
-    assert_eq!(resume("state", "4081"), refused("refused 25 file 0 place 0\n"));
+    assert_eq!(resume("state", "16369"), refused("refused 25 file 0 place 0\n"));
     assert_eq!(resume("table.kit", "0"), refused("refused 30 file 0 place 0\n"));
     assert_eq!(folder.get("state")[..2], [0, 16]);
     assert_eq!(resume("state", "3"), line("written 51 bytes steps 19\n"));

@@ -104,11 +104,11 @@ fn flat_check_and_writer_read_trees_back() {
     assert!(right > CASES / 3, "only {right} right");
 }
 
-/// The plain run is recursive and a run may be 4,096 terms deep, so it gets a
+/// The plain run is recursive and a run may be 16,384 terms deep, so it gets a
 /// thread of its own.
 #[test]
 fn run_is_the_big_step_evaluation() {
-    let thread = std::thread::Builder::new().stack_size(64 << 20);
+    let thread = std::thread::Builder::new().stack_size(256 << 20);
     thread.spawn(compare_runs).unwrap().join().unwrap();
 }
 
@@ -118,10 +118,10 @@ fn compare_runs() {
     for number in 0..CASES {
         let random_table = RandomTable::make(&mut random, Size::Small);
         let (table_bytes, job) = (random_table.bytes(), random_job(&mut random, &random_table));
-        let budget = if number % 50 == 0 { 4_096 } else { random.below(120) as u32 };
+        let budget = if number % 50 == 0 { 16_384 } else { random.below(120) as u32 };
         let table = Table::of(&table_bytes);
         let goals = goals_at(&job, 0);
-        let mut plain = Run { table: &table, arities: TacticArities::of(&table), budget, steps: 0 };
+        let mut plain = Run::new(&table, budget);
         if second::format::job::Job::read(&job, &mut Default::default()).is_err() {
             continue;
         }

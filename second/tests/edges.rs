@@ -76,10 +76,12 @@ fn eight_times_32_pass_and_33_do_not() {
 }
 
 #[test]
-fn budget_4096_runs_and_4097_does_not() {
+fn budget_16384_runs_and_16385_does_not() {
     let first_job = job(&[10], &defined(3));
-    assert_eq!(run(&table_a(), &first_job, 4096).0.number, 0);
-    assert_eq!(run(&table_a(), &first_job, 4097).0, run_refused(25, 0));
+    for budget in [4_096, 4_097, 16_384] {
+        assert_eq!(run(&table_a(), &first_job, budget).0.number, 0);
+    }
+    assert_eq!(run(&table_a(), &first_job, 16_385).0, run_refused(25, 0));
     assert_eq!(run(&table_a(), &first_job, u32::MAX).0, run_refused(25, 0));
 }
 

@@ -7,6 +7,7 @@ use second::generate::build::*;
 use second::generate::case::{Case, Entry, OUTPUT_FILL, STATE_FILL};
 use second::generate::examples::*;
 use second::generate::halting::{self, state_at, steps_of};
+use second::generate::longer;
 use second::generate::random::Random;
 use second::generate::random_case_of;
 use second::generate::random_table::Size;
@@ -159,7 +160,7 @@ fn the_worked_state_in_bytes() {
         3, 0, 0, 98, 0, 0, 6, 0, 0, 90, 0, 1, 0, 30, 3, 0, 0, 85, 0, 0, 0, 0, 0, 85, 0, 1, 0, 30,
     ];
     let state = state_at(&table_a(), &first_job(), 16).expect("a halt");
-    assert_eq!(state.len(), 86_540);
+    assert_eq!(state.len(), 160_268);
     assert_eq!(state[..61], bytes);
     assert!(state[61..].iter().all(|&byte| byte == 0));
 }
@@ -293,7 +294,7 @@ fn going_on_after_a_halt() {
 #[test]
 fn budgets_and_step_counts() {
     let (table, job) = (table_a(), first_job());
-    for budget in [4_097, 65_536, 65_536 + 19, 1 << 31, u32::MAX] {
+    for budget in [16_385, 65_536, 65_536 + 19, 1 << 31, u32::MAX] {
         assert_eq!(answer(&run_halting(&table, &job, budget)), refused(25, 0, 0));
     }
     let saved = state_at(&table, &job, 9).expect("a halt");
@@ -302,47 +303,52 @@ fn budgets_and_step_counts() {
         assert!(answer.number == 0 || answer == refused(answer.number, 0, 0));
         answer.number
     };
-    assert_eq!(number(&saved, 4_087), 0);
-    for budget in [4_088, 65_527, 65_536, 65_546, u32::MAX - 9, u32::MAX - 8, u32::MAX] {
+    for budget in [4_087, 4_088, 16_375] {
+        assert_eq!(number(&saved, budget), 0);
+    }
+    for budget in [16_376, 65_527, 65_536, 65_546, u32::MAX - 9, u32::MAX - 8, u32::MAX] {
         assert_eq!(number(&saved, budget), 25);
     }
     for short in [&[][..], &[0], &[255]] {
-        assert_eq!((number(short, 4_096), number(short, 4_097)), (30, 25));
+        assert_eq!((number(short, 16_384), number(short, 16_385)), (30, 25));
     }
-    for of_two in [&[16, 0][..], &[16, 0, 7]] {
+    for of_two in [&[64, 0][..], &[64, 0, 7]] {
         assert_eq!((number(of_two, 0), number(of_two, 1)), (30, 25));
     }
-    assert_eq!(number(&[16, 1], 0), 25);
-    assert_eq!((number(&saved[..86_539], 4_087), number(&saved[..86_539], 4_088)), (30, 25));
+    assert_eq!((number(&[16, 1], 0), number(&[64, 1], 0)), (30, 25));
+    // One byte too few, and as many as before P12.
+    for length in [160_267, 86_540] {
+        assert_eq!((number(&saved[..length], 16_375), number(&saved[..length], 16_376)), (30, 25));
+    }
     let longer = [&saved[..], &[0]].concat();
-    assert_eq!((number(&longer, 4_087), number(&longer, 4_088)), (30, 25));
+    assert_eq!((number(&longer, 16_375), number(&longer, 16_376)), (30, 25));
 }
 
 #[test]
 fn the_order_of_refusals() {
     let (table, job) = (table_a(), first_job());
     let mut forged = state_at(&table, &job, 9).expect("a halt");
-    forged[86_539] = 1;
-    let case = Case::resumed(&table, &job, &forged).with_budget(4_088).with_output(0);
+    forged[160_267] = 1;
+    let case = Case::resumed(&table, &job, &forged).with_budget(16_376).with_output(0);
     let torn = Case { table: vec![1], other: vec![3], ..case };
     for short in
-        [torn.clone().with_work(RESUME_WORK - 1), torn.clone().with_frames(4_095), torn.clone().with_state(86_539)]
+        [torn.clone().with_work(RESUME_WORK - 1), torn.clone().with_frames(16_383), torn.clone().with_state(160_267)]
     {
         assert_eq!(answer(&short), refused(29, 0, 0));
     }
     assert_eq!(answer(&torn), refused(25, 0, 0));
-    let within = torn.with_budget(4_087).with_output(0);
+    let within = torn.with_budget(16_375).with_output(0);
     assert_eq!(answer(&within), refused(2, 1, 0));
     let of_table = Case { table: table.clone(), ..within };
     assert_eq!(answer(&of_table), refused(2, 2, 0));
     let of_both = Case { other: job.clone(), ..of_table };
     assert_eq!(answer(&of_both), refused(30, 0, 0));
     assert_eq!(answer(&of_both.clone().with_budget(0).with_output(0)), refused(30, 0, 0));
-    forged[86_539] = 0;
+    forged[160_267] = 0;
     let genuine = of_both.with_saved(&forged).with_output(0);
     assert_eq!(answer(&genuine.clone().with_budget(9).with_output(0)), run_refused(24, 18));
     assert_eq!(answer(&genuine), run_refused(26, 19));
-    let all_wrong = Case { table: vec![1], other: vec![3], ..run_halting(&table, &job, 4_097) };
+    let all_wrong = Case { table: vec![1], other: vec![3], ..run_halting(&table, &job, 16_385) };
     assert_eq!(answer(&all_wrong.clone().with_state(0)), refused(29, 0, 0));
     assert_eq!(answer(&all_wrong), refused(25, 0, 0));
 }
@@ -385,12 +391,12 @@ fn forged_states_are_not_genuine() {
 fn a_state_changed_in_any_byte_is_not_genuine() {
     let (table, job) = (table_a(), first_job());
     let state = state_at(&table, &job, 16).expect("a halt");
-    for at in (0..70).chain([1_000, 50_000, 86_538, 86_539]) {
+    for at in (0..70).chain([1_000, 50_000, 160_266, 160_267]) {
         for change in [1, 128] {
             let mut changed = state.clone();
             changed[at] ^= change;
             let answer = answer(&Case::resumed(&table, &job, &changed).with_budget(3));
-            // Changed in its first byte the step count is over 4,096.
+            // Changed in its first byte the step count is over 16,384.
             let expected = if at == 0 && change == 128 { 25 } else { 30 };
             assert_eq!(answer, refused(expected, 0, 0), "byte {at}");
         }
@@ -422,7 +428,7 @@ fn the_same_bytes_count_for_every_job_that_has_them() {
 fn there_is_no_state_behind_the_end() {
     let (table, job) = (table_a(), first_job());
     let state = state_at(&table, &job, 18).expect("a halt");
-    for steps in [19u16, 20, 4_096] {
+    for steps in [19u16, 20, 4_096, 16_384] {
         let mut later = state.clone();
         later[..2].copy_from_slice(&steps.to_be_bytes());
         assert_eq!(answer(&Case::resumed(&table, &job, &later).with_budget(0)), refused(30, 0, 0));
@@ -430,12 +436,13 @@ fn there_is_no_state_behind_the_end() {
 }
 
 /// No state is longer than the size, also where a run holds the most: the bound is six for
-/// the counts, 518 for a term to begin on 256 goals, and 21 for each step.
+/// the counts, 518 for a term to begin on 256 goals, six for each step and 15 for each
+/// field that is held (P12).
 #[test]
 fn the_largest_states() {
-    assert_eq!(STATE_SIZE, 6 + 6 + 512 + 21 * 4_096);
+    assert_eq!(STATE_SIZE, 6 + 6 + 512 + 6 * 16_384 + 15 * 4_096);
     let mut longest = 0;
-    for case in halting::at_limits() {
+    for case in [halting::at_limits(), longer::halting_cases()].concat() {
         let outcome = case.outcome();
         if outcome.answer.number == 24 {
             let state = &outcome.state[..STATE_SIZE];
@@ -443,11 +450,12 @@ fn the_largest_states() {
             let goals: usize = shown.entries.iter().map(|entry| entry.goals.len()).sum();
             let length = 6 + shown.finished.len() + 6 * shown.entries.len() + 2 * goals;
             assert!(state[length..].iter().all(|&byte| byte == 0));
-            assert!(length <= 524 + 21 * usize::from(shown.steps));
+            let held = fields_in(&shown.finished);
+            assert!(held <= 4_096 && length <= 524 + 6 * usize::from(shown.steps) + 15 * held);
             longest = longest.max(length);
         }
     }
-    assert!(longest > 40_000, "{longest}");
+    assert_eq!(longest, 6 + 8 + 4_096 * (5 + 6 + 20));
 }
 
 /// The vectors halt at every stage in both files, with alternations in one another whose

@@ -13,6 +13,7 @@ use second::generate::halting::{state_at, steps_of};
 use second::generate::random::Random;
 use second::generate::random_case_of;
 use second::generate::random_halting::random_halting_job;
+use second::generate::random_longer::random_long_run;
 use second::generate::random_table::{RandomTable, Size};
 use second::limits::*;
 use second::Answer;
@@ -53,7 +54,7 @@ fn resumed_for(table: &[u8], job: &[u8], saved: &[u8], budget: u32) -> Case {
 fn by_definition(table_bytes: &[u8], job: &[u8], budget: u32) -> (Answer, Vec<u8>, Vec<u8>) {
     let table = Table::of(table_bytes);
     let (goals, term) = (goals_at(job, 0), term_at(job, end_of(job, 0)));
-    let mut run = Run { table: &table, arities: TacticArities::of(&table), budget, steps: 0 };
+    let mut run = Run::new(&table, budget);
     let evaluated = run.evaluate(InFile { file: 1, term: &term }, &goals);
     let mut output = vec![90; 21_510];
     let mut state = vec![STATE_FILL; STATE_SIZE + 5];
@@ -66,6 +67,7 @@ fn by_definition(table_bytes: &[u8], job: &[u8], budget: u32) -> (Answer, Vec<u8
         }
         Ok(None) => common::run_refused(23, steps),
         Err(Stop::ListTooLong) => common::run_refused(22, steps),
+        Err(Stop::TooManyFields) => common::run_refused(40, steps),
         Err(Stop::Halted(halt)) => {
             state[..STATE_SIZE].copy_from_slice(&halt.state(steps));
             common::run_refused(24, steps)
@@ -74,7 +76,7 @@ fn by_definition(table_bytes: &[u8], job: &[u8], budget: u32) -> (Answer, Vec<u8
     (answer, output, state)
 }
 
-/// The plain run is recursive and a run may be 4,096 terms deep, so it gets a thread of
+/// The plain run is recursive and a run may be 16,384 terms deep, so it gets a thread of
 /// its own.
 fn with_much_stack(test: fn()) {
     let thread = std::thread::Builder::new().stack_size(256 << 20);
@@ -102,6 +104,23 @@ fn a_halt_is_the_plain_one() {
     });
 }
 
+/// P12: halts past 4,096 steps, and what comes behind them.
+#[test]
+fn a_halt_of_a_long_run_is_the_plain_one() {
+    with_much_stack(|| {
+        let mut random = Random::new(706);
+        let mut late = 0;
+        for _ in 0..400 {
+            let (table, job) = random_long_run(&mut random);
+            let budget = random.below(steps_of(&table, &job) as usize + 2).min(MOST_BUDGET as usize) as u32;
+            let expected = by_definition(&table, &job, budget);
+            late += usize::from(expected.0.number == 24 && budget > 4_096);
+            assert_eq!(whole(&run_for(&table, &job, budget)), expected);
+        }
+        assert!(late > 50, "only {late} halts past 4,096 steps");
+    });
+}
+
 #[test]
 fn the_halts_of_the_fixed_set_are_the_plain_ones() {
     with_much_stack(|| {
@@ -110,7 +129,7 @@ fn the_halts_of_the_fixed_set_are_the_plain_ones() {
         let mut halts = 0;
         for case in cases {
             let answer = case.outcome().answer;
-            if case.entry == Entry::Resume && [0, 22, 23, 24].contains(&answer.number) {
+            if case.entry == Entry::Resume && [0, 22, 23, 24, 40].contains(&answer.number) {
                 halts += 1;
                 // The state of a run must be the one of its steps, and what comes of it
                 // what comes of a single run.
@@ -127,7 +146,7 @@ fn the_halts_of_the_fixed_set_are_the_plain_ones() {
 }
 
 /// "Going on with budget c after a halt at b gives the answer of a single run with
-/// b + c, step count included, as long as b + c is at most 4,096."
+/// b + c, step count included, as long as b + c is at most" 16,384 (P12).
 #[test]
 fn going_on_is_a_single_run() {
     let mut random = Random::new(702);

@@ -5,7 +5,7 @@ use second::generate::build::*;
 use second::generate::case::{Case, Entry, OUTPUT_FILL, STATE_FILL};
 use second::generate::random::Random;
 use second::generate::{examples, random_case};
-use second::limits::STATE_SIZE;
+use second::limits::{MOST_BUDGET, STATE_SIZE};
 
 fn good_case(entry: Entry) -> Case {
     let other = match entry {
@@ -68,7 +68,7 @@ fn hold_promises(case: &Case) {
     assert!(answer.rules <= answer.uses && (counts_rules || answer.rules == 0), "{case:?}");
     assert_eq!((answer.goals, answer.longest, answer.tactic), (0, 0, 0));
     let made = second::engine::saved_state::step_count(&case.saved);
-    assert!(answer.steps <= case.budget.saturating_add(made).min(4_096));
+    assert!(answer.steps <= case.budget.saturating_add(made).min(MOST_BUDGET));
     // Only a halt touches the second space.
     let touched = if answer.number == 24 && case.entry.may_halt() { STATE_SIZE } else { 0 };
     assert!(outcome.state[touched..].iter().all(|&byte| byte == STATE_FILL), "{case:?}");

@@ -265,7 +265,7 @@ fn expected(case: &Case) -> Option<Answer> {
     if case.work_length < case.entry.work_size() {
         return Some(refused(29, 0, 0));
     }
-    if case.budget > 4_096 {
+    if case.budget > case.entry.most_budget() {
         return Some(refused(25, 0, 0));
     }
     if case.entry == Entry::Search && !(1..=64).contains(&case.height) {

@@ -291,7 +291,7 @@ fn number_28_before_27() {
 
 #[test]
 fn order_of_29_and_25_and_26() {
-    let case = Case::new(Entry::Run, &[1], &[]).with_budget(4_097);
+    let case = Case::new(Entry::Run, &[1], &[]).with_budget(16_385);
     assert_eq!(case.clone().with_work(RUN_WORK - 1).outcome().answer, refused(29, 0, 0));
     assert_eq!(case.outcome().answer, refused(25, 0, 0));
     let first = Case::new(Entry::Run, &table_a(), &job(&[10], &defined(3)));

@@ -45,7 +45,7 @@ pub struct SuccessfulRun {
     pub steps: u32,
 }
 
-/// What a run that may halt comes to, if it does not end with 22 or 23 (P1).
+/// What a run that may halt comes to, if it does not end with 22, 23 or 40 (P1).
 pub enum HaltingRun {
     Succeeded(SuccessfulRun),
     /// 24, with the state to be written to the second space.
@@ -107,7 +107,7 @@ pub fn run(table: &[u8], job: &[u8], budget: u32) -> Result<SuccessfulRun, Refus
     run::run_job(&table, &terms, &job, budget)
 }
 
-/// P1: "29, 25, table, file 2, steps (22, 23, 24), 26".
+/// P1: "29, 25, table, file 2, steps (22, 23, 24, from P12 40), 26".
 pub fn run_halting(table: &[u8], job: &[u8], budget: u32) -> Result<HaltingRun, Refusal> {
     if budget > MOST_BUDGET {
         return Err(Refusal::without_file(Reason::BudgetTooLarge));

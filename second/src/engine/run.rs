@@ -8,7 +8,7 @@ use crate::format::job::Job;
 use crate::format::table::Table;
 use crate::format::terms::{Term, TermNumber, Terms};
 use crate::format::write::{proof_file, HiproofField};
-use crate::limits::MOST_GOALS;
+use crate::limits::{MOST_GOALS, MOST_HELD_FIELDS};
 use crate::names::{Goal, RuleName};
 
 pub type Goals = Vec<Goal>;
@@ -28,9 +28,15 @@ enum Control {
     Failed,
 }
 
-/// A term that has begun, waits for an inner term to end, and still has something to
-/// do. The body of a defined tactic and the right of an alternation are waited for by
-/// nothing: the term ends as they do.
+/// A term that has begun and waits for an inner term to end.
+pub struct Waits {
+    pub term: Waiting,
+    /// The terms that have a field and have not ended, this one and those around it.
+    unfinished: usize,
+}
+
+/// A term that waits and still has something to do. The body of a defined tactic and the
+/// right of an alternation are waited for by nothing: the term ends as they do.
 ///
 /// `own_field` is the number of the term's own field among the fields so far.
 pub enum Waiting {
@@ -66,7 +72,7 @@ pub enum Waiting {
     },
 }
 
-/// What a run comes to if it does not end with 22 or 23.
+/// What a run comes to if it does not end with 22, 23 or 40.
 pub enum Ending {
     /// The job's term has succeeded and gives these goals.
     Succeeded(Goals),
@@ -82,10 +88,12 @@ pub struct Machine<'a, const KEEPS_ALL: bool> {
     arities: Arities,
     pub steps: u32,
     /// Outermost first.
-    pub waiting: Vec<Waiting>,
-    /// The hiproof so far, its fields in byte order. A waiting label, sequence or
-    /// tensor has its own field here already.
+    pub waiting: Vec<Waits>,
+    /// The hiproof so far, its fields in byte order. A label, sequence or tensor has its
+    /// own field here as soon as it has begun.
     pub fields: Vec<HiproofField>,
+    /// How many of the fields are of terms that have not ended. All others are held (P12).
+    unfinished: usize,
 }
 
 /// Runs the job's term on its goals; a success is written as a proof file with
@@ -108,7 +116,7 @@ impl Job {
 impl<'a, const KEEPS_ALL: bool> Machine<'a, KEEPS_ALL> {
     pub fn new(table: &'a Table, terms: &'a Terms) -> Machine<'a, KEEPS_ALL> {
         let arities = Arities::find(table, terms);
-        Machine { table, terms, arities, steps: 0, waiting: Vec::new(), fields: Vec::new() }
+        Machine { table, terms, arities, steps: 0, waiting: Vec::new(), fields: Vec::new(), unfinished: 0 }
     }
 
     /// The proof file of the job, once its term has succeeded with these goals.
@@ -126,8 +134,11 @@ impl<'a, const KEEPS_ALL: bool> Machine<'a, KEEPS_ALL> {
                 Control::Begin(beginning) if self.steps == budget => return Ok(Ending::Halted(beginning)),
                 Control::Begin(beginning) => self.begin(beginning),
                 Control::Succeeded(goals) => match self.waiting.pop() {
-                    Some(waiting) => self.resume(waiting, goals)?,
-                    None => return Ok(Ending::Succeeded(goals)),
+                    Some(waits) => self.resume(waits, goals)?,
+                    None => {
+                        self.have_ended_but(0)?;
+                        return Ok(Ending::Succeeded(goals));
+                    }
                 },
                 Control::Failed => self.next_alternative()?,
             };
@@ -148,13 +159,13 @@ impl<'a, const KEEPS_ALL: bool> Machine<'a, KEEPS_ALL> {
             Term::Label(label, inner) => {
                 let own_field = self.enter(HiproofField::Label(label));
                 if KEEPS_ALL {
-                    self.waiting.push(Waiting::Label { inner, own_field });
+                    self.wait(Waiting::Label { inner, own_field });
                 }
                 begin_inner(inner, goals)
             }
             Term::Sequence(left, right) => {
                 let own_field = self.enter(HiproofField::Sequence);
-                self.waiting.push(Waiting::SequenceLeft { right, own_field });
+                self.wait(Waiting::SequenceLeft { right, own_field });
                 begin_inner(left, goals)
             }
             Term::Tensor(left, right) => self.begin_tensor(left, right, goals),
@@ -167,10 +178,27 @@ impl<'a, const KEEPS_ALL: bool> Machine<'a, KEEPS_ALL> {
         }
     }
 
+    fn wait(&mut self, term: Waiting) {
+        self.waiting.push(Waits { term, unfinished: self.unfinished });
+    }
+
+    /// All terms with a field have ended but so many of the outermost. "40, a finished
+    /// term that makes the held fields more than 4,096, at that moment": after a term has
+    /// succeeded the next waiting one is taken up at once, with no step and no joined list
+    /// before it, so it is enough to count then, and at the end.
+    fn have_ended_but(&mut self, unfinished: usize) -> Result<(), Refusal> {
+        self.unfinished = unfinished;
+        if self.fields.len() - unfinished > MOST_HELD_FIELDS {
+            return Err(Refusal::of_run(Reason::TooManyFieldsHeld, self.steps));
+        }
+        Ok(())
+    }
+
     /// Puts the field of a term whose inner terms come next behind the others; gives
     /// its number among them.
     fn enter(&mut self, field: HiproofField) -> usize {
         self.fields.push(field);
+        self.unfinished += 1;
         self.fields.len() - 1
     }
 
@@ -201,7 +229,7 @@ impl<'a, const KEEPS_ALL: bool> Machine<'a, KEEPS_ALL> {
             Some(arity) if arity <= goals.len() => {
                 let others = goals.split_off(arity);
                 let own_field = self.enter(HiproofField::Tensor);
-                self.waiting.push(Waiting::TensorLeft { right, others, own_field });
+                self.wait(Waiting::TensorLeft { right, others, own_field });
                 begin_inner(left, goals)
             }
             _ => Control::Failed,
@@ -212,23 +240,26 @@ impl<'a, const KEEPS_ALL: bool> Machine<'a, KEEPS_ALL> {
     /// the same goals." It leaves no field.
     fn begin_alternation(&mut self, left: TermNumber, right: TermNumber, goals: Goals) -> Control {
         let fields_before = self.fields.len();
-        self.waiting.push(Waiting::AlternationLeft { right, goals: goals.clone(), fields_before });
+        self.wait(Waiting::AlternationLeft { right, goals: goals.clone(), fields_before });
         begin_inner(left, goals)
     }
 
-    /// Goes on with what waited for the goals of a term that succeeded.
-    fn resume(&mut self, waiting: Waiting, goals: Goals) -> Result<Control, Refusal> {
-        Ok(match waiting {
+    /// Goes on with what waited for the goals of a term that succeeded. All terms inside
+    /// the one that waited have ended, also those that were not kept to be named.
+    fn resume(&mut self, Waits { term, unfinished }: Waits, goals: Goals) -> Result<Control, Refusal> {
+        self.have_ended_but(unfinished)?;
+        Ok(match term {
             Waiting::SequenceLeft { right, own_field } => {
                 if KEEPS_ALL {
-                    self.waiting.push(Waiting::SequenceRight { right, own_field });
+                    self.wait(Waiting::SequenceRight { right, own_field });
                 }
                 begin_inner(right, goals)
             }
             Waiting::TensorLeft { right, others, own_field } => {
-                self.waiting.push(Waiting::TensorRight { right, left_gave: goals, own_field });
+                self.wait(Waiting::TensorRight { right, left_gave: goals, own_field });
                 begin_inner(right, others)
             }
+            // "after 22 at the same term": the tensor is counted when the next one is taken up.
             Waiting::TensorRight { left_gave, .. } => Control::Succeeded(self.join(left_gave, goals)?),
             // "Once the left has succeeded the choice stands, whatever fails later."
             Waiting::Label { .. } | Waiting::SequenceRight { .. } | Waiting::AlternationLeft { .. } => {
@@ -249,11 +280,12 @@ impl<'a, const KEEPS_ALL: bool> Machine<'a, KEEPS_ALL> {
 
     /// A term "whose inner term fails, fails": everything that waits is given up
     /// as far as the nearest alternation whose left was running. Without one the
-    /// tactic has failed.
+    /// tactic has failed. "fields of a failed alternative are no longer held".
     fn next_alternative(&mut self) -> Result<Control, Refusal> {
-        while let Some(waiting) = self.waiting.pop() {
-            if let Waiting::AlternationLeft { right, goals, fields_before } = waiting {
+        while let Some(Waits { term, unfinished }) = self.waiting.pop() {
+            if let Waiting::AlternationLeft { right, goals, fields_before } = term {
                 self.fields.truncate(fields_before);
+                self.unfinished = unfinished;
                 return Ok(begin_inner(right, goals));
             }
         }

@@ -103,8 +103,8 @@ fn come_to(machine: &Machine, terms: &Terms, job: &Job, ending: Ending) -> Halti
 /// The state of a machine that has halted before this beginning.
 fn state_of(machine: &Machine, terms: &Terms, job: &Job, beginning: &Beginning) -> SavedState {
     let mut writer = EntryWriter { terms, first_of_job: job.tactic, bytes: Vec::new() };
-    // At most 4,096 steps, 5 bytes of fields for each, and 4,097 entries: all counts fit
-    // 16 bits.
+    // At most 16,384 steps, as many entries and one, and 4,096 fields of five bytes (40):
+    // all counts fit 16 bits.
     writer.value(machine.steps as usize);
     let finished = finished_fields(machine);
     let length_at = writer.bytes.len();
@@ -115,7 +115,7 @@ fn state_of(machine: &Machine, terms: &Terms, job: &Job, beginning: &Beginning) 
     writer.value(machine.waiting.len() + 1);
     let own_goals = own_goals_of_alternations(machine, beginning);
     for (waiting, own) in machine.waiting.iter().zip(own_goals) {
-        match waiting {
+        match &waiting.term {
             Waiting::Label { inner, .. } => writer.entry(LABEL, *inner, &[]),
             Waiting::SequenceLeft { right, .. } => writer.entry(SEQUENCE_LEFT, *right, &[]),
             Waiting::SequenceRight { right, .. } => writer.entry(SEQUENCE_RIGHT, *right, &[]),
@@ -130,12 +130,13 @@ fn state_of(machine: &Machine, terms: &Terms, job: &Job, beginning: &Beginning) 
 
 /// The fields of the terms that have ended, without those of the terms that wait. What
 /// is left are whole terms: the left one of each sequence and tensor whose right one
-/// runs. Those of a failed alternative were dropped when it failed (B1.15).
+/// runs. Those of a failed alternative were dropped when it failed (B1.15). They are the
+/// held fields of P12, so their number need not stand in the state.
 fn finished_fields(machine: &Machine) -> Vec<HiproofField> {
     let mut finished = Vec::with_capacity(machine.fields.len());
     let mut behind = 0;
     for waiting in &machine.waiting {
-        let own_field = match waiting {
+        let own_field = match &waiting.term {
             Waiting::Label { own_field, .. }
             | Waiting::SequenceLeft { own_field, .. }
             | Waiting::SequenceRight { own_field, .. }
@@ -160,7 +161,7 @@ fn own_goals_of_alternations(machine: &Machine, beginning: &Beginning) -> Vec<us
     let mut own_goals = vec![0; machine.waiting.len()];
     let mut held_inside = beginning.goals.len();
     for (waiting, own) in machine.waiting.iter().zip(&mut own_goals).rev() {
-        held_inside = match waiting {
+        held_inside = match &waiting.term {
             Waiting::Label { .. } | Waiting::SequenceLeft { .. } | Waiting::TensorRight { .. } => held_inside,
             Waiting::SequenceRight { .. } => 0,
             Waiting::TensorLeft { others, .. } => held_inside + others.len(),

@@ -112,12 +112,12 @@ pub fn half_way(table: &[u8], job: &[u8]) -> Vec<u8> {
     state_at(table, job, steps_of(table, job) / 2).unwrap_or_else(|| vec![0; STATE_SIZE])
 }
 
-fn run_halting(table: &[u8], job: &[u8], budget: u32) -> Case {
+pub fn run_halting(table: &[u8], job: &[u8], budget: u32) -> Case {
     Case::new(Entry::RunHalting, table, job).with_budget(budget)
 }
 
 /// A run that is taken up after so many steps, with so many more.
-fn resumed_at(table: &[u8], job: &[u8], steps: u32, budget: u32) -> Option<Case> {
+pub fn resumed_at(table: &[u8], job: &[u8], steps: u32, budget: u32) -> Option<Case> {
     state_at(table, job, steps).map(|saved| Case::resumed(table, job, &saved).with_budget(budget))
 }
 
@@ -171,12 +171,13 @@ pub fn in_every_place() -> Vec<Case> {
 pub fn numbers() -> Vec<Case> {
     let (table, first_job) = (examples::table_a(), job(&[10], &defined(3)));
     let most = MOST_BUDGET;
-    let mut cases: Vec<Case> = [0, 1, 18, 19, 20, most - 1, most, most + 1, 65_536, 65_536 + 19, 1 << 31, u32::MAX]
-        .map(|budget| run_halting(&table, &first_job, budget))
-        .to_vec();
+    let mut cases: Vec<Case> =
+        [0, 1, 18, 19, 20, 4_096, 4_097, most - 1, most, most + 1, 65_536, 65_536 + 19, 1 << 31, u32::MAX]
+            .map(|budget| run_halting(&table, &first_job, budget))
+            .to_vec();
     for steps in [0, 9, 18] {
         let to_the_end = [0, 1, 18 - steps, 19 - steps, 20 - steps];
-        let to_the_limit = [most - 1 - steps, most - steps, most + 1 - steps];
+        let to_the_limit = [4_096 - steps, 4_097 - steps, most - 1 - steps, most - steps, most + 1 - steps];
         let around_16_bits = [65_535 - steps, 65_536 - steps, 65_536, 65_536 + 19 - steps];
         let around_32_bits = [1 << 31, u32::MAX - steps, (u32::MAX - steps).wrapping_add(1), u32::MAX - 1, u32::MAX];
         for budget in [&to_the_end[..], &to_the_limit, &around_16_bits, &around_32_bits].concat() {
@@ -186,7 +187,7 @@ pub fn numbers() -> Vec<Case> {
     cases
 }
 
-/// Saved states of every interesting size, with sums on both sides of 4,096: those that
+/// Saved states of every interesting size, with sums on both sides of 16,384: those that
 /// are too short to hold a step count have none.
 pub fn sizes() -> Vec<Case> {
     let (table, first_job) = (examples::table_a(), job(&[10], &defined(3)));
@@ -199,7 +200,10 @@ pub fn sizes() -> Vec<Case> {
         states.push(longer);
     }
     let most = MOST_BUDGET as u16;
-    states.extend([vec![255], vec![16], vec![16, 0], vec![16, 1], vec![15, 255], vec![255, 255], vec![16, 0, 9]]);
+    states.extend([vec![255], vec![64], vec![64, 0], vec![64, 1], vec![63, 255], vec![255, 255], vec![64, 0, 9]]);
+    // One of the size that a state had before P12.
+    states.push(state_at(&table, &first_job, 9).unwrap_or_default()[..86_540].to_vec());
+    states.push(vec![16, 1]);
     states.push([&most.to_be_bytes(), &[0; STATE_SIZE - 3][..]].concat());
     states.push([&(most + 1).to_be_bytes(), &[0; STATE_SIZE - 3][..]].concat());
     let mut cases = Vec::new();

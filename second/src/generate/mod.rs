@@ -10,11 +10,13 @@ pub mod damage;
 pub mod examples;
 pub mod halting;
 pub mod limit_files;
+pub mod longer;
 pub mod no_bytes;
 pub mod positions;
 pub mod random;
 pub mod random_file;
 pub mod random_halting;
+pub mod random_longer;
 pub mod random_rules;
 pub mod random_search;
 pub mod random_table;
@@ -54,7 +56,8 @@ pub fn random_case(random: &mut Random) -> Case {
         _ => random_case_with(other_file, entry, Size::Small, random),
     };
     let case = with_short_proof(random, case);
-    random_rules::with_many_uses(random, case)
+    let case = random_rules::with_many_uses(random, case);
+    random_longer::with_long_run(random, case)
 }
 
 /// P7: of the calls that take a proof one in fifty gets one of no bytes, and as many

@@ -5,8 +5,8 @@ use super::case::{Case, Entry};
 use super::random::Random;
 use super::random_table::{RandomTable, Size};
 use super::{
-    damage, examples, halting, limit_files, no_bytes, other_file_of_vectors, positions, random_case_of, reading,
-    reasons, rules, searches, texts,
+    damage, examples, halting, limit_files, longer, no_bytes, other_file_of_vectors, positions, random_case_of,
+    reading, reasons, rules, searches, texts,
 };
 use crate::limits::MOST_BUDGET;
 
@@ -29,6 +29,7 @@ pub fn vector_set() -> Vec<(&'static str, Vec<Case>)> {
         ("no-bytes.vec", no_bytes::cases()),
         ("rules.vec", rules::cases()),
         ("halting.vec", halting_cases()),
+        ("longer.vec", longer::cases()),
     ]
 }
 
@@ -137,7 +138,7 @@ fn refusals_of_every_entry(entry: Entry, table: &[u8], other: &[u8]) -> Vec<Case
 }
 
 /// A case with output spaces of every interesting length.
-fn with_output_lengths(case: &Case) -> Vec<Case> {
+pub fn with_output_lengths(case: &Case) -> Vec<Case> {
     match case.result() {
         None => vec![case.clone(), case.clone().with_output(0)],
         Some(result) => [0, result.len() - 1, result.len(), result.len() + 1]
@@ -322,6 +323,7 @@ fn halting_cases() -> Vec<Case> {
     cases.extend(halting::in_every_place());
     cases.extend(halting::forgeries());
     cases.extend(halting::at_limits());
+    cases.extend(longer::halting_cases());
     cases.extend(random_cases(Entry::RunHalting, 14, 60).into_iter().map(with_little_more_work_space));
     cases.extend(random_cases(Entry::Resume, 15, 150).into_iter().map(with_little_more_work_space));
     cases

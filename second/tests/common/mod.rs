@@ -9,7 +9,7 @@ pub fn refused(number: u32, file: u32, place: u32) -> Answer {
     Answer { number, file, place, ..Answer::default() }
 }
 
-/// The answer of a run that ends with 22, 23 or 24, or of a search that ends with
+/// The answer of a run that ends with 22, 23, 24 or 40, or of a search that ends with
 /// 24 or 41.
 pub fn run_refused(number: u32, steps: u32) -> Answer {
     Answer { number, steps, ..Answer::default() }
@@ -63,4 +63,19 @@ pub fn read_text(text: &[u8]) -> (Answer, Vec<u8>) {
 
 pub fn write_text(term: &[u8]) -> (Answer, Vec<u8>) {
     call(Entry::WriteText, &[], term)
+}
+
+/// The term fields in these bytes: whole hiproof terms, one behind the other.
+pub fn fields_in(terms: &[u8]) -> usize {
+    let mut fields = 0;
+    let mut at = 0;
+    while at < terms.len() {
+        fields += 1;
+        at += match terms[at] {
+            // An atomic has a value behind its header; a label too, then its inner term.
+            16 | 18 => 5,
+            _ => 3,
+        };
+    }
+    fields
 }

@@ -5,18 +5,21 @@ use super::{Placed, Table, TacticArities, Term};
 use second::generate::build;
 use second::limits::STATE_SIZE;
 
-/// A run with a budget, up to where it halts.
+/// A run with a budget, up to where it halts, and the count of the fields held (P12).
 pub struct Run<'a> {
     pub table: &'a Table,
     pub arities: TacticArities,
     pub budget: u32,
     pub steps: u32,
+    pub held: usize,
 }
 
 /// Why a run stops before its term has succeeded or failed.
 pub enum Stop {
     /// 22.
     ListTooLong,
+    /// 40.
+    TooManyFields,
     /// 24.
     Halted(Halt),
 }
@@ -25,7 +28,7 @@ pub enum Stop {
 pub struct Halt {
     /// The fields finished inside the term.
     finished: Vec<u8>,
-    /// The entries from the term on, innermost last.
+    /// The entries from the term on, innermost first, as the run is left.
     entries: Vec<Vec<u8>>,
     /// The end of the term's list that the entries hold.
     inside: Vec<u16>,
@@ -61,7 +64,7 @@ impl<'a> InFile<'a> {
 impl Stop {
     /// With an entry for the term around, which waits at that stage.
     fn in_front(self, entry: Vec<u8>) -> Stop {
-        self.with(|halt| halt.entries.insert(0, entry))
+        self.with(|halt| halt.entries.push(entry))
     }
 
     fn with(mut self, change: impl FnOnce(&mut Halt)) -> Stop {
@@ -81,7 +84,7 @@ impl Halt {
         let mut bytes = build::values(&[steps as u16, self.finished.len() as u16]);
         bytes.extend(&self.finished);
         bytes.extend(build::values(&[self.entries.len() as u16]));
-        bytes.extend(self.entries.concat());
+        bytes.extend(self.entries.iter().rev().flatten());
         assert!(bytes.len() <= STATE_SIZE);
         bytes.resize(STATE_SIZE, 0);
         bytes
@@ -89,6 +92,18 @@ impl Halt {
 }
 
 impl<'a> Run<'a> {
+    pub fn new(table: &'a Table, budget: u32) -> Run<'a> {
+        Run { table, arities: TacticArities::of(table), budget, steps: 0, held: 0 }
+    }
+
+    fn finished(&mut self, given: Option<(Vec<u8>, Vec<u16>)>) -> Evaluated {
+        self.held += usize::from(given.is_some());
+        if self.held > 4_096 {
+            return Err(Stop::TooManyFields);
+        }
+        Ok(given)
+    }
+
     pub fn evaluate(&mut self, at: InFile<'a>, goals: &[u16]) -> Evaluated {
         if self.steps == self.budget {
             let entries = vec![at.entry(TO_BEGIN, goals)];
@@ -98,15 +113,15 @@ impl<'a> Run<'a> {
         match (&at.term.term, goals) {
             (Term::Atomic(name), &[goal]) => {
                 let premises = self.table.premises(*name, goal);
-                Ok(premises.map(|premises| (build::atomic(*name), premises.clone())))
+                self.finished(premises.map(|premises| (build::atomic(*name), premises.clone())))
             }
-            (Term::Id, [_]) => Ok(Some((build::id(), goals.to_vec()))),
-            (Term::Empty, []) => Ok(Some((build::empty(), vec![]))),
-            (Term::Assert(own), &[goal]) if *own == goal => Ok(Some((build::id(), goals.to_vec()))),
+            (Term::Id, [_]) => self.finished(Some((build::id(), goals.to_vec()))),
+            (Term::Empty, []) => self.finished(Some((build::empty(), vec![]))),
+            (Term::Assert(own), &[goal]) if *own == goal => self.finished(Some((build::id(), goals.to_vec()))),
             (Term::Label(label, inner), [_]) => {
                 let inner = at.inner(inner);
                 let evaluated = self.evaluate(inner, goals).map_err(|stop| stop.in_front(inner.entry(LABEL, &[])))?;
-                Ok(evaluated.map(|(hiproof, given)| (build::label(*label, &hiproof), given)))
+                self.finished(evaluated.map(|(hiproof, given)| (build::label(*label, &hiproof), given)))
             }
             (Term::Sequence(left, right), _) => self.sequence(at.inner(left), at.inner(right), goals),
             (Term::Tensor(left, right), _) => self.tensor(at.inner(left), at.inner(right), goals),
@@ -132,7 +147,7 @@ impl<'a> Run<'a> {
             });
             outside.in_front(right.entry(SEQUENCE_RIGHT, &[]))
         })?;
-        Ok(second.map(|(second, given)| (build::sequence(&first, &second), given)))
+        self.finished(second.map(|(second, given)| (build::sequence(&first, &second), given)))
     }
 
     fn tensor(&mut self, left: InFile<'a>, right: InFile<'a>, goals: &[u16]) -> Evaluated {
@@ -158,10 +173,11 @@ impl<'a> Run<'a> {
         if given.len() > 256 {
             return Err(Stop::ListTooLong);
         }
-        Ok(Some((build::tensor(&left_proof, &right_proof), given)))
+        self.finished(Some((build::tensor(&left_proof, &right_proof), given)))
     }
 
     fn alternation(&mut self, left: InFile<'a>, right: InFile<'a>, goals: &[u16]) -> Evaluated {
+        let held_before = self.held;
         let by_left = self.evaluate(left, goals).map_err(|stop| {
             let mut own = goals.to_vec();
             let outside = stop.with(|halt| {
@@ -173,7 +189,10 @@ impl<'a> Run<'a> {
         })?;
         match by_left {
             Some(success) => Ok(Some(success)),
-            None => self.evaluate(right, goals),
+            None => {
+                self.held = held_before;
+                self.evaluate(right, goals)
+            }
         }
     }
 }

@@ -317,19 +317,35 @@ impl TacticArities {
     }
 }
 
-/// A run of the big-step rules with a budget.
+/// A run of the big-step rules with a budget, which carries the count of the fields that
+/// are held (P12).
 pub struct Run<'a> {
     pub table: &'a Table,
     pub arities: TacticArities,
     pub budget: u32,
     pub steps: u32,
+    pub held: usize,
 }
 
 /// A hiproof's bytes and the goals given; None if the term fails. An error ends
-/// the whole run with 22 or 24.
+/// the whole run with 22, 24 or 40.
 type Evaluated = Result<Option<(Vec<u8>, Vec<u16>)>, u32>;
 
-impl Run<'_> {
+impl<'a> Run<'a> {
+    pub fn new(table: &'a Table, budget: u32) -> Run<'a> {
+        Run { table, arities: TacticArities::of(table), budget, steps: 0, held: 0 }
+    }
+
+    /// What a term with a field of its own gives when it ends: "a finished term that makes
+    /// the held fields more than 4,096" is 40.
+    fn finished(&mut self, given: Option<(Vec<u8>, Vec<u16>)>) -> Evaluated {
+        self.held += usize::from(given.is_some());
+        if self.held > 4_096 {
+            return Err(40);
+        }
+        Ok(given)
+    }
+
     pub fn evaluate(&mut self, term: &Placed, goals: &[u16]) -> Evaluated {
         if self.steps == self.budget {
             return Err(24);
@@ -338,21 +354,25 @@ impl Run<'_> {
         match (&term.term, goals) {
             (Term::Atomic(name), &[goal]) => {
                 let premises = self.table.premises(*name, goal);
-                Ok(premises.map(|premises| (build::atomic(*name), premises.clone())))
+                self.finished(premises.map(|premises| (build::atomic(*name), premises.clone())))
             }
-            (Term::Id, [_]) => Ok(Some((build::id(), goals.to_vec()))),
-            (Term::Empty, []) => Ok(Some((build::empty(), vec![]))),
-            (Term::Assert(own), &[goal]) if *own == goal => Ok(Some((build::id(), goals.to_vec()))),
+            (Term::Id, [_]) => self.finished(Some((build::id(), goals.to_vec()))),
+            (Term::Empty, []) => self.finished(Some((build::empty(), vec![]))),
+            (Term::Assert(own), &[goal]) if *own == goal => self.finished(Some((build::id(), goals.to_vec()))),
             (Term::Label(label, inner), [_]) => {
                 let inner = self.evaluate(inner, goals)?;
-                Ok(inner.map(|(hiproof, given)| (build::label(*label, &hiproof), given)))
+                self.finished(inner.map(|(hiproof, given)| (build::label(*label, &hiproof), given)))
             }
             (Term::Sequence(left, right), _) => self.sequence(left, right, goals),
             (Term::Tensor(left, right), _) => self.tensor(left, right, goals),
-            (Term::Alternation(left, right), _) => match self.evaluate(left, goals)? {
-                Some(success) => Ok(Some(success)),
-                None => self.evaluate(right, goals),
-            },
+            (Term::Alternation(left, right), _) => {
+                let held_before = self.held;
+                if let Some(success) = self.evaluate(left, goals)? {
+                    return Ok(Some(success));
+                }
+                self.held = held_before;
+                self.evaluate(right, goals)
+            }
             (Term::Defined(tactic), _) => match self.table.body(*tactic) {
                 Some(body) => self.evaluate(body, goals),
                 None => Ok(None),
@@ -368,7 +388,7 @@ impl Run<'_> {
         let Some((second, given)) = self.evaluate(right, &between)? else {
             return Ok(None);
         };
-        Ok(Some((build::sequence(&first, &second), given)))
+        self.finished(Some((build::sequence(&first, &second), given)))
     }
 
     fn tensor(&mut self, left: &Placed, right: &Placed, goals: &[u16]) -> Evaluated {
@@ -386,7 +406,7 @@ impl Run<'_> {
         if given.len() > 256 {
             return Err(22);
         }
-        Ok(Some((build::tensor(&left_proof, &right_proof), given)))
+        self.finished(Some((build::tensor(&left_proof, &right_proof), given)))
     }
 }
 
