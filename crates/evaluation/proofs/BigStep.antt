@@ -11,7 +11,7 @@ use Rattle.tables.specs.Tables.{Table, HasRule, UniqueDefinitions}
 use Rattle.hitac.specs.Validates.{AnyList, AtMost256, Validates, V-Atomic, V-Identity, V-Label, V-Sequence, V-Tensor, V-Empty}
 use Rattle.evaluation.specs.Outcomes.{proved}
 use Rattle.evaluation.specs.Machine.{Place, stopped, after, run, start}
-use Rattle.evaluation.specs.Ends.{End, proof, failure, overflow, NoProof, Ends, D-Atomic, D-Id, D-Empty, D-Assert, D-Label, D-Label-Inner, D-Seq, D-Seq-Left, D-Seq-Right, D-Tensor, D-Tensor-Left, D-Tensor-Right, D-Alt-L, D-Alt-R, D-Def}
+use Rattle.evaluation.specs.Ends.{End, proof, failure, overflow, excess, Limit, NoProof, limited, FewHeld, holds, Ends, D-Atomic, D-Id, D-Empty, D-Assert, D-Label, D-Label-Inner, D-Seq, D-Seq-Left, D-Seq-Right, D-Tensor, D-Tensor-Left, D-Tensor-Right, D-Alt-L, D-Alt-R, D-Alt-Limit, D-Def}
 use Rattle.evaluation.specs.EndingOf.{endingOf}
 use Rattle.evaluation.specs.Evaluates.{Evaluates, B-Atomic, B-Id, B-Label, B-Seq, B-Tensor, B-Empty, B-Alt-L, B-Alt-R, B-Assert, B-Def}
 use Rattle.evaluation.proofs.MachineTraced.{run-traced}
@@ -67,42 +67,47 @@ pub evaluates-higher : {T : Table} {Fits : List Goal → Type 0} {i j : ℕ} {g 
 evaluates-higher {T} {Fits} {i} {j} {g} {h} {t} {s} l r =
     let p : j - i + i ≡ j = omega arith in subst (λ (x : ℕ). Evaluates T Fits x g t s h) p (higher-add (j - i) r)
 
+no-limit : {s : Term} {h : List Goal} → Limit (proof s h) → ⊥
+no-limit x = elim x [ ]
+
 pub no-proof : {s : Term} {h : List Goal} → NoProof (proof s h) → ⊥
-no-proof x = elim x [ ]
+no-proof (limited x) = no-limit x
 
 -- A proof of the deterministic rules is an evaluation of Fig. 3, no higher than the steps.
-pub ends-evaluates : {T : Table} {g h : List Goal} {t s : Term} {n : ℕ} → Ends T g t n (proof s h) → Evaluates T AtMost256 n g t s h
-ends-evaluates (D-Atomic m) = B-Atomic m
-ends-evaluates D-Id = B-Id
-ends-evaluates D-Empty = B-Empty
-ends-evaluates (D-Assert p) = B-Assert p
-ends-evaluates (D-Label r) = B-Label (ends-evaluates r)
+pub ends-evaluates : {T : Table} {MayHold : ℕ → Type 0} {k : ℕ} {g h : List Goal} {t s : Term} {n : ℕ} → Ends T MayHold k g t n (proof s h) → Evaluates T AtMost256 n g t s h
+ends-evaluates (D-Atomic m (holds l)) = B-Atomic m
+ends-evaluates (D-Id (holds l)) = B-Id
+ends-evaluates (D-Empty (holds l)) = B-Empty
+ends-evaluates (D-Assert p (holds l)) = B-Assert p
+ends-evaluates (D-Label r (holds l)) = B-Label (ends-evaluates r)
 ends-evaluates (D-Label-Inner r x) = absurd (no-proof x)
-ends-evaluates (D-Seq {n = n} {m = m} r r′) =
+ends-evaluates (D-Seq {n = n} {m = m} r r′ (holds l)) =
     B-Seq {i = n + m} (evaluates-higher (omega arith) (ends-evaluates r)) (evaluates-higher (omega arith) (ends-evaluates r′))
 ends-evaluates (D-Seq-Left r x) = absurd (no-proof x)
 ends-evaluates (D-Seq-Right r r′ x) = absurd (no-proof x)
-ends-evaluates (D-Tensor {n = n} {m = m} a b r r′ j) =
+ends-evaluates (D-Tensor {n = n} {m = m} a b r r′ j (holds l)) =
     B-Tensor {i = n + m} (evaluates-higher (omega arith) (ends-evaluates r)) (evaluates-higher (omega arith) (ends-evaluates r′)) j
 ends-evaluates (D-Tensor-Left g₂ a b r x) = absurd (no-proof x)
 ends-evaluates (D-Tensor-Right a b r r′ x) = absurd (no-proof x)
 ends-evaluates (D-Alt-L r) = B-Alt-L (ends-evaluates r)
+ends-evaluates (D-Alt-Limit r x) = absurd (no-limit x)
 ends-evaluates (D-Alt-R {n = n} {m = m} r r′) = B-Alt-R {i = n + m} (evaluates-higher (omega arith) (ends-evaluates r′))
 ends-evaluates (D-Def m r) = B-Def m (ends-evaluates r)
 
 -- Without any limit, as in the paper.
-pub ends-evaluates-freely : {T : Table} {g h : List Goal} {t s : Term} {n : ℕ} → Ends T g t n (proof s h) → Evaluates T AnyList n g t s h
+pub ends-evaluates-freely : {T : Table} {MayHold : ℕ → Type 0} {k : ℕ} {g h : List Goal} {t s : Term} {n : ℕ} → Ends T MayHold k g t n (proof s h) → Evaluates T AnyList n g t s h
 ends-evaluates-freely r = evaluates-weaken (λ x l. tt) (ends-evaluates r)
 
 module _ (T : Table) (unique : UniqueDefinitions T) (b : ℕ) (π : Place) (t : Term) (g : List Goal) {n : ℕ} {s : Term} {h : List Goal}
     (q : run T b (start π t g) ≡ after n (stopped (proved s h))) where
-  run-proof : Ends T g t n (proof s h)
+  run-proof : Ends T FewHeld 0 g t n (proof s h)
   run-proof = let (e, r, p, l) = run-traced T unique b π t g n (proved s h) q in go e p r
     where
-      go : (e : End) → endingOf e ≡ proved s h → Ends T g t n e → Ends T g t n (proof s h)
-      go (proof s′ h′) p r = let c : proof s′ h′ ≡ proof s h = cc in subst (Ends T g t n) c r
+      go : (e : End) → endingOf e ≡ proved s h → Ends T FewHeld 0 g t n e → Ends T FewHeld 0 g t n (proof s h)
+      go (proof s′ h′) p r = let c : proof s′ h′ ≡ proof s h = cc in subst (Ends T FewHeld 0 g t n) c r
       go failure p r = let z : _≡_ {A = ℕ} 0 1 = cc in absurd (omega arith)
       go overflow p r = let z : _≡_ {A = ℕ} 0 1 = cc in absurd (omega arith)
+      go excess p r = let z : _≡_ {A = ℕ} 0 1 = cc in absurd (omega arith)
 
   -- RUN EVALUATES (Corollary 2): a run that proves is an evaluation with no joined list over 256, no higher than its steps,
   pub run-evaluates : Evaluates T AtMost256 n g t s h

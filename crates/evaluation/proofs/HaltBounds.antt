@@ -12,7 +12,8 @@ use borrow.Author.Tests.{leb-true}
 use Rattle.format.specs.declared.values.RuleName.{RuleName}
 use Rattle.format.specs.declared.values.Goal.{Goal}
 use Rattle.format.specs.declared.values.Label.{Label}
-use Rattle.format.specs.Refusals.{joinedTooLong}
+use Rattle.format.specs.Refusals.{joinedTooLong, fieldsTooMany}
+use Rattle.format.specs.Limits.{mostHeld}
 use Rattle.format.specs.Terms.{Term, atomic, id, label, sequence, tensor, empty, alternation, assert, defined, size, fields}
 use Rattle.files.proofs.Sizes.{size-most}
 use Rattle.tables.specs.Tables.{Table}
@@ -20,11 +21,11 @@ use Rattle.tables.specs.Lookup.{FoundRule, findRule, findBody, matches}
 use Rattle.tables.specs.Places.{bodyPlace}
 use Rattle.tables.proofs.RuleLookup.{found-member}
 use Rattle.evaluation.specs.TacticArity.{tacticArity}
-use Rattle.evaluation.specs.Outcomes.{Ending, proved, failed, ended, foundPremises, onOne, ruleGives, oneGoal, noGoal, assertGives, splitAt, splitBy, finished, inLabel, afterLeft, joinedFits, besideLeft}
-use Rattle.evaluation.specs.Machine.{Place, past, Frame, labelled, sequenceLeft, sequenceRight, tensorLeft, tensorRight, alternationLeft, Control, running, stopped, State, after, unwind, enterOrFail, begin, stepFrom, step, run, start}
+use Rattle.evaluation.specs.Outcomes.{Ending, proved, failed, ended, within, foundPremises, onOne, ruleGives, oneGoal, noGoal, assertGives, splitAt, splitBy, finished, inLabel, afterLeft, joinedFits, besideLeft}
+use Rattle.evaluation.specs.Machine.{held, frameFields, Place, past, Frame, labelled, sequenceLeft, sequenceRight, tensorLeft, tensorRight, alternationLeft, Control, running, stopped, State, after, unwind, enterOrFail, begin, stepFrom, step, run, start}
 use Rattle.hitac.specs.Premises.{FewPremises}
-use Rattle.evaluation.specs.RunSizes.{frameFields, waiting}
-use Rattle.evaluation.specs.Halts.{ownGoals, heldOf, ownCount, keptSize, keptFields, keptBytes}
+use Rattle.evaluation.specs.RunSizes.{waiting}
+use Rattle.evaluation.specs.Halts.{ownGoals, heldOf, ownCount, keptSize, keptBytes}
 
 -- a finished term gives at most eight goals for each of its fields
 abbrev GroundedEnding : Ending → Type 0
@@ -60,40 +61,47 @@ fewer x y (alternationLeft π u g ∷ w) h v = (omega (arith, h, v .0), v .1)
 none-inside : (x : ℕ) (w : List Frame) → GroundedFrames x w → GroundedFrames 0 w
 none-inside x w v = fewer x 0 w (omega arith) v
 
-label-grounded : (l : Label) (e : Ending) → GroundedEnding e → GroundedEnding (inLabel l e)
-unfolding fields
-label-grounded l (proved s g) h = omega (arith, h)
-label-grounded l failed h = tt
-label-grounded l (ended c) h = tt
-
-sequence-grounded : (s : Term) (e : Ending) → GroundedEnding e → GroundedEnding (afterLeft s e)
-unfolding fields
-sequence-grounded s (proved r g) h = omega (arith, h)
-sequence-grounded s failed h = tt
-sequence-grounded s (ended c) h = tt
-
-tensor-grounded : (s : Term) (g : List Goal) (e : Ending) → length g ≤ 8 * fields s → GroundedEnding e → GroundedEnding (besideLeft s g e)
-unfolding fields
-tensor-grounded s g (proved r h) v k = go (joinedFits (g ++ h))
+within-grounded : (k : ℕ) (s : Term) (g : List Goal) → length g ≤ 8 * fields s → GroundedEnding (within k s g)
+within-grounded k s g h = go (leb (k + fields s) mostHeld)
   where
-    go : (x : Bool) → GroundedEnding (cond x (proved (tensor s r) (g ++ h)) (ended joinedTooLong))
-    go true = omega (arith, length-append g h, v, k)
+    go : (x : Bool) → GroundedEnding (cond x (proved s g) (ended fieldsTooMany))
+    go true = h
     go false = tt
-tensor-grounded s g failed v k = tt
-tensor-grounded s g (ended c) v k = tt
+
+label-grounded : (k : ℕ) (l : Label) (e : Ending) → GroundedEnding e → GroundedEnding (inLabel k l e)
+unfolding fields
+label-grounded k l (proved s g) h = within-grounded k (label l s) g (omega (arith, h))
+label-grounded k l failed h = tt
+label-grounded k l (ended c) h = tt
+
+sequence-grounded : (k : ℕ) (s : Term) (e : Ending) → GroundedEnding e → GroundedEnding (afterLeft k s e)
+unfolding fields
+sequence-grounded k s (proved r g) h = within-grounded k (sequence s r) g (omega (arith, h))
+sequence-grounded k s failed h = tt
+sequence-grounded k s (ended c) h = tt
+
+tensor-grounded : (k : ℕ) (s : Term) (g : List Goal) (e : Ending) → length g ≤ 8 * fields s → GroundedEnding e → GroundedEnding (besideLeft k s g e)
+unfolding fields
+tensor-grounded k s g (proved r h) v z = go (joinedFits (g ++ h))
+  where
+    go : (x : Bool) → GroundedEnding (cond x (within k (tensor s r) (g ++ h)) (ended joinedTooLong))
+    go true = within-grounded k (tensor s r) (g ++ h) (omega (arith, length-append g h, v, z))
+    go false = tt
+tensor-grounded k s g failed v z = tt
+tensor-grounded k s g (ended c) v z = tt
 
 unwind-grounded : (e : Ending) (w : List Frame) → GroundedEnding e → GroundedFrames 0 w → Grounded (unwind e w)
 unfolding unwind GroundedFrames
 unwind-grounded e [] h v = h
-unwind-grounded e (labelled π l ∷ w) h v = unwind-grounded (inLabel l e) w (label-grounded l e h) v
+unwind-grounded e (labelled π l ∷ w) h v = unwind-grounded (inLabel (held w) l e) w (label-grounded (held w) l e h) v
 unwind-grounded (proved s g) (sequenceLeft π u ∷ w) h v = (h, v)
 unwind-grounded failed (sequenceLeft π u ∷ w) h v = unwind-grounded failed w tt v
 unwind-grounded (ended c) (sequenceLeft π u ∷ w) h v = unwind-grounded (ended c) w tt v
-unwind-grounded e (sequenceRight π s ∷ w) h v = unwind-grounded (afterLeft s e) w (sequence-grounded s e h) (v .1)
+unwind-grounded e (sequenceRight π s ∷ w) h v = unwind-grounded (afterLeft (held w) s e) w (sequence-grounded (held w) s e h) (v .1)
 unwind-grounded (proved s g) (tensorLeft π u k ∷ w) h v = (h, fewer (0 + length k) (length k) w (omega arith) v)
 unwind-grounded failed (tensorLeft π u k ∷ w) h v = unwind-grounded failed w tt (none-inside (0 + length k) w v)
 unwind-grounded (ended c) (tensorLeft π u k ∷ w) h v = unwind-grounded (ended c) w tt (none-inside (0 + length k) w v)
-unwind-grounded e (tensorRight π s g ∷ w) h v = unwind-grounded (besideLeft s g e) w (tensor-grounded s g e (v .0) h) (v .1)
+unwind-grounded e (tensorRight π s g ∷ w) h v = unwind-grounded (besideLeft (held w) s g e) w (tensor-grounded (held w) s g e (v .0) h) (v .1)
 unwind-grounded (proved s g) (alternationLeft π u k ∷ w) h v = unwind-grounded (proved s g) w h (none-inside (length k) w (v .1))
 unwind-grounded failed (alternationLeft π u k ∷ w) h v = v .1
 unwind-grounded (ended c) (alternationLeft π u k ∷ w) h v = unwind-grounded (ended c) w tt (none-inside (length k) w (v .1))
@@ -103,9 +111,9 @@ abbrev FewGiven : Option (List Goal) → Type 0
 FewGiven none = Unit {0}
 FewGiven (some g) = length g ≤ 8
 
-finished-grounded : (s : Term) (o : Option (List Goal)) → 1 ≤ fields s → FewGiven o → GroundedEnding (finished s o)
-finished-grounded s none l h = tt
-finished-grounded s (some g) l h = omega (arith, l, h)
+finished-grounded : (k : ℕ) (s : Term) (o : Option (List Goal)) → 1 ≤ fields s → FewGiven o → GroundedEnding (finished k s o)
+finished-grounded k s none l h = tt
+finished-grounded k s (some g) l h = within-grounded k s g (omega (arith, l, h))
 
 one-few : (f : Goal → Option (List Goal)) → ((γ : Goal) → FewGiven (f γ)) → (g : List Goal) → FewGiven (onOne f g)
 one-few f h [] = tt
@@ -131,8 +139,8 @@ module _ (T : Table) (few : FewPremises T) where
       go γ true = omega arith
       go γ false = tt
 
-  end-grounded : (s : Term) (o : Option (List Goal)) (x : ℕ) (w : List Frame) → 1 ≤ fields s → FewGiven o → GroundedFrames x w → Grounded (unwind (finished s o) w)
-  end-grounded s o x w l h v = unwind-grounded (finished s o) w (finished-grounded s o l h) (none-inside x w v)
+  end-grounded : (s : Term) (o : Option (List Goal)) (x : ℕ) (w : List Frame) → 1 ≤ fields s → FewGiven o → GroundedFrames x w → Grounded (unwind (finished (held w) s o) w)
+  end-grounded s o x w l h v = unwind-grounded (finished (held w) s o) w (finished-grounded (held w) s o l h) (none-inside x w v)
 
   label-begins : (π : Place) (l : Label) (t : Term) (g : List Goal) (w : List Frame) → GroundedFrames (length g) w
       → Grounded (enterOrFail (oneGoal g) w λ h. running π t h (labelled π l ∷ w))
@@ -174,8 +182,8 @@ module _ (T : Table) (few : FewPremises T) where
   grounded-on (suc b) n (stopped e) h = grounded-on b n (stopped e) h
 
 -- the goals that are held, by the fields that are kept
-own-count : (x : ℕ) (w : List Frame) → GroundedFrames x w → x + ownCount x w ≤ 256 + 8 * keptFields w
-unfolding GroundedFrames ownCount keptFields
+own-count : (x : ℕ) (w : List Frame) → GroundedFrames x w → x + ownCount x w ≤ 256 + 8 * held w
+unfolding GroundedFrames ownCount held
 own-count x [] v = omega (arith, v)
 own-count x (labelled π l ∷ w) v = omega (arith, own-count x w v)
 own-count x (sequenceLeft π u ∷ w) v = omega (arith, own-count x w v)
@@ -185,8 +193,8 @@ own-count x (tensorRight π s h ∷ w) v = omega (arith, own-count x w (v .1), v
 own-count x (alternationLeft π u h ∷ w) v = omega (arith, own-count (length h) w (v .1), v .0, length-take (length h - x) h)
 
 -- the waiting terms and the fields that they keep
-pub waiting-is : (w : List Frame) → waiting w ≡ length w + keptFields w
-unfolding keptFields
+pub waiting-is : (w : List Frame) → waiting w ≡ length w + held w
+unfolding held
 waiting-is [] = refl
 waiting-is (f ∷ w) = omega (arith, waiting-is w)
 
@@ -198,14 +206,14 @@ kept-size (tensorLeft π u h) = omega arith
 kept-size (tensorRight π s h) = omega (arith, size-most s)
 kept-size (alternationLeft π u h) = omega arith
 
-pub kept-bytes : (w : List Frame) → keptBytes w ≤ 5 * keptFields w
-unfolding keptBytes keptFields
+pub kept-bytes : (w : List Frame) → keptBytes w ≤ 5 * held w
+unfolding keptBytes held
 kept-bytes [] = omega arith
 kept-bytes (f ∷ w) = omega (arith, kept-bytes w, kept-size f)
 
 -- HELD: in a halted run of a job with at most 256 goals the term to begin and the waiting terms hold at most 256 goals, and eight more for each kept field.
 pub held-goals : (T : Table) → FewPremises T → (b n : ℕ) (π ρ : Place) (t u : Term) (g h : List Goal) (w : List Frame) → length g ≤ 256
-    → run T b (start π t g) ≡ after n (running ρ u h w) → length h + ownCount (length h) w ≤ 256 + 8 * keptFields w
+    → run T b (start π t g) ≡ after n (running ρ u h w) → length h + ownCount (length h) w ≤ 256 + 8 * held w
 unfolding start GroundedFrames
 held-goals T few b n π ρ t u g h w l q =
     own-count (length h) w (subst (λ (σ : State). Grounded (σ .control)) q (grounded-on T few b 0 (running π t g []) l))

@@ -8,6 +8,7 @@ pub mod MachineMeaning
 pub mod BigStep
 pub mod HiproofRuns
 pub mod RunBounds
+pub mod HeldBounds
 pub mod SharedGoals
 pub mod PlacedLaws
 pub mod HaltBounds

@@ -1,7 +1,7 @@
 -- A term that ends by the deterministic rules takes its steps in the machine, which then goes on with what waits: by induction over the rules.
 -- Assumes nothing.
 use Prim.Native.Nat.{ℕ, suc, _+_, _≤_, _<_}
-use mathlib.Core.Path.{_≡_, refl, ap, _∙_}
+use mathlib.Core.Path.{_≡_, refl, ap, subst, _∙_}
 use mathlib.Core.Bool.{Bool, true, false, cond}
 use mathlib.Core.List.{List, [], _∷_, _++_}
 use mathlib.Core.Option.{Option, none, some}
@@ -11,7 +11,9 @@ use lib.ListN.{length, length-append}
 use lib.Seq.{take-append-seam, drop-append-seam}
 use borrow.Author.Tests.{leb-true, leb-false, le-leb, eq-eqb, ne-eqb}
 use Rattle.format.specs.declared.values.Goal.{Goal}
-use Rattle.format.specs.Terms.{Term, size}
+use Rattle.format.specs.Terms.{Term, size, fields}
+use Rattle.format.specs.Limits.{mostHeld}
+use Rattle.format.specs.Refusals.{fieldsTooMany}
 use Rattle.tables.specs.Tables.{Table, UniqueRules, UniqueDefinitions}
 use Rattle.tables.specs.Lookup.{findRule, matches}
 use Rattle.tables.specs.Places.{bodyPlace}
@@ -19,9 +21,9 @@ use Rattle.tables.proofs.RuleLookup.{found↔rule, missing↔no-rule}
 use Rattle.tables.proofs.BodyLookup.{found↔definition, missing↔no-definition}
 use Rattle.evaluation.specs.TacticArity.{tacticArity}
 use Rattle.hitac.specs.Arity.{Arity}
-use Rattle.evaluation.specs.Outcomes.{foundPremises, onOne, noGoal, splitAt, splitBy, joinedFits}
-use Rattle.evaluation.specs.Machine.{Place, past, Frame, labelled, sequenceLeft, sequenceRight, tensorLeft, tensorRight, alternationLeft, Control, running, after, unwind, begin, stepFrom, step, run}
-use Rattle.evaluation.specs.Ends.{End, fails, overflows, Ends, D-Atomic, D-Atomic-Rule, D-Atomic-Goals, D-Id, D-Id-Goals, D-Empty, D-Empty-Goals, D-Assert, D-Assert-Other, D-Assert-Goals, D-Label, D-Label-Inner, D-Label-Goals, D-Seq, D-Seq-Left, D-Seq-Right, D-Tensor, D-Tensor-Joined, D-Tensor-Left, D-Tensor-Right, D-Tensor-Arity, D-Alt-L, D-Alt-R, D-Alt-Overflow, D-Def, D-Def-Missing}
+use Rattle.evaluation.specs.Outcomes.{Ending, proved, ended, within, foundPremises, onOne, noGoal, splitAt, splitBy, joinedFits}
+use Rattle.evaluation.specs.Machine.{held, Place, past, Frame, labelled, sequenceLeft, sequenceRight, tensorLeft, tensorRight, alternationLeft, Control, running, after, unwind, begin, stepFrom, step, run}
+use Rattle.evaluation.specs.Ends.{End, Limit, overflows, exceeds, fails, limited, FewHeld, Finishes, holds, over-held, Ends, D-Atomic, D-Atomic-Rule, D-Atomic-Goals, D-Id, D-Id-Goals, D-Empty, D-Empty-Goals, D-Assert, D-Assert-Other, D-Assert-Goals, D-Label, D-Label-Inner, D-Label-Goals, D-Seq, D-Seq-Left, D-Seq-Right, D-Tensor, D-Tensor-Joined, D-Tensor-Left, D-Tensor-Right, D-Tensor-Arity, D-Alt-L, D-Alt-R, D-Alt-Limit, D-Def, D-Def-Missing}
 use Rattle.evaluation.specs.EndingOf.{endingOf}
 use Rattle.evaluation.proofs.ArityDerived.{tacticArity-sound}
 use Rattle.evaluation.proofs.ArityMeaning.{tacticArity-complete}
@@ -51,6 +53,15 @@ joined-over g h = go (joinedFits g) refl
     go true q = absurd (omega (arith, leb-true))
     go false q = refl
 
+-- a term that finishes, by the fields that the waiting terms keep
+finishes-so : {k : ℕ} {s : Term} {h : List Goal} {e : End} (w : List Frame) → Finishes FewHeld k s h e → held w ≡ k → within (held w) s h ≡ endingOf e
+finishes-so {k} {s} {h} w (holds l) c = rw (le-leb (held w + fields s) mostHeld (omega (arith, c, l))) refl
+finishes-so {k} {s} {h} w (over-held l) c = go (leb (held w + fields s) mostHeld) refl
+  where
+    go : (x : Bool) → leb (held w + fields s) mostHeld ≡ x → cond x (proved s h) (ended fieldsTooMany) ≡ ended fieldsTooMany
+    go true q = absurd (l (omega (arith, c, leb-true (held w + fields s) mostHeld q)))
+    go false q = refl
+
 -- from the first control n steps reach the second
 pub record Reaches (T : Table) (κ : Control) (n : ℕ) (κ′ : Control) : Type 0 where
   pub runs : (i : ℕ) → run T n (after i κ) ≡ after (i + n) κ′
@@ -78,6 +89,10 @@ module _ (T : Table) where
             run-add T n m (after i κ) ∙ ap (run T m) (r .runs i) ∙ r′ .runs (i + n) ∙ ap (λ (j : ℕ). after j κ″) p;
       }
 
+  -- the last of the steps came to another ending
+  then-unwind : {κ : Control} {n : ℕ} {x y : Ending} (w : List Frame) → x ≡ y → Reaches T κ n (unwind x w) → Reaches T κ n (unwind y w)
+  then-unwind {κ} {n} w q p = subst (λ (z : Ending). Reaches T κ n (unwind z w)) q p
+
   -- a term that ends when it begins
   reach-end : {π : Place} {t : Term} {g : List Goal} {w : List Frame} {κ : Control} → begin T π t g w ≡ κ → Reaches T (running π t g w) 1 κ
   reach-end {κ = κ} q = reach-begun q (reach-now κ)
@@ -99,42 +114,65 @@ module _ (T : Table) where
             at-most true e = let r = tacticArity-sound T t n q in absurd (h n (r .0) (r .1) (leb-true n (length g) e))
             at-most false e = refl
 
-    -- a term that ends takes its steps, and the machine goes on with what waits
-    pub resumes : {g : List Goal} {t : Term} {n : ℕ} {e : End} → Ends T g t n e → (π : Place) (w : List Frame) → Reaches T (running π t g w) n (unwind (endingOf e) w)
-    unfolding begin unwind matches
-    resumes (D-Atomic {a = a} {γ = γ} {h = h} m) π w = reach-end (rw (found↔rule T a γ rules h .1 m .1))
-    resumes (D-Atomic-Rule {a = a} {γ = γ} m) π w = reach-end (rw (missing↔no-rule T a γ .1 m))
-    resumes (D-Atomic-Goals {a = a} {g = g} h) π w = reach-end (rw (one-goal-only (λ γ. foundPremises (findRule T a γ)) g h))
-    resumes D-Id π w = reach-end refl
-    resumes (D-Id-Goals {g = g} h) π w = reach-end (rw (one-goal-only (λ γ. some (γ ∷ [])) g h))
-    resumes D-Empty π w = reach-end refl
-    resumes (D-Empty-Goals {g = g} h) π w = reach-end (rw (no-goal-only g h))
-    resumes (D-Assert {p = p} {γ = γ} q) π w = reach-end (rw (eq-eqb (p .0) (γ .0) (ap (λ (x : Goal). x .0) q)))
-    resumes (D-Assert-Other {p = p} {γ = γ} h) π w = reach-end (rw (ne-eqb (p .0) (γ .0) (λ q. h (λ i. record { 0 = q i }))))
-    resumes (D-Assert-Goals {p = p} {g = g} h) π w = reach-end (rw (one-goal-only (λ γ. cond (matches T p γ) (some (γ ∷ [])) none) g h))
-    resumes (D-Label {l = l} r) π w = reach-begun refl (resumes r _ (labelled _ l ∷ w))
-    resumes (D-Label-Inner {l = l} r fails) π w = reach-begun refl (resumes r _ (labelled _ l ∷ w))
-    resumes (D-Label-Inner {l = l} r overflows) π w = reach-begun refl (resumes r _ (labelled _ l ∷ w))
-    resumes (D-Label-Goals {g = g} h) π w = reach-end (rw (one-goal-only (λ γ. some (γ ∷ [])) g h))
-    resumes (D-Seq {u = u} {s = s} r r′) π w = reach-begun refl (reach-then (resumes r _ (sequenceLeft _ u ∷ w)) (resumes r′ _ (sequenceRight _ s ∷ w)))
-    resumes (D-Seq-Left {u = u} r fails) π w = reach-begun refl (resumes r _ (sequenceLeft _ u ∷ w))
-    resumes (D-Seq-Left {u = u} r overflows) π w = reach-begun refl (resumes r _ (sequenceLeft _ u ∷ w))
-    resumes (D-Seq-Right {u = u} {s = s} r r′ fails) π w = reach-begun refl (reach-then (resumes r _ (sequenceLeft _ u ∷ w)) (resumes r′ _ (sequenceRight _ s ∷ w)))
-    resumes (D-Seq-Right {u = u} {s = s} r r′ overflows) π w =
-        reach-begun refl (reach-then (resumes r _ (sequenceLeft _ u ∷ w)) (resumes r′ _ (sequenceRight _ s ∷ w)))
-    resumes (D-Tensor {t = t} {u = u} {s = s} {g₁ = g₁} {g₂ = g₂} {h₁ = h₁} {h₂ = h₂} a b r r′ j) π w =
-        reach-begun (rw (split-found g₁ g₂ a b)) (reach-then (resumes r (past π 3) (tensorLeft (past π (3 + size t)) u g₂ ∷ w)) (rw (joined-fits (h₁ ++ h₂) j) at (resumes r′ (past π (3 + size t)) (tensorRight (past π (3 + size t)) s h₁ ∷ w))))
-    resumes (D-Tensor-Joined {t = t} {u = u} {s = s} {g₁ = g₁} {g₂ = g₂} {h₁ = h₁} {h₂ = h₂} a b r r′ j) π w =
-        reach-begun (rw (split-found g₁ g₂ a b)) (reach-then (resumes r (past π 3) (tensorLeft (past π (3 + size t)) u g₂ ∷ w)) (rw (joined-over (h₁ ++ h₂) j) at (resumes r′ (past π (3 + size t)) (tensorRight (past π (3 + size t)) s h₁ ∷ w))))
-    resumes (D-Tensor-Left {t = t} {u = u} {g₁ = g₁} g₂ a b r fails) π w = reach-begun (rw (split-found g₁ g₂ a b)) (resumes r (past π 3) (tensorLeft (past π (3 + size t)) u g₂ ∷ w))
-    resumes (D-Tensor-Left {t = t} {u = u} {g₁ = g₁} g₂ a b r overflows) π w = reach-begun (rw (split-found g₁ g₂ a b)) (resumes r (past π 3) (tensorLeft (past π (3 + size t)) u g₂ ∷ w))
-    resumes (D-Tensor-Right {t = t} {u = u} {s = s} {g₁ = g₁} {g₂ = g₂} {h = h} a b r r′ fails) π w =
-        reach-begun (rw (split-found g₁ g₂ a b)) (reach-then (resumes r (past π 3) (tensorLeft (past π (3 + size t)) u g₂ ∷ w)) (resumes r′ (past π (3 + size t)) (tensorRight (past π (3 + size t)) s h ∷ w)))
-    resumes (D-Tensor-Right {t = t} {u = u} {s = s} {g₁ = g₁} {g₂ = g₂} {h = h} a b r r′ overflows) π w =
-        reach-begun (rw (split-found g₁ g₂ a b)) (reach-then (resumes r (past π 3) (tensorLeft (past π (3 + size t)) u g₂ ∷ w)) (resumes r′ (past π (3 + size t)) (tensorRight (past π (3 + size t)) s h ∷ w)))
-    resumes (D-Tensor-Arity {g = g} h) π w = reach-end (rw (split-missing g h))
-    resumes (D-Alt-L {u = u} {g = g} r) π w = reach-begun refl (resumes r _ (alternationLeft _ u g ∷ w))
-    resumes (D-Alt-R {u = u} {g = g} r r′) π w = reach-begun refl (reach-then (resumes r _ (alternationLeft _ u g ∷ w)) (resumes r′ _ w))
-    resumes (D-Alt-Overflow {u = u} {g = g} r) π w = reach-begun refl (resumes r _ (alternationLeft _ u g ∷ w))
-    resumes (D-Def {d = d} {t = t} m r) π w = reach-begun (rw (found↔definition T d definitions t .1 m)) (resumes r (record { file = 0; at = bodyPlace T d }) w)
-    resumes (D-Def-Missing {d = d} m) π w = reach-end (rw (missing↔no-definition T d .1 m))
+    -- a term that ends takes its steps, and the machine goes on with what waits, which keeps the fields that are held
+    pub resumes : {k : ℕ} {g : List Goal} {t : Term} {n : ℕ} {e : End} → Ends T FewHeld k g t n e → (π : Place) (w : List Frame) → held w ≡ k → Reaches T (running π t g w) n (unwind (endingOf e) w)
+    unfolding begin unwind matches held
+    resumes (D-Atomic {a = a} {γ = γ} {h = h} m z) π w c = reach-end (rw (found↔rule T a γ rules h .1 m .1) (ap (λ (x : Ending). unwind x w) (finishes-so w z c)))
+    resumes (D-Atomic-Rule {a = a} {γ = γ} m) π w c = reach-end (rw (missing↔no-rule T a γ .1 m))
+    resumes (D-Atomic-Goals {a = a} {g = g} h) π w c = reach-end (rw (one-goal-only (λ γ. foundPremises (findRule T a γ)) g h))
+    resumes (D-Id z) π w c = reach-end (ap (λ (x : Ending). unwind x w) (finishes-so w z c))
+    resumes (D-Id-Goals {g = g} h) π w c = reach-end (rw (one-goal-only (λ γ. some (γ ∷ [])) g h))
+    resumes (D-Empty z) π w c = reach-end (ap (λ (x : Ending). unwind x w) (finishes-so w z c))
+    resumes (D-Empty-Goals {g = g} h) π w c = reach-end (rw (no-goal-only g h))
+    resumes (D-Assert {p = p} {γ = γ} q z) π w c = reach-end (rw (eq-eqb (p .0) (γ .0) (ap (λ (x : Goal). x .0) q)) (ap (λ (x : Ending). unwind x w) (finishes-so w z c)))
+    resumes (D-Assert-Other {p = p} {γ = γ} h) π w c = reach-end (rw (ne-eqb (p .0) (γ .0) (λ q. h (λ i. record { 0 = q i }))))
+    resumes (D-Assert-Goals {p = p} {g = g} h) π w c = reach-end (rw (one-goal-only (λ γ. cond (matches T p γ) (some (γ ∷ [])) none) g h))
+    resumes (D-Label {l = l} r z) π w c = reach-begun refl (then-unwind w (finishes-so w z c) (resumes r (past π 5) (labelled (past π 5) l ∷ w) (omega (arith, c))))
+    resumes (D-Label-Inner {l = l} r fails) π w c = reach-begun refl (resumes r (past π 5) (labelled (past π 5) l ∷ w) (omega (arith, c)))
+    resumes (D-Label-Inner {l = l} r (limited overflows)) π w c = reach-begun refl (resumes r (past π 5) (labelled (past π 5) l ∷ w) (omega (arith, c)))
+    resumes (D-Label-Inner {l = l} r (limited exceeds)) π w c = reach-begun refl (resumes r (past π 5) (labelled (past π 5) l ∷ w) (omega (arith, c)))
+    resumes (D-Label-Goals {g = g} h) π w c = reach-end (rw (one-goal-only (λ γ. some (γ ∷ [])) g h))
+    resumes (D-Seq {t = t} {u = u} {s = s} r r′ z) π w c =
+        let ρ = past π (3 + size t) in
+        reach-begun refl (reach-then (resumes r (past π 3) (sequenceLeft ρ u ∷ w) (omega (arith, c))) (then-unwind w (finishes-so w z c) (resumes r′ ρ (sequenceRight ρ s ∷ w) (omega (arith, c)))))
+    resumes (D-Seq-Left {t = t} {u = u} r fails) π w c = reach-begun refl (resumes r (past π 3) (sequenceLeft (past π (3 + size t)) u ∷ w) (omega (arith, c)))
+    resumes (D-Seq-Left {t = t} {u = u} r (limited overflows)) π w c = reach-begun refl (resumes r (past π 3) (sequenceLeft (past π (3 + size t)) u ∷ w) (omega (arith, c)))
+    resumes (D-Seq-Left {t = t} {u = u} r (limited exceeds)) π w c = reach-begun refl (resumes r (past π 3) (sequenceLeft (past π (3 + size t)) u ∷ w) (omega (arith, c)))
+    resumes (D-Seq-Right {t = t} {u = u} {s = s} r r′ fails) π w c =
+        let ρ = past π (3 + size t) in
+        reach-begun refl (reach-then (resumes r (past π 3) (sequenceLeft ρ u ∷ w) (omega (arith, c))) (resumes r′ ρ (sequenceRight ρ s ∷ w) (omega (arith, c))))
+    resumes (D-Seq-Right {t = t} {u = u} {s = s} r r′ (limited overflows)) π w c =
+        let ρ = past π (3 + size t) in
+        reach-begun refl (reach-then (resumes r (past π 3) (sequenceLeft ρ u ∷ w) (omega (arith, c))) (resumes r′ ρ (sequenceRight ρ s ∷ w) (omega (arith, c))))
+    resumes (D-Seq-Right {t = t} {u = u} {s = s} r r′ (limited exceeds)) π w c =
+        let ρ = past π (3 + size t) in
+        reach-begun refl (reach-then (resumes r (past π 3) (sequenceLeft ρ u ∷ w) (omega (arith, c))) (resumes r′ ρ (sequenceRight ρ s ∷ w) (omega (arith, c))))
+    resumes (D-Tensor {t = t} {u = u} {s = s} {g₁ = g₁} {g₂ = g₂} {h₁ = h₁} {h₂ = h₂} a b r r′ j z) π w c =
+        let ρ = past π (3 + size t) in
+        reach-begun (rw (split-found g₁ g₂ a b))
+        (reach-then (resumes r (past π 3) (tensorLeft ρ u g₂ ∷ w) (omega (arith, c))) (then-unwind w (finishes-so w z c) (rw (joined-fits (h₁ ++ h₂) j) at (resumes r′ ρ (tensorRight ρ s h₁ ∷ w) (omega (arith, c))))))
+    resumes (D-Tensor-Joined {t = t} {u = u} {s = s} {g₁ = g₁} {g₂ = g₂} {h₁ = h₁} {h₂ = h₂} a b r r′ j) π w c =
+        let ρ = past π (3 + size t) in
+        reach-begun (rw (split-found g₁ g₂ a b))
+        (reach-then (resumes r (past π 3) (tensorLeft ρ u g₂ ∷ w) (omega (arith, c))) (rw (joined-over (h₁ ++ h₂) j) at (resumes r′ ρ (tensorRight ρ s h₁ ∷ w) (omega (arith, c)))))
+    resumes (D-Tensor-Left {t = t} {u = u} {g₁ = g₁} g₂ a b r fails) π w c = reach-begun (rw (split-found g₁ g₂ a b)) (resumes r (past π 3) (tensorLeft (past π (3 + size t)) u g₂ ∷ w) (omega (arith, c)))
+    resumes (D-Tensor-Left {t = t} {u = u} {g₁ = g₁} g₂ a b r (limited overflows)) π w c = reach-begun (rw (split-found g₁ g₂ a b)) (resumes r (past π 3) (tensorLeft (past π (3 + size t)) u g₂ ∷ w) (omega (arith, c)))
+    resumes (D-Tensor-Left {t = t} {u = u} {g₁ = g₁} g₂ a b r (limited exceeds)) π w c = reach-begun (rw (split-found g₁ g₂ a b)) (resumes r (past π 3) (tensorLeft (past π (3 + size t)) u g₂ ∷ w) (omega (arith, c)))
+    resumes (D-Tensor-Right {t = t} {u = u} {s = s} {g₁ = g₁} {g₂ = g₂} {h = h} a b r r′ fails) π w c =
+        let ρ = past π (3 + size t) in
+        reach-begun (rw (split-found g₁ g₂ a b)) (reach-then (resumes r (past π 3) (tensorLeft ρ u g₂ ∷ w) (omega (arith, c))) (resumes r′ ρ (tensorRight ρ s h ∷ w) (omega (arith, c))))
+    resumes (D-Tensor-Right {t = t} {u = u} {s = s} {g₁ = g₁} {g₂ = g₂} {h = h} a b r r′ (limited overflows)) π w c =
+        let ρ = past π (3 + size t) in
+        reach-begun (rw (split-found g₁ g₂ a b)) (reach-then (resumes r (past π 3) (tensorLeft ρ u g₂ ∷ w) (omega (arith, c))) (resumes r′ ρ (tensorRight ρ s h ∷ w) (omega (arith, c))))
+    resumes (D-Tensor-Right {t = t} {u = u} {s = s} {g₁ = g₁} {g₂ = g₂} {h = h} a b r r′ (limited exceeds)) π w c =
+        let ρ = past π (3 + size t) in
+        reach-begun (rw (split-found g₁ g₂ a b)) (reach-then (resumes r (past π 3) (tensorLeft ρ u g₂ ∷ w) (omega (arith, c))) (resumes r′ ρ (tensorRight ρ s h ∷ w) (omega (arith, c))))
+    resumes (D-Tensor-Arity {g = g} h) π w c = reach-end (rw (split-missing g h))
+    resumes (D-Alt-L {t = t} {u = u} {g = g} r) π w c = reach-begun refl (resumes r (past π 3) (alternationLeft (past π (3 + size t)) u g ∷ w) (omega (arith, c)))
+    resumes (D-Alt-R {t = t} {u = u} {g = g} r r′) π w c =
+        let ρ = past π (3 + size t) in
+        reach-begun refl (reach-then (resumes r (past π 3) (alternationLeft ρ u g ∷ w) (omega (arith, c))) (resumes r′ ρ w c))
+    resumes (D-Alt-Limit {t = t} {u = u} {g = g} r overflows) π w c = reach-begun refl (resumes r (past π 3) (alternationLeft (past π (3 + size t)) u g ∷ w) (omega (arith, c)))
+    resumes (D-Alt-Limit {t = t} {u = u} {g = g} r exceeds) π w c = reach-begun refl (resumes r (past π 3) (alternationLeft (past π (3 + size t)) u g ∷ w) (omega (arith, c)))
+    resumes (D-Def {d = d} {t = t} m r) π w c = reach-begun (rw (found↔definition T d definitions t .1 m)) (resumes r (record { file = 0; at = bodyPlace T d }) w c)
+    resumes (D-Def-Missing {d = d} m) π w c = reach-end (rw (missing↔no-definition T d .1 m))

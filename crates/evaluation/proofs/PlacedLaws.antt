@@ -18,7 +18,7 @@ use Rattle.tables.specs.Lookup.{findBody}
 use Rattle.tables.specs.Places.{bodyPlace}
 use Rattle.evaluation.specs.TacticArity.{tacticArity}
 use Rattle.evaluation.specs.Outcomes.{Ending, proved, failed, ended, ruleGives, oneGoal, noGoal, assertGives, splitAt, splitBy, finished, inLabel, afterLeft, besideLeft}
-use Rattle.evaluation.specs.Machine.{Place, past, Frame, labelled, sequenceLeft, sequenceRight, tensorLeft, tensorRight, alternationLeft, Control, running, stopped, State, after, unwind, enterOrFail, begin, stepFrom, step, run, start}
+use Rattle.evaluation.specs.Machine.{held, Place, past, Frame, labelled, sequenceLeft, sequenceRight, tensorLeft, tensorRight, alternationLeft, Control, running, stopped, State, after, unwind, enterOrFail, begin, stepFrom, step, run, start}
 use Rattle.evaluation.specs.Placed.{StandsAt, AllPlaced}
 
 module _ (bytes : (file : ℕ) → List ℕ) where
@@ -29,15 +29,15 @@ module _ (bytes : (file : ℕ) → List ℕ) where
   unwind-placed : (e : Ending) (w : List Frame) → AllPlaced bytes w → PlacedIn (unwind e w)
   unfolding unwind AllPlaced
   unwind-placed e [] s = tt
-  unwind-placed e (labelled π l ∷ w) s = unwind-placed (inLabel l e) w (s .1)
+  unwind-placed e (labelled π l ∷ w) s = unwind-placed (inLabel (held w) l e) w (s .1)
   unwind-placed (proved t g) (sequenceLeft π u ∷ w) s = (s .0, ((u, s .0), s .1))
   unwind-placed failed (sequenceLeft π u ∷ w) s = unwind-placed failed w (s .1)
   unwind-placed (ended c) (sequenceLeft π u ∷ w) s = unwind-placed (ended c) w (s .1)
-  unwind-placed e (sequenceRight π t ∷ w) s = unwind-placed (afterLeft t e) w (s .1)
+  unwind-placed e (sequenceRight π t ∷ w) s = unwind-placed (afterLeft (held w) t e) w (s .1)
   unwind-placed (proved t g) (tensorLeft π u h ∷ w) s = (s .0, ((u, s .0), s .1))
   unwind-placed failed (tensorLeft π u h ∷ w) s = unwind-placed failed w (s .1)
   unwind-placed (ended c) (tensorLeft π u h ∷ w) s = unwind-placed (ended c) w (s .1)
-  unwind-placed e (tensorRight π t g ∷ w) s = unwind-placed (besideLeft t g e) w (s .1)
+  unwind-placed e (tensorRight π t g ∷ w) s = unwind-placed (besideLeft (held w) t g e) w (s .1)
   unwind-placed (proved t g) (alternationLeft π u h ∷ w) s = unwind-placed (proved t g) w (s .1)
   unwind-placed failed (alternationLeft π u h ∷ w) s = s
   unwind-placed (ended c) (alternationLeft π u h ∷ w) s = unwind-placed (ended c) w (s .1)
@@ -66,14 +66,14 @@ module _ (bytes : (file : ℕ) → List ℕ) where
 
     begin-placed : (π : Place) (t : Term) (g : List Goal) (w : List Frame) → StandsAt bytes π t → AllPlaced bytes w → PlacedIn (begin T π t g w)
     unfolding begin Stands AllPlaced
-    begin-placed π (atomic a) g w k s = unwind-placed (finished (atomic a) (ruleGives T a g)) w s
-    begin-placed π id g w k s = unwind-placed (finished id (oneGoal g)) w s
+    begin-placed π (atomic a) g w k s = unwind-placed (finished (held w) (atomic a) (ruleGives T a g)) w s
+    begin-placed π id g w k s = unwind-placed (finished (held w) id (oneGoal g)) w s
     begin-placed π (label l t) g w k s = label-begins (past π 5) l t g w (k .2) s
     begin-placed π (sequence t u) g w k s = (k .1, (behind π t u (k .2), s))
     begin-placed π (tensor t u) g w k s = tensor-begins (past π 3) (past π (3 + size t)) (tacticArity T t) t u g w (k .1) (behind π t u (k .2)) s
-    begin-placed π empty g w k s = unwind-placed (finished empty (noGoal g)) w s
+    begin-placed π empty g w k s = unwind-placed (finished (held w) empty (noGoal g)) w s
     begin-placed π (alternation t u) g w k s = (k .1, (behind π t u (k .2), s))
-    begin-placed π (assert p) g w k s = unwind-placed (finished id (assertGives T p g)) w s
+    begin-placed π (assert p) g w k s = unwind-placed (finished (held w) id (assertGives T p g)) w s
     begin-placed π (defined d) g w k s = go (findBody T d) refl
       where
         go : (o : Option Term) → findBody T d ≡ o → PlacedIn (enterOrFail o w λ t. running (record { file = 0; at = bodyPlace T d }) t g w)

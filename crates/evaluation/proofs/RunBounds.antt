@@ -12,64 +12,72 @@ use borrow.Author.Tests.{leb-true}
 use Rattle.format.specs.declared.values.RuleName.{RuleName}
 use Rattle.format.specs.declared.values.Goal.{Goal}
 use Rattle.format.specs.declared.values.Label.{Label}
-use Rattle.format.specs.Refusals.{joinedTooLong}
+use Rattle.format.specs.Refusals.{joinedTooLong, fieldsTooMany}
+use Rattle.format.specs.Limits.{mostHeld}
 use Rattle.format.specs.Terms.{Term, atomic, id, label, sequence, tensor, empty, alternation, assert, defined, size, fields}
 use Rattle.tables.specs.Tables.{Table}
 use Rattle.tables.specs.Lookup.{FoundRule, findRule, findBody, matches}
 use Rattle.tables.specs.Places.{bodyPlace}
 use Rattle.tables.proofs.RuleLookup.{found-member}
 use Rattle.evaluation.specs.TacticArity.{tacticArity}
-use Rattle.evaluation.specs.Outcomes.{Ending, proved, failed, ended, foundPremises, onOne, ruleGives, oneGoal, noGoal, assertGives, splitAt, splitBy, finished, inLabel, afterLeft, joinedFits, besideLeft}
-use Rattle.evaluation.specs.Machine.{Place, past, Frame, labelled, sequenceLeft, sequenceRight, tensorLeft, tensorRight, alternationLeft, Control, running, stopped, State, after, unwind, enterOrFail, begin, stepFrom, step, run, start}
+use Rattle.evaluation.specs.Outcomes.{Ending, proved, failed, ended, within, foundPremises, onOne, ruleGives, oneGoal, noGoal, assertGives, splitAt, splitBy, finished, inLabel, afterLeft, joinedFits, besideLeft}
+use Rattle.evaluation.specs.Machine.{held, Place, past, Frame, labelled, sequenceLeft, sequenceRight, tensorLeft, tensorRight, alternationLeft, Control, running, stopped, State, after, unwind, enterOrFail, begin, stepFrom, step, run, start}
 use Rattle.hitac.specs.Premises.{FewPremises}
 use Rattle.evaluation.specs.RunSizes.{endingFields, waiting, waitingGoals, kept, ShortFrames, ShortEnding, Short}
 
 -- the fields
 
-label-fields : (l : Label) (e : Ending) → endingFields (inLabel l e) ≤ suc (endingFields e)
-unfolding fields
-label-fields l (proved s g) = omega arith
-label-fields l failed = omega arith
-label-fields l (ended c) = omega arith
-
-sequence-fields : (s : Term) (e : Ending) → endingFields (afterLeft s e) ≤ suc (fields s + endingFields e)
-unfolding fields
-sequence-fields s (proved r g) = omega arith
-sequence-fields s failed = omega arith
-sequence-fields s (ended c) = omega arith
-
-tensor-fields : (s : Term) (g : List Goal) (e : Ending) → endingFields (besideLeft s g e) ≤ suc (fields s + endingFields e)
-unfolding fields
-tensor-fields s g (proved r h) = go (joinedFits (g ++ h))
+within-fields : (k : ℕ) (s : Term) (g : List Goal) → endingFields (within k s g) ≤ fields s
+within-fields k s g = go (leb (k + fields s) mostHeld)
   where
-    go : (x : Bool) → endingFields (cond x (proved (tensor s r) (g ++ h)) (ended joinedTooLong)) ≤ suc (fields s + fields r)
+    go : (x : Bool) → endingFields (cond x (proved s g) (ended fieldsTooMany)) ≤ fields s
     go true = omega arith
     go false = omega arith
-tensor-fields s g failed = omega arith
-tensor-fields s g (ended c) = omega arith
 
-finished-fields : (s : Term) (o : Option (List Goal)) → fields s ≤ 1 → endingFields (finished s o) ≤ 1
-finished-fields s none h = omega arith
-finished-fields s (some g) h = h
+label-fields : (k : ℕ) (l : Label) (e : Ending) → endingFields (inLabel k l e) ≤ suc (endingFields e)
+unfolding fields
+label-fields k l (proved s g) = omega (arith, within-fields k (label l s) g)
+label-fields k l failed = omega arith
+label-fields k l (ended c) = omega arith
+
+sequence-fields : (k : ℕ) (s : Term) (e : Ending) → endingFields (afterLeft k s e) ≤ suc (fields s + endingFields e)
+unfolding fields
+sequence-fields k s (proved r g) = omega (arith, within-fields k (sequence s r) g)
+sequence-fields k s failed = omega arith
+sequence-fields k s (ended c) = omega arith
+
+tensor-fields : (k : ℕ) (s : Term) (g : List Goal) (e : Ending) → endingFields (besideLeft k s g e) ≤ suc (fields s + endingFields e)
+unfolding fields
+tensor-fields k s g (proved r h) = go (joinedFits (g ++ h))
+  where
+    go : (x : Bool) → endingFields (cond x (within k (tensor s r) (g ++ h)) (ended joinedTooLong)) ≤ suc (fields s + fields r)
+    go true = omega (arith, within-fields k (tensor s r) (g ++ h))
+    go false = omega arith
+tensor-fields k s g failed = omega arith
+tensor-fields k s g (ended c) = omega arith
+
+finished-fields : (k : ℕ) (s : Term) (o : Option (List Goal)) → fields s ≤ 1 → endingFields (finished k s o) ≤ 1
+finished-fields k s none h = omega arith
+finished-fields k s (some g) h = omega (arith, within-fields k s g, h)
 
 unwind-kept : (e : Ending) (w : List Frame) → kept (unwind e w) ≤ endingFields e + waiting w
 unfolding unwind
 unwind-kept e [] = omega arith
-unwind-kept e (labelled π l ∷ w) = omega (arith, unwind-kept (inLabel l e) w, label-fields l e)
+unwind-kept e (labelled π l ∷ w) = omega (arith, unwind-kept (inLabel (held w) l e) w, label-fields (held w) l e)
 unwind-kept (proved s g) (sequenceLeft π u ∷ w) = omega arith
 unwind-kept failed (sequenceLeft π u ∷ w) = omega (arith, unwind-kept failed w)
 unwind-kept (ended c) (sequenceLeft π u ∷ w) = omega (arith, unwind-kept (ended c) w)
-unwind-kept e (sequenceRight π s ∷ w) = omega (arith, unwind-kept (afterLeft s e) w, sequence-fields s e)
+unwind-kept e (sequenceRight π s ∷ w) = omega (arith, unwind-kept (afterLeft (held w) s e) w, sequence-fields (held w) s e)
 unwind-kept (proved s g) (tensorLeft π u h ∷ w) = omega arith
 unwind-kept failed (tensorLeft π u h ∷ w) = omega (arith, unwind-kept failed w)
 unwind-kept (ended c) (tensorLeft π u h ∷ w) = omega (arith, unwind-kept (ended c) w)
-unwind-kept e (tensorRight π s g ∷ w) = omega (arith, unwind-kept (besideLeft s g e) w, tensor-fields s g e)
+unwind-kept e (tensorRight π s g ∷ w) = omega (arith, unwind-kept (besideLeft (held w) s g e) w, tensor-fields (held w) s g e)
 unwind-kept (proved s g) (alternationLeft π u h ∷ w) = omega (arith, unwind-kept (proved s g) w)
 unwind-kept failed (alternationLeft π u h ∷ w) = omega arith
 unwind-kept (ended c) (alternationLeft π u h ∷ w) = omega (arith, unwind-kept (ended c) w)
 
-finished-kept : (s : Term) (o : Option (List Goal)) (w : List Frame) → fields s ≤ 1 → kept (unwind (finished s o) w) ≤ suc (waiting w)
-finished-kept s o w h = omega (arith, unwind-kept (finished s o) w, finished-fields s o h)
+finished-kept : (s : Term) (o : Option (List Goal)) (w : List Frame) → fields s ≤ 1 → kept (unwind (finished (held w) s o) w) ≤ suc (waiting w)
+finished-kept s o w h = omega (arith, unwind-kept (finished (held w) s o) w, finished-fields (held w) s o h)
 
 enter-kept : {A : Type 0} (o : Option A) (w : List Frame) (f : A → Control) → ((a : A) → kept (f a) ≤ suc (waiting w)) →
     kept (enterOrFail o w f) ≤ suc (waiting w)
@@ -107,9 +115,16 @@ abbrev ShortGiven : Option (List Goal) → Type 0
 ShortGiven none = Unit {0}
 ShortGiven (some g) = length g ≤ 256
 
-finished-short : (s : Term) (o : Option (List Goal)) → ShortGiven o → ShortEnding (finished s o)
-finished-short s none h = tt
-finished-short s (some g) h = h
+within-short : (k : ℕ) (s : Term) (g : List Goal) → length g ≤ 256 → ShortEnding (within k s g)
+within-short k s g h = go (leb (k + fields s) mostHeld)
+  where
+    go : (x : Bool) → ShortEnding (cond x (proved s g) (ended fieldsTooMany))
+    go true = h
+    go false = tt
+
+finished-short : (k : ℕ) (s : Term) (o : Option (List Goal)) → ShortGiven o → ShortEnding (finished k s o)
+finished-short k s none h = tt
+finished-short k s (some g) h = within-short k s g h
 
 one-short : (f : Goal → Option (List Goal)) → ((γ : Goal) → ShortGiven (f γ)) → (g : List Goal) → ShortGiven (onOne f g)
 one-short f h [] = tt
@@ -120,37 +135,37 @@ none-short : (g : List Goal) → ShortGiven (noGoal g)
 none-short [] = omega arith
 none-short (γ ∷ g) = tt
 
-label-short : (l : Label) (e : Ending) → ShortEnding e → ShortEnding (inLabel l e)
-label-short l (proved s g) h = h
-label-short l failed h = tt
-label-short l (ended c) h = tt
+label-short : (k : ℕ) (l : Label) (e : Ending) → ShortEnding e → ShortEnding (inLabel k l e)
+label-short k l (proved s g) h = within-short k (label l s) g h
+label-short k l failed h = tt
+label-short k l (ended c) h = tt
 
-sequence-short : (s : Term) (e : Ending) → ShortEnding e → ShortEnding (afterLeft s e)
-sequence-short s (proved r g) h = h
-sequence-short s failed h = tt
-sequence-short s (ended c) h = tt
+sequence-short : (k : ℕ) (s : Term) (e : Ending) → ShortEnding e → ShortEnding (afterLeft k s e)
+sequence-short k s (proved r g) h = within-short k (sequence s r) g h
+sequence-short k s failed h = tt
+sequence-short k s (ended c) h = tt
 
-tensor-short : (s : Term) (g : List Goal) (e : Ending) → ShortEnding (besideLeft s g e)
-tensor-short s g (proved r h) = go (joinedFits (g ++ h)) refl
+tensor-short : (k : ℕ) (s : Term) (g : List Goal) (e : Ending) → ShortEnding (besideLeft k s g e)
+tensor-short k s g (proved r h) = go (joinedFits (g ++ h)) refl
   where
-    go : (x : Bool) → joinedFits (g ++ h) ≡ x → ShortEnding (cond x (proved (tensor s r) (g ++ h)) (ended joinedTooLong))
-    go true q = omega (arith, leb-true)
+    go : (x : Bool) → joinedFits (g ++ h) ≡ x → ShortEnding (cond x (within k (tensor s r) (g ++ h)) (ended joinedTooLong))
+    go true q = within-short k (tensor s r) (g ++ h) (omega (arith, leb-true (length (g ++ h)) 256 q))
     go false q = tt
-tensor-short s g failed = tt
-tensor-short s g (ended c) = tt
+tensor-short k s g failed = tt
+tensor-short k s g (ended c) = tt
 
 unwind-short : (e : Ending) (w : List Frame) → ShortEnding e → ShortFrames w → Short (unwind e w)
 unfolding unwind
 unwind-short e [] h v = h
-unwind-short e (labelled π l ∷ w) h v = unwind-short (inLabel l e) w (label-short l e h) (v .1)
+unwind-short e (labelled π l ∷ w) h v = unwind-short (inLabel (held w) l e) w (label-short (held w) l e h) (v .1)
 unwind-short (proved s g) (sequenceLeft π u ∷ w) h v = (h, v)
 unwind-short failed (sequenceLeft π u ∷ w) h v = unwind-short failed w h (v .1)
 unwind-short (ended c) (sequenceLeft π u ∷ w) h v = unwind-short (ended c) w h (v .1)
-unwind-short e (sequenceRight π s ∷ w) h v = unwind-short (afterLeft s e) w (sequence-short s e h) (v .1)
+unwind-short e (sequenceRight π s ∷ w) h v = unwind-short (afterLeft (held w) s e) w (sequence-short (held w) s e h) (v .1)
 unwind-short (proved s g) (tensorLeft π u x ∷ w) h v = (v .0, (h, v .1))
 unwind-short failed (tensorLeft π u x ∷ w) h v = unwind-short failed w h (v .1)
 unwind-short (ended c) (tensorLeft π u x ∷ w) h v = unwind-short (ended c) w h (v .1)
-unwind-short e (tensorRight π s g ∷ w) h v = unwind-short (besideLeft s g e) w (tensor-short s g e) (v .1)
+unwind-short e (tensorRight π s g ∷ w) h v = unwind-short (besideLeft (held w) s g e) w (tensor-short (held w) s g e) (v .1)
 unwind-short (proved s g) (alternationLeft π u x ∷ w) h v = unwind-short (proved s g) w h (v .1)
 unwind-short failed (alternationLeft π u x ∷ w) h v = v
 unwind-short (ended c) (alternationLeft π u x ∷ w) h v = unwind-short (ended c) w h (v .1)
@@ -182,8 +197,8 @@ module _ (T : Table) (few : FewPremises T) where
       go γ true = omega arith
       go γ false = tt
 
-  end-short : (s : Term) (o : Option (List Goal)) (w : List Frame) → ShortGiven o → ShortFrames w → Short (unwind (finished s o) w)
-  end-short s o w h v = unwind-short (finished s o) w (finished-short s o h) v
+  end-short : (s : Term) (o : Option (List Goal)) (w : List Frame) → ShortGiven o → ShortFrames w → Short (unwind (finished (held w) s o) w)
+  end-short s o w h v = unwind-short (finished (held w) s o) w (finished-short (held w) s o h) v
 
   begin-short : (π : Place) (t : Term) (g : List Goal) (w : List Frame) → length g ≤ 256 → ShortFrames w → Short (begin T π t g w)
   unfolding begin

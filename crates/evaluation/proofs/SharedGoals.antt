@@ -17,7 +17,7 @@ use Rattle.tables.specs.Lookup.{findBody}
 use Rattle.tables.specs.Places.{bodyPlace}
 use Rattle.evaluation.specs.TacticArity.{tacticArity}
 use Rattle.evaluation.specs.Outcomes.{Ending, proved, failed, ended, ruleGives, oneGoal, noGoal, assertGives, splitAt, splitBy, finished, inLabel, afterLeft, besideLeft}
-use Rattle.evaluation.specs.Machine.{Place, past, Frame, labelled, sequenceLeft, sequenceRight, tensorLeft, tensorRight, alternationLeft, Control, running, stopped, State, after, unwind, enterOrFail, begin, stepFrom, step, run, start}
+use Rattle.evaluation.specs.Machine.{held, Place, past, Frame, labelled, sequenceLeft, sequenceRight, tensorLeft, tensorRight, alternationLeft, Control, running, stopped, State, after, unwind, enterOrFail, begin, stepFrom, step, run, start}
 use Rattle.evaluation.specs.Halts.{heldOf, heldGoals, Rebuilt, Shared}
 
 -- the last goals of a list, and those before them
@@ -76,15 +76,15 @@ SharedIn (stopped e) = Unit {0}
 unwind-shared : (e : Ending) (w : List Frame) → Shared [] w → SharedIn (unwind e w)
 unfolding unwind Shared
 unwind-shared e [] s = tt
-unwind-shared e (labelled π l ∷ w) s = unwind-shared (inLabel l e) w (s .1)
+unwind-shared e (labelled π l ∷ w) s = unwind-shared (inLabel (held w) l e) w (s .1)
 unwind-shared (proved t g) (sequenceLeft π u ∷ w) s = (tt, s .1)
 unwind-shared failed (sequenceLeft π u ∷ w) s = unwind-shared failed w (s .1)
 unwind-shared (ended c) (sequenceLeft π u ∷ w) s = unwind-shared (ended c) w (s .1)
-unwind-shared e (sequenceRight π t ∷ w) s = unwind-shared (afterLeft t e) w (s .1)
+unwind-shared e (sequenceRight π t ∷ w) s = unwind-shared (afterLeft (held w) t e) w (s .1)
 unwind-shared (proved t g) (tensorLeft π u h ∷ w) s = (tt, s .1)
 unwind-shared failed (tensorLeft π u h ∷ w) s = unwind-shared failed w (none-shared h w (s .1))
 unwind-shared (ended c) (tensorLeft π u h ∷ w) s = unwind-shared (ended c) w (none-shared h w (s .1))
-unwind-shared e (tensorRight π t g ∷ w) s = unwind-shared (besideLeft t g e) w (s .1)
+unwind-shared e (tensorRight π t g ∷ w) s = unwind-shared (besideLeft (held w) t g e) w (s .1)
 unwind-shared (proved t g) (alternationLeft π u h ∷ w) s = unwind-shared (proved t g) w (none-shared h w (whole [] π u h w s))
 unwind-shared failed (alternationLeft π u h ∷ w) s = whole [] π u h w s
 unwind-shared (ended c) (alternationLeft π u h ∷ w) s = unwind-shared (ended c) w (none-shared h w (whole [] π u h w s))
@@ -110,14 +110,14 @@ tensor-begins π ρ (some n) t u g w s = go (leb n (length g))
 
 begin-shared : (T : Table) (π : Place) (t : Term) (g : List Goal) (w : List Frame) → Shared g w → SharedIn (begin T π t g w)
 unfolding begin Shared
-begin-shared T π (atomic a) g w s = end-shared (finished (atomic a) (ruleGives T a g)) g w s
-begin-shared T π id g w s = end-shared (finished id (oneGoal g)) g w s
+begin-shared T π (atomic a) g w s = end-shared (finished (held w) (atomic a) (ruleGives T a g)) g w s
+begin-shared T π id g w s = end-shared (finished (held w) id (oneGoal g)) g w s
 begin-shared T π (label l t) g w s = label-begins (past π 5) l t g w s
 begin-shared T π (sequence t u) g w s = (tt, s)
 begin-shared T π (tensor t u) g w s = tensor-begins (past π 3) (past π (3 + size t)) (tacticArity T t) t u g w s
-begin-shared T π empty g w s = end-shared (finished empty (noGoal g)) g w s
+begin-shared T π empty g w s = end-shared (finished (held w) empty (noGoal g)) g w s
 begin-shared T π (alternation t u) g w s = alternation-shared [] g (past π (3 + size t)) u g w refl s
-begin-shared T π (assert p) g w s = end-shared (finished id (assertGives T p g)) g w s
+begin-shared T π (assert p) g w s = end-shared (finished (held w) id (assertGives T p g)) g w s
 begin-shared T π (defined d) g w s = go (findBody T d)
   where
     go : (o : Option Term) → SharedIn (enterOrFail o w λ t. running (record { file = 0; at = bodyPlace T d }) t g w)

@@ -8,7 +8,6 @@ use lib.Dec.{eqb}
 use lib.ListN.{length, take}
 use Rattle.format.specs.declared.values.Goal.{Goal}
 use Rattle.format.specs.Terms.{size}
-use Rattle.evaluation.specs.RunSizes.{frameFields}
 use Rattle.evaluation.specs.Machine.{Place, Frame, labelled, sequenceLeft, sequenceRight, tensorLeft, tensorRight, alternationLeft}
 
 -- which of its inner terms a waiting term waits for
@@ -87,12 +86,7 @@ keptSize (tensorLeft π u h) = 0
 keptSize (tensorRight π s h) = size s
 keptSize (alternationLeft π u h) = 0
 
--- the fields that the waiting terms keep
-unfoldable pub keptFields : List Frame → ℕ
-keptFields [] = 0
-keptFields (f ∷ w) = frameFields f + keptFields w
-
--- their bytes
+-- those that the waiting terms keep
 unfoldable pub keptBytes : List Frame → ℕ
 keptBytes [] = 0
 keptBytes (f ∷ w) = keptSize f + keptBytes w

@@ -1,10 +1,10 @@
--- Document 01, "Running a tactic": the machine.
+-- Document 01, "Running a tactic", and document 02, P12: the machine.
 use Prim.Native.Nat.{ℕ, zero, suc, _+_}
 use mathlib.Core.List.{List, [], _∷_}
 use mathlib.Core.Option.{Option, none, some}
 use Rattle.format.specs.declared.values.Goal.{Goal}
 use Rattle.format.specs.declared.values.Label.{Label}
-use Rattle.format.specs.Terms.{Term, atomic, id, label, sequence, tensor, empty, alternation, assert, defined, size}
+use Rattle.format.specs.Terms.{Term, atomic, id, label, sequence, tensor, empty, alternation, assert, defined, size, fields}
 use Rattle.tables.specs.Tables.{Table}
 use Rattle.tables.specs.Lookup.{findBody}
 use Rattle.tables.specs.Places.{bodyPlace}
@@ -49,19 +49,34 @@ abbrev pub Running : Control → Type 0
 Running (running π t g w) = Unit {0}
 Running (stopped e) = ⊥
 
+-- the term fields that a waiting term keeps of a left term that ended; an unfinished term has no field of its own yet
+abbrev pub frameFields : Frame → ℕ
+frameFields (labelled π l) = 0
+frameFields (sequenceLeft π u) = 0
+frameFields (sequenceRight π s) = fields s
+frameFields (tensorLeft π u g) = 0
+frameFields (tensorRight π s g) = fields s
+frameFields (alternationLeft π u g) = 0
+
+-- P12, "the count of fields finished and held": those that all waiting terms keep
+unfoldable pub held : List Frame → ℕ
+held [] = 0
+held (f ∷ w) = frameFields f + held w
+
 -- From the end of a term to the next term to begin, or to the end of the run. "Alternation runs the left; only if that fails does it run the right
--- on the same goals"; "neither 24 nor 22 moves on to an alternative".
+-- on the same goals"; "neither 24 nor 22 moves on to an alternative", and 40 is given "with no alternative tried". "Fields of a failed alternative are no longer
+-- held": the waiting terms that kept them are gone.
 unfoldable pub unwind : Ending → List Frame → Control
 unwind e [] = stopped e
-unwind e (labelled π l ∷ w) = unwind (inLabel l e) w
+unwind e (labelled π l ∷ w) = unwind (inLabel (held w) l e) w
 unwind (proved s g) (sequenceLeft π u ∷ w) = running π u g (sequenceRight π s ∷ w)
 unwind failed (sequenceLeft π u ∷ w) = unwind failed w
 unwind (ended c) (sequenceLeft π u ∷ w) = unwind (ended c) w
-unwind e (sequenceRight π s ∷ w) = unwind (afterLeft s e) w
+unwind e (sequenceRight π s ∷ w) = unwind (afterLeft (held w) s e) w
 unwind (proved s g) (tensorLeft π u h ∷ w) = running π u h (tensorRight π s g ∷ w)
 unwind failed (tensorLeft π u h ∷ w) = unwind failed w
 unwind (ended c) (tensorLeft π u h ∷ w) = unwind (ended c) w
-unwind e (tensorRight π s g ∷ w) = unwind (besideLeft s g e) w
+unwind e (tensorRight π s g ∷ w) = unwind (besideLeft (held w) s g e) w
 unwind (proved s g) (alternationLeft π u h ∷ w) = unwind (proved s g) w
 unwind failed (alternationLeft π u h ∷ w) = running π u h w
 unwind (ended c) (alternationLeft π u h ∷ w) = unwind (ended c) w
@@ -73,14 +88,14 @@ enterOrFail (some a) w f = f a
 
 -- what a term does when it begins; "A defined tactic is replaced by its body; one without a definition fails"; "assert leaves id"
 unfoldable pub begin : Table → Place → Term → List Goal → List Frame → Control
-begin T π (atomic a) g w = unwind (finished (atomic a) (ruleGives T a g)) w
-begin T π id g w = unwind (finished id (oneGoal g)) w
+begin T π (atomic a) g w = unwind (finished (held w) (atomic a) (ruleGives T a g)) w
+begin T π id g w = unwind (finished (held w) id (oneGoal g)) w
 begin T π (label l t) g w = enterOrFail (oneGoal g) w λ h. running (past π 5) t h (labelled (past π 5) l ∷ w)
 begin T π (sequence t u) g w = running (past π 3) t g (sequenceLeft (past π (3 + size t)) u ∷ w)
 begin T π (tensor t u) g w = enterOrFail (splitBy (tacticArity T t) g) w λ p. running (past π 3) t (p .leftGoals) (tensorLeft (past π (3 + size t)) u (p .rightGoals) ∷ w)
-begin T π empty g w = unwind (finished empty (noGoal g)) w
+begin T π empty g w = unwind (finished (held w) empty (noGoal g)) w
 begin T π (alternation t u) g w = running (past π 3) t g (alternationLeft (past π (3 + size t)) u g ∷ w)
-begin T π (assert γ) g w = unwind (finished id (assertGives T γ g)) w
+begin T π (assert γ) g w = unwind (finished (held w) id (assertGives T γ g)) w
 begin T π (defined n) g w = enterOrFail (findBody T n) w λ t. running (record { file = 0; at = bodyPlace T n }) t g w
 
 -- "A step begins one term and leaves the next state. Every term begun counts one step"; where the run has ended it stays.

@@ -1,5 +1,5 @@
--- Document 01, "Running a tactic": how a term ends in a run, and what each form gives for its goals.
-use Prim.Native.Nat.{ℕ}
+-- Document 01, "Running a tactic", and document 02, P12: how a term ends in a run, and what each form gives for its goals.
+use Prim.Native.Nat.{ℕ, _+_}
 use mathlib.Core.Bool.{Bool, cond}
 use mathlib.Core.List.{List, [], _∷_, _++_}
 use mathlib.Core.Option.{Option, none, some}
@@ -8,13 +8,13 @@ use lib.ListN.{length, take, drop}
 use Rattle.format.specs.declared.values.RuleName.{RuleName}
 use Rattle.format.specs.declared.values.Goal.{Goal}
 use Rattle.format.specs.declared.values.Label.{Label}
-use Rattle.format.specs.Limits.{mostJoined}
-use Rattle.format.specs.Refusals.{Cause, joinedTooLong}
-use Rattle.format.specs.Terms.{Term, label, sequence, tensor}
+use Rattle.format.specs.Limits.{mostJoined, mostHeld}
+use Rattle.format.specs.Refusals.{Cause, joinedTooLong, fieldsTooMany}
+use Rattle.format.specs.Terms.{Term, label, sequence, tensor, fields}
 use Rattle.tables.specs.Tables.{Table}
 use Rattle.tables.specs.Lookup.{FoundRule, findRule, matches}
 
--- With a hiproof and the goals remaining, by failing, or by a limit of the run (22); after a limit no alternative is tried.
+-- With a hiproof and the goals remaining, by failing, or by a limit of the run (22, from P12 40); after a limit no alternative is tried.
 pub data Ending : Type 0 where
   proved : Term → List Goal → Ending
   failed : Ending
@@ -62,29 +62,33 @@ abbrev pub splitBy : Option ℕ → List Goal → Option Split
 splitBy none g = none
 splitBy (some n) g = cond (leb n (length g)) (some (splitAt n g)) none
 
+-- P12: "40 .. a finished term that makes the held fields more than 4,096, at that moment": a term that finishes while so many are held outside it
+abbrev pub within : (outside : ℕ) → Term → List Goal → Ending
+within k s g = cond (leb (k + fields s) mostHeld) (proved s g) (ended fieldsTooMany)
+
 -- "a term that cannot take its goals .. fails"; else it leaves its field
-abbrev pub finished : Term → Option (List Goal) → Ending
-finished s none = failed
-finished s (some g) = proved s g
+abbrev pub finished : (outside : ℕ) → Term → Option (List Goal) → Ending
+finished k s none = failed
+finished k s (some g) = within k s g
 
 -- "each other term leaves its own field": a label, once its inner term ended
-abbrev pub inLabel : Label → Ending → Ending
-inLabel l (proved s g) = proved (label l s) g
-inLabel l failed = failed
-inLabel l (ended c) = ended c
+abbrev pub inLabel : (outside : ℕ) → Label → Ending → Ending
+inLabel k l (proved s g) = within k (label l s) g
+inLabel k l failed = failed
+inLabel k l (ended c) = ended c
 
 -- a sequence, once its left gave a proof and its right ended
-abbrev pub afterLeft : Term → Ending → Ending
-afterLeft s (proved r g) = proved (sequence s r) g
-afterLeft s failed = failed
-afterLeft s (ended c) = ended c
+abbrev pub afterLeft : (outside : ℕ) → Term → Ending → Ending
+afterLeft k s (proved r g) = within k (sequence s r) g
+afterLeft k s failed = failed
+afterLeft k s (ended c) = ended c
 
 -- "A tensor whose joined list has more than 256 goals ends the walk with 22"
 abbrev pub joinedFits : List Goal → Bool
 joinedFits g = leb (length g) mostJoined
 
--- a tensor, once its left gave a proof and its right ended: "the two lists joined", "22 included"
-abbrev pub besideLeft : Term → List Goal → Ending → Ending
-besideLeft s g (proved r h) = cond (joinedFits (g ++ h)) (proved (tensor s r) (g ++ h)) (ended joinedTooLong)
-besideLeft s g failed = failed
-besideLeft s g (ended c) = ended c
+-- a tensor, once its left gave a proof and its right ended: "the two lists joined", "22 included", and 40 "after 22 at the same term"
+abbrev pub besideLeft : (outside : ℕ) → Term → List Goal → Ending → Ending
+besideLeft k s g (proved r h) = cond (joinedFits (g ++ h)) (within k (tensor s r) (g ++ h)) (ended joinedTooLong)
+besideLeft k s g failed = failed
+besideLeft k s g (ended c) = ended c

@@ -5,22 +5,13 @@ use lib.ListN.{length}
 use Rattle.format.specs.declared.values.Goal.{Goal}
 use Rattle.format.specs.Terms.{fields}
 use Rattle.evaluation.specs.Outcomes.{Ending, proved, failed, ended}
-use Rattle.evaluation.specs.Machine.{Frame, labelled, sequenceLeft, sequenceRight, tensorLeft, tensorRight, alternationLeft, Control, running, stopped}
+use Rattle.evaluation.specs.Machine.{frameFields, held, Frame, labelled, sequenceLeft, sequenceRight, tensorLeft, tensorRight, alternationLeft, Control, running, stopped}
 
 -- the term fields of an ending
 abbrev pub endingFields : Ending → ℕ
 endingFields (proved s g) = fields s
 endingFields failed = 0
 endingFields (ended c) = 0
-
--- the term fields that a waiting term keeps of a left term that ended
-abbrev pub frameFields : Frame → ℕ
-frameFields (labelled π l) = 0
-frameFields (sequenceLeft π u) = 0
-frameFields (sequenceRight π s) = fields s
-frameFields (tensorLeft π u g) = 0
-frameFields (tensorRight π s g) = fields s
-frameFields (alternationLeft π u g) = 0
 
 -- the goals that a waiting term keeps
 abbrev pub frameGoals : Frame → List Goal
@@ -41,7 +32,12 @@ abbrev pub waitingGoals : List Frame → ℕ
 waitingGoals [] = 0
 waitingGoals (x ∷ w) = length (frameGoals x) + waitingGoals w
 
--- of the whole state: the waiting terms and kept fields, or the fields of the proof
+-- P12: of the whole state the fields that are held, at the end those of the proof
+abbrev pub heldFields : Control → ℕ
+heldFields (running π t g w) = held w
+heldFields (stopped e) = endingFields e
+
+-- and these together with the waiting terms
 abbrev pub kept : Control → ℕ
 kept (running π t g w) = waiting w
 kept (stopped e) = endingFields e

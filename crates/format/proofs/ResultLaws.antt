@@ -93,5 +93,6 @@ number-positive C.workTooShort = omega arith
 number-positive C.stateNotGenuine = omega arith
 number-positive C.textWrong = omega arith
 number-positive C.valueTooLarge = omega arith
+number-positive C.fieldsTooMany = omega arith
 number-positive C.noEvaluation = omega arith
 number-positive C.heightOutside = omega arith

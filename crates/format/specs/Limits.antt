@@ -33,9 +33,13 @@ mostJoined = 256
 abbrev pub mostArity : ℕ
 mostArity = 256
 
--- "25: budget over 4,096"
+-- P12: "The budget goes up to 16,384 .. and 25 starts at 16,385"
 abbrev pub mostSteps : ℕ
-mostSteps = 4096
+mostSteps = 16384
+
+-- P12: "40 .. a finished term that makes the held fields more than 4,096"; a limit of its own, though a file may have as many term fields
+abbrev pub mostHeld : ℕ
+mostHeld = 4096
 
 -- "28: over 2,048 entries when writing a proof"
 abbrev pub mostEntries : ℕ

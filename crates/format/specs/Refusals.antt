@@ -1,4 +1,4 @@
--- The causes of a refusal, and their numbers: document 01, "What the bytes bring about" and "What the state brings about"; document 02, P5 (34, 35), P8 (36, 37) and P13 (41, 42).
+-- The causes of a refusal, and their numbers: document 01, "What the bytes bring about" and "What the state brings about"; document 02, P5 (34, 35), P8 (36, 37), P12 (40) and P13 (41, 42).
 use Prim.Native.Nat.{ℕ}
 
 pub data Cause : Type 0 where
@@ -27,6 +27,7 @@ pub data Cause : Type 0 where
   goalsTooFew : Cause
   textWrong : Cause
   valueTooLarge : Cause
+  fieldsTooMany : Cause
   noEvaluation : Cause
   heightOutside : Cause
 
@@ -57,5 +58,6 @@ number goalCountWrong = 34
 number goalsTooFew = 35
 number textWrong = 36
 number valueTooLarge = 37
+number fieldsTooMany = 40
 number noEvaluation = 41
 number heightOutside = 42
