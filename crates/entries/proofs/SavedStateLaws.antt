@@ -21,10 +21,12 @@ use Rattle.tables.proofs.ReadsTable.{reads-few-premises}
 use Rattle.files.specs.Jobs.{Job, readJob}
 use Rattle.files.specs.Counts.{jobTermPlace}
 use Rattle.files.proofs.WhatStands.{job-stands}
-use Rattle.evaluation.specs.Machine.{Place, Frame, labelled, sequenceLeft, sequenceRight, tensorLeft, tensorRight, alternationLeft, Control, running, stopped, State, after, Running, run}
+use Rattle.evaluation.specs.Machine.{held, Place, Frame, labelled, sequenceLeft, sequenceRight, tensorLeft, tensorRight, alternationLeft, Control, running, stopped, State, after, Running, run}
+use Rattle.evaluation.specs.RunSizes.{heldFields}
 use Rattle.evaluation.specs.Halts.{stage, lastPlace, ownGoals, heldOf, ownCount, keptSize, keptBytes}
 use Rattle.evaluation.proofs.RunBounds.{running-kept}
 use Rattle.evaluation.proofs.RunLaws.{spent-steps, run-steps}
+use Rattle.evaluation.proofs.HeldBounds.{run-held}
 use Rattle.evaluation.proofs.HaltBounds.{waiting-is, kept-bytes, held-goals}
 use Rattle.entries.specs.Run.{begins}
 use Rattle.entries.specs.SavedState.{savedSize, waitingTerm, finishedField, finishedFields, waitingTerms, savedContents, zerosTo, savedIn, savedState}
@@ -87,13 +89,20 @@ module _ (t f : List ℕ) (T : Table) (j : Job) (e : readTable t ≡ gives T) (g
   abbrev at-job : Place
   at-job = record { file = 1; at = jobTermPlace j }
 
-  -- FITS: what a halted run saves has room in the size that docs/ names.
+  -- what a halted run of k steps saves, with the fields that it holds
+  contents-most : (k : ℕ) (π : Place) (u : Term) (h : List Goal) (w : List Frame) → run T n (begins j) ≡ after k (running π u h w)
+      → length (savedContents k π h w) ≤ 524 + 6 * k + 15 * held w
+  contents-most k π u h w q =
+      let a = running-kept T n at-job (j .term) (j .goals) q in
+      let few = held-goals T (λ a γ h m. reads-few-premises t T e _ m) n k at-job π (j .term) u (j .goals) h w (job-stands f j g .goals-stand .few) q in
+      omega (arith, contents-length k π h w, a .0, waiting-is w, kept-bytes w, few)
+
+  -- FITS: it has room in the size that docs/ names.
   pub contents-fit : (k : ℕ) (π : Place) (u : Term) (h : List Goal) (w : List Frame) → run T n (begins j) ≡ after k (running π u h w) → length (savedContents k π h w) ≤ savedSize
   contents-fit k π u h w q =
-      let a = running-kept T n at-job (j .term) (j .goals) q in
       let s : k ≤ n = subst (λ (x : State). x .steps ≤ n) q (run-steps T n at-job (j .term) (j .goals)) in
-      let few = held-goals T (λ a γ h m. reads-few-premises t T e _ m) n k at-job π (j .term) u (j .goals) h w (job-stands f j g .goals-stand .few) q in
-      omega (arith, l, contents-length k π h w, a .0, s, waiting-is w, kept-bytes w, few)
+      let v : held w ≤ 4096 = subst (λ (x : State). heldFields (x .control) ≤ 4096) q (run-held T n at-job (j .term) (j .goals)) in
+      omega (arith, l, contents-most k π u h w q, s, v)
 
   -- SIZE: every saved state has that size;
   pub saved-length : (s : List ℕ) → savedState (run T n (begins j)) ≡ some s → length s ≡ savedSize

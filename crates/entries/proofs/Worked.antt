@@ -33,7 +33,7 @@ use Rattle.hitac.specs.UsedRules.{foundNumber, lookedUp, walkedRules, flatRules
 use Rattle.hitac.specs.FlatWalk.{flatWalk}
 use Rattle.hitac.specs.Forest.{forest}
 use Rattle.hitac.specs.Hiproofs.{inputArity, atomics, dropLabels, Unlabelled}
-use Rattle.evaluation.specs.Machine.{unwind, begin, stepFrom, step, run, start}
+use Rattle.evaluation.specs.Machine.{held, unwind, begin, stepFrom, step, run, start}
 use Rattle.evaluation.specs.TacticArity.{arityIn, arityAfter, tacticArity}
 use Rattle.hitac.specs.Walk.{onOneGoal, onNoGoal, premisesOr, tooLong, joined, walk}
 use Rattle.hitac.specs.Write.{treeTerms, written}
@@ -63,7 +63,7 @@ use Rattle.entries.specs.Search.{searchEnd, searchOutcome, searchTactic}
 use Rattle.entries.specs.Worked.{sideBySide, sideBySideOr, starredLines, edgeLines, noByteLines, ruleLines, textLines, searchLines}
 
 pub starred : AllHold starredLines
-unfolding word termBytes goalBytes goalsAt goalsOf readGoals headerAt leaf pair closed contents termOf readTerm number andThen rows findRow rowOf kindOf leastOf mostOf innerOf lengthFits size fields findRuleIn findRule findBodyIn findBody matches fullTable lowest ruleOf definitionOf fieldOf readField withRule withDefinition fieldsOf readFields readTable ruleSize definitionSize rulesSize placedRules placedTactics placedLabels labelsOf clashesAny firstClash repeatsRule recountsRule repeatsTactic repeatsLabel refuseAt wholeTable searchedTag stepAt besides clashAt places clashTold jobTermPlace fullFlat withEntry entriesOf readEntries derivationOf readFlat entryBytes entriesBytes flatBytes entriesPlace lastTermOf readLastTerm jobOf readJob jobBytes remainingOf hiproofOf proofOf readProofFields proofBytes emptyProof orEmptyProof readProof termPlace remainingPlace different among foundNumber lookedUp walkedRules flatRules taken flatWalk forest inputArity atomics dropLabels Unlabelled unwind begin stepFrom step run start arityIn arityAfter tacticArity onOneGoal onNoGoal premisesOr tooLong joined walk treeTerms written sameGoals remainingAre checked onProof proofCounts forestFile check flatten nonePending right flatCounts checkFlatOutcome writtenProof writtenFile writeOutcome checkFlat writeProof checkIn writeOut writeIn Holds digits acceptedLine refusedLine printedLine runEnd runResult runOutcome runTactic beside sideBySide sideBySideOr starredLines edgeLines
+unfolding word termBytes goalBytes goalsAt goalsOf readGoals headerAt leaf pair closed contents termOf readTerm number andThen rows findRow rowOf kindOf leastOf mostOf innerOf lengthFits size fields findRuleIn findRule findBodyIn findBody matches fullTable lowest ruleOf definitionOf fieldOf readField withRule withDefinition fieldsOf readFields readTable ruleSize definitionSize rulesSize placedRules placedTactics placedLabels labelsOf clashesAny firstClash repeatsRule recountsRule repeatsTactic repeatsLabel refuseAt wholeTable searchedTag stepAt besides clashAt places clashTold jobTermPlace fullFlat withEntry entriesOf readEntries derivationOf readFlat entryBytes entriesBytes flatBytes entriesPlace lastTermOf readLastTerm jobOf readJob jobBytes remainingOf hiproofOf proofOf readProofFields proofBytes emptyProof orEmptyProof readProof termPlace remainingPlace different among foundNumber lookedUp walkedRules flatRules taken flatWalk forest inputArity atomics dropLabels Unlabelled held unwind begin stepFrom step run start arityIn arityAfter tacticArity onOneGoal onNoGoal premisesOr tooLong joined walk treeTerms written sameGoals remainingAre checked onProof proofCounts forestFile check flatten nonePending right flatCounts checkFlatOutcome writtenProof writtenFile writeOutcome checkFlat writeProof checkIn writeOut writeIn Holds digits acceptedLine refusedLine printedLine runEnd runResult runOutcome runTactic beside sideBySide sideBySideOr starredLines edgeLines
 starred = refl & refl & refl & refl & refl & refl & refl & refl & refl & refl & refl & refl & refl & no-more
 
 -- a table of more bytes than a file may have is refused unread
@@ -72,21 +72,21 @@ unfolding onProof readTable
 too-long s p h = rw (lt-ltb mostBytes (length s) h)
 
 pub edges : AllHold edgeLines
-unfolding word termBytes goalBytes goalsAt goalsOf readGoals headerAt leaf pair closed contents termOf readTerm number andThen rows findRow rowOf kindOf leastOf mostOf innerOf lengthFits size fields findRuleIn findRule findBodyIn findBody matches fullTable lowest ruleOf definitionOf fieldOf readField withRule withDefinition fieldsOf readFields readTable ruleSize definitionSize rulesSize placedRules placedTactics placedLabels labelsOf clashesAny firstClash repeatsRule recountsRule repeatsTactic repeatsLabel refuseAt wholeTable searchedTag stepAt besides clashAt places clashTold jobTermPlace fullFlat withEntry entriesOf readEntries derivationOf readFlat entryBytes entriesBytes flatBytes entriesPlace lastTermOf readLastTerm jobOf readJob jobBytes remainingOf hiproofOf proofOf readProofFields proofBytes emptyProof orEmptyProof readProof termPlace remainingPlace different among foundNumber lookedUp walkedRules flatRules taken flatWalk forest inputArity atomics dropLabels Unlabelled unwind begin stepFrom step run start arityIn arityAfter tacticArity onOneGoal onNoGoal premisesOr tooLong joined walk treeTerms written sameGoals remainingAre checked onProof proofCounts forestFile check flatten nonePending right flatCounts checkFlatOutcome writtenProof writtenFile writeOutcome checkFlat writeProof checkIn writeOut writeIn Holds digits acceptedLine refusedLine printedLine withoutProof programOutcome runEnd runResult runOutcome runTactic beside sideBySide sideBySideOr starredLines edgeLines
+unfolding word termBytes goalBytes goalsAt goalsOf readGoals headerAt leaf pair closed contents termOf readTerm number andThen rows findRow rowOf kindOf leastOf mostOf innerOf lengthFits size fields findRuleIn findRule findBodyIn findBody matches fullTable lowest ruleOf definitionOf fieldOf readField withRule withDefinition fieldsOf readFields readTable ruleSize definitionSize rulesSize placedRules placedTactics placedLabels labelsOf clashesAny firstClash repeatsRule recountsRule repeatsTactic repeatsLabel refuseAt wholeTable searchedTag stepAt besides clashAt places clashTold jobTermPlace fullFlat withEntry entriesOf readEntries derivationOf readFlat entryBytes entriesBytes flatBytes entriesPlace lastTermOf readLastTerm jobOf readJob jobBytes remainingOf hiproofOf proofOf readProofFields proofBytes emptyProof orEmptyProof readProof termPlace remainingPlace different among foundNumber lookedUp walkedRules flatRules taken flatWalk forest inputArity atomics dropLabels Unlabelled held unwind begin stepFrom step run start arityIn arityAfter tacticArity onOneGoal onNoGoal premisesOr tooLong joined walk treeTerms written sameGoals remainingAre checked onProof proofCounts forestFile check flatten nonePending right flatCounts checkFlatOutcome writtenProof writtenFile writeOutcome checkFlat writeProof checkIn writeOut writeIn Holds digits acceptedLine refusedLine printedLine withoutProof programOutcome runEnd runResult runOutcome runTactic beside sideBySide sideBySideOr starredLines edgeLines
 edges =
     refl & refl & refl & refl
     & too-long (replicate 65536 0) [] (rw length-replicate (omega arith))
     & refl & refl & refl & refl & refl & refl & refl & refl & refl & refl & refl & refl
     & refl & refl & refl & refl & refl & refl & refl & refl & refl & refl & refl & refl
     & refl & refl & refl & refl & refl & refl & refl & refl & refl & refl & refl & refl
-    & refl & refl & refl & refl & refl & refl & refl & refl & refl & refl & no-more
+    & refl & refl & refl & refl & refl & refl & refl & refl & refl & refl & refl & no-more
 
 pub noBytes : AllHold noByteLines
-unfolding word termBytes goalBytes goalsAt goalsOf readGoals headerAt leaf pair closed contents termOf readTerm number andThen rows findRow rowOf kindOf leastOf mostOf innerOf lengthFits size fields findRuleIn findRule findBodyIn findBody matches fullTable lowest ruleOf definitionOf fieldOf readField withRule withDefinition fieldsOf readFields readTable ruleSize definitionSize rulesSize placedRules placedTactics placedLabels labelsOf clashesAny firstClash repeatsRule recountsRule repeatsTactic repeatsLabel refuseAt wholeTable searchedTag stepAt besides clashAt places clashTold jobTermPlace fullFlat withEntry entriesOf readEntries derivationOf readFlat entryBytes entriesBytes flatBytes entriesPlace lastTermOf readLastTerm jobOf readJob jobBytes remainingOf hiproofOf proofOf readProofFields proofBytes emptyProof orEmptyProof readProof termPlace remainingPlace different among foundNumber lookedUp walkedRules flatRules taken flatWalk forest inputArity atomics dropLabels Unlabelled unwind begin stepFrom step run start arityIn arityAfter tacticArity onOneGoal onNoGoal premisesOr tooLong joined walk treeTerms written sameGoals remainingAre checked onProof proofCounts forestFile check flatten nonePending right flatCounts checkFlatOutcome writtenProof writtenFile writeOutcome checkFlat writeProof checkIn writeOut writeIn Holds digits acceptedLine refusedLine printedLine withoutProof programOutcome runEnd runResult runOutcome runTactic beside sideBySide sideBySideOr starredLines noByteLines
+unfolding word termBytes goalBytes goalsAt goalsOf readGoals headerAt leaf pair closed contents termOf readTerm number andThen rows findRow rowOf kindOf leastOf mostOf innerOf lengthFits size fields findRuleIn findRule findBodyIn findBody matches fullTable lowest ruleOf definitionOf fieldOf readField withRule withDefinition fieldsOf readFields readTable ruleSize definitionSize rulesSize placedRules placedTactics placedLabels labelsOf clashesAny firstClash repeatsRule recountsRule repeatsTactic repeatsLabel refuseAt wholeTable searchedTag stepAt besides clashAt places clashTold jobTermPlace fullFlat withEntry entriesOf readEntries derivationOf readFlat entryBytes entriesBytes flatBytes entriesPlace lastTermOf readLastTerm jobOf readJob jobBytes remainingOf hiproofOf proofOf readProofFields proofBytes emptyProof orEmptyProof readProof termPlace remainingPlace different among foundNumber lookedUp walkedRules flatRules taken flatWalk forest inputArity atomics dropLabels Unlabelled held unwind begin stepFrom step run start arityIn arityAfter tacticArity onOneGoal onNoGoal premisesOr tooLong joined walk treeTerms written sameGoals remainingAre checked onProof proofCounts forestFile check flatten nonePending right flatCounts checkFlatOutcome writtenProof writtenFile writeOutcome checkFlat writeProof checkIn writeOut writeIn Holds digits acceptedLine refusedLine printedLine withoutProof programOutcome runEnd runResult runOutcome runTactic beside sideBySide sideBySideOr starredLines noByteLines
 noBytes = refl & refl & refl & refl & refl & refl & refl & refl & refl & refl & refl & refl & no-more
 
 pub ruleCounts : AllHold ruleLines
-unfolding word termBytes goalBytes goalsAt goalsOf readGoals headerAt leaf pair closed contents termOf readTerm number andThen rows findRow rowOf kindOf leastOf mostOf innerOf lengthFits size fields findRuleIn findRule findBodyIn findBody matches fullTable lowest ruleOf definitionOf fieldOf readField withRule withDefinition fieldsOf readFields readTable ruleSize definitionSize rulesSize placedRules placedTactics placedLabels labelsOf clashesAny firstClash repeatsRule recountsRule repeatsTactic repeatsLabel refuseAt wholeTable searchedTag stepAt besides clashAt places clashTold jobTermPlace fullFlat withEntry entriesOf readEntries derivationOf readFlat entryBytes entriesBytes flatBytes entriesPlace lastTermOf readLastTerm jobOf readJob jobBytes remainingOf hiproofOf proofOf readProofFields proofBytes emptyProof orEmptyProof readProof termPlace remainingPlace different among foundNumber lookedUp walkedRules flatRules taken flatWalk forest inputArity atomics dropLabels Unlabelled unwind begin stepFrom step run start arityIn arityAfter tacticArity onOneGoal onNoGoal premisesOr tooLong joined walk treeTerms written sameGoals remainingAre checked onProof proofCounts forestFile check flatten nonePending right flatCounts checkFlatOutcome writtenProof writtenFile writeOutcome checkFlat writeProof checkIn writeOut writeIn Holds digits acceptedLine refusedLine printedLine withoutProof programOutcome runEnd runResult runOutcome runTactic beside sideBySide sideBySideOr ruleLines
+unfolding word termBytes goalBytes goalsAt goalsOf readGoals headerAt leaf pair closed contents termOf readTerm number andThen rows findRow rowOf kindOf leastOf mostOf innerOf lengthFits size fields findRuleIn findRule findBodyIn findBody matches fullTable lowest ruleOf definitionOf fieldOf readField withRule withDefinition fieldsOf readFields readTable ruleSize definitionSize rulesSize placedRules placedTactics placedLabels labelsOf clashesAny firstClash repeatsRule recountsRule repeatsTactic repeatsLabel refuseAt wholeTable searchedTag stepAt besides clashAt places clashTold jobTermPlace fullFlat withEntry entriesOf readEntries derivationOf readFlat entryBytes entriesBytes flatBytes entriesPlace lastTermOf readLastTerm jobOf readJob jobBytes remainingOf hiproofOf proofOf readProofFields proofBytes emptyProof orEmptyProof readProof termPlace remainingPlace different among foundNumber lookedUp walkedRules flatRules taken flatWalk forest inputArity atomics dropLabels Unlabelled held unwind begin stepFrom step run start arityIn arityAfter tacticArity onOneGoal onNoGoal premisesOr tooLong joined walk treeTerms written sameGoals remainingAre checked onProof proofCounts forestFile check flatten nonePending right flatCounts checkFlatOutcome writtenProof writtenFile writeOutcome checkFlat writeProof checkIn writeOut writeIn Holds digits acceptedLine refusedLine printedLine withoutProof programOutcome runEnd runResult runOutcome runTactic beside sideBySide sideBySideOr ruleLines
 ruleCounts = refl & refl & refl & refl & refl & refl & refl & refl & refl & no-more
 
 pub texts : AllHold textLines
@@ -94,5 +94,5 @@ unfolding word termBytes headerAt leaf pair closed contents termOf readTerm numb
 texts = refl & refl & refl & refl & refl & refl & no-more
 
 pub searched : AllHold searchLines
-unfolding word termBytes goalBytes goalsAt goalsOf readGoals headerAt leaf pair closed contents termOf readTerm number andThen rows findRow rowOf kindOf leastOf mostOf innerOf lengthFits size fields findRuleIn findRule findBodyIn findBody matches fullTable lowest ruleOf definitionOf fieldOf readField withRule withDefinition fieldsOf readFields readTable ruleSize definitionSize rulesSize placedRules placedTactics placedLabels labelsOf clashesAny firstClash repeatsRule recountsRule repeatsTactic repeatsLabel refuseAt wholeTable searchedTag stepAt besides clashAt places clashTold jobTermPlace fullFlat withEntry entriesOf readEntries derivationOf readFlat entryBytes entriesBytes flatBytes entriesPlace lastTermOf readLastTerm jobOf readJob jobBytes remainingOf hiproofOf proofOf readProofFields proofBytes emptyProof orEmptyProof readProof termPlace remainingPlace different among foundNumber lookedUp walkedRules flatRules taken flatWalk forest inputArity atomics dropLabels Unlabelled unwind begin stepFrom step run start arityIn arityAfter tacticArity onOneGoal onNoGoal premisesOr tooLong joined walk treeTerms written sameGoals remainingAre checked onProof proofCounts forestFile check flatten nonePending right flatCounts checkFlatOutcome writtenProof writtenFile writeOutcome checkFlat writeProof checkIn writeOut writeIn Holds digits acceptedLine refusedLine printedLine runEnd runResult runOutcome runTactic beside sideBySide sideBySideOr searchLines edgeLines forEach inLabel thenRight besideRight splits following trace firstFound search searchEnd searchOutcome searchTactic
+unfolding word termBytes goalBytes goalsAt goalsOf readGoals headerAt leaf pair closed contents termOf readTerm number andThen rows findRow rowOf kindOf leastOf mostOf innerOf lengthFits size fields findRuleIn findRule findBodyIn findBody matches fullTable lowest ruleOf definitionOf fieldOf readField withRule withDefinition fieldsOf readFields readTable ruleSize definitionSize rulesSize placedRules placedTactics placedLabels labelsOf clashesAny firstClash repeatsRule recountsRule repeatsTactic repeatsLabel refuseAt wholeTable searchedTag stepAt besides clashAt places clashTold jobTermPlace fullFlat withEntry entriesOf readEntries derivationOf readFlat entryBytes entriesBytes flatBytes entriesPlace lastTermOf readLastTerm jobOf readJob jobBytes remainingOf hiproofOf proofOf readProofFields proofBytes emptyProof orEmptyProof readProof termPlace remainingPlace different among foundNumber lookedUp walkedRules flatRules taken flatWalk forest inputArity atomics dropLabels Unlabelled held unwind begin stepFrom step run start arityIn arityAfter tacticArity onOneGoal onNoGoal premisesOr tooLong joined walk treeTerms written sameGoals remainingAre checked onProof proofCounts forestFile check flatten nonePending right flatCounts checkFlatOutcome writtenProof writtenFile writeOutcome checkFlat writeProof checkIn writeOut writeIn Holds digits acceptedLine refusedLine printedLine runEnd runResult runOutcome runTactic beside sideBySide sideBySideOr searchLines edgeLines forEach inLabel thenRight besideRight splits following trace firstFound search searchEnd searchOutcome searchTactic
 searched = refl & refl & refl & refl & refl & refl & refl & refl & refl & refl & refl & refl & refl & refl & refl & no-more

@@ -19,7 +19,7 @@ use Rattle.tables.specs.Search.{searchedTag, stepAt, besides, clashAt, places, 
 use Rattle.files.specs.Counts.{jobTermPlace}
 use Rattle.files.specs.Jobs.{lastTermOf, readLastTerm, jobOf, readJob}
 use Rattle.files.specs.Proofs.{proofBytes}
-use Rattle.evaluation.specs.Machine.{unwind, begin, stepFrom, step, run, start}
+use Rattle.evaluation.specs.Machine.{held, unwind, begin, stepFrom, step, run, start}
 use Rattle.evaluation.specs.TacticArity.{arityIn, arityAfter, tacticArity}
 use Rattle.entries.specs.Lines.{Holds, AllHold, no-more, _&_}
 use Rattle.entries.specs.Run.{runEnd, runResult}
@@ -28,9 +28,9 @@ use Rattle.entries.specs.Halting.{ranFor, withJob, withFiles, withinLimi
 use Rattle.entries.specs.WorkedHalts.{haltLines, resumeLines}
 
 pub halted : AllHold haltLines
-unfolding word termBytes goalBytes goalsAt goalsOf readGoals headerAt leaf pair closed contents termOf readTerm number andThen rows findRow rowOf kindOf leastOf mostOf innerOf lengthFits size fields findRuleIn findRule findBodyIn findBody matches bodyPlaceIn bodyPlace fullTable lowest ruleOf definitionOf fieldOf readField withRule withDefinition fieldsOf readFields readTable ruleSize definitionSize rulesSize placedRules placedTactics placedLabels labelsOf clashesAny firstClash repeatsRule recountsRule repeatsTactic repeatsLabel refuseAt wholeTable searchedTag stepAt besides clashAt places clashTold jobTermPlace lastTermOf readLastTerm jobOf readJob proofBytes unwind begin stepFrom step run start arityIn arityAfter tacticArity Holds runEnd runResult finishedFields waitingTerms savedContents savedIn savedState ranFor withJob withFiles withinLimit haltingOutcome saveIn haltIn runHalting haltLines
-halted = refl & refl & refl & refl & refl & refl & refl & refl & refl & refl & refl & refl & refl & refl & refl & refl & refl & refl & refl & no-more
+unfolding word termBytes goalBytes goalsAt goalsOf readGoals headerAt leaf pair closed contents termOf readTerm number andThen rows findRow rowOf kindOf leastOf mostOf innerOf lengthFits size fields findRuleIn findRule findBodyIn findBody matches bodyPlaceIn bodyPlace fullTable lowest ruleOf definitionOf fieldOf readField withRule withDefinition fieldsOf readFields readTable ruleSize definitionSize rulesSize placedRules placedTactics placedLabels labelsOf clashesAny firstClash repeatsRule recountsRule repeatsTactic repeatsLabel refuseAt wholeTable searchedTag stepAt besides clashAt places clashTold jobTermPlace lastTermOf readLastTerm jobOf readJob proofBytes held unwind begin stepFrom step run start arityIn arityAfter tacticArity Holds runEnd runResult finishedFields waitingTerms savedContents savedIn savedState ranFor withJob withFiles withinLimit haltingOutcome saveIn haltIn runHalting haltLines
+halted = refl & refl & refl & refl & refl & refl & refl & refl & refl & refl & refl & refl & refl & refl & refl & refl & refl & refl & refl & refl & no-more
 
 pub resumed : AllHold resumeLines
-unfolding word termBytes goalBytes goalsAt goalsOf readGoals headerAt leaf pair closed contents termOf readTerm number andThen rows findRow rowOf kindOf leastOf mostOf innerOf lengthFits size fields findRuleIn findRule findBodyIn findBody matches bodyPlaceIn bodyPlace fullTable lowest ruleOf definitionOf fieldOf readField withRule withDefinition fieldsOf readFields readTable ruleSize definitionSize rulesSize placedRules placedTactics placedLabels labelsOf clashesAny firstClash repeatsRule recountsRule repeatsTactic repeatsLabel refuseAt wholeTable searchedTag stepAt besides clashAt places clashTold jobTermPlace lastTermOf readLastTerm jobOf readJob proofBytes unwind begin stepFrom step run start arityIn arityAfter tacticArity Holds runEnd runResult finishedFields waitingTerms savedContents savedIn savedState ranFor withJob withFiles withinLimit haltingOutcome stepsOf sameBytes isSaved genuine goingOn resumeOutcome resumeLines
-resumed = refl & refl & refl & refl & refl & refl & refl & refl & refl & refl & refl & refl & refl & refl & refl & refl & refl & no-more
+unfolding word termBytes goalBytes goalsAt goalsOf readGoals headerAt leaf pair closed contents termOf readTerm number andThen rows findRow rowOf kindOf leastOf mostOf innerOf lengthFits size fields findRuleIn findRule findBodyIn findBody matches bodyPlaceIn bodyPlace fullTable lowest ruleOf definitionOf fieldOf readField withRule withDefinition fieldsOf readFields readTable ruleSize definitionSize rulesSize placedRules placedTactics placedLabels labelsOf clashesAny firstClash repeatsRule recountsRule repeatsTactic repeatsLabel refuseAt wholeTable searchedTag stepAt besides clashAt places clashTold jobTermPlace lastTermOf readLastTerm jobOf readJob proofBytes held unwind begin stepFrom step run start arityIn arityAfter tacticArity Holds runEnd runResult finishedFields waitingTerms savedContents savedIn savedState ranFor withJob withFiles withinLimit haltingOutcome stepsOf sameBytes isSaved genuine goingOn resumeOutcome resumeLines
+resumed = refl & refl & refl & refl & refl & refl & refl & refl & refl & refl & refl & refl & refl & refl & refl & refl & refl & refl & refl & no-more

@@ -77,7 +77,7 @@ genuine T j s = isSaved (savedState (run T (stepsOf s) (begins j))) s
 unfoldable pub goingOn : (saved : List ℕ) → (budget : ℕ) → Table → Job → HaltingOutcome
 goingOn s c T j = cond (genuine T j s) (ranFor T j (stepsOf s + c)) (unbegun (refusal stateNotGenuine noFile 0 0))
 
--- "b + c over 4,096 is 25, tested where 25 now is"
+-- "b + c over" the limit (P12: 16,384, "also for the sum in P1") "is 25, tested where 25 now is"
 unfoldable pub resumeOutcome : (table job saved : List ℕ) → (budget : ℕ) → HaltingOutcome
 resumeOutcome table job s c = withinLimit (stepsOf s + c) table job (goingOn s c)
 

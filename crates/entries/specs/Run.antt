@@ -1,4 +1,4 @@
--- Document 01, "Running a tactic": the entry run.
+-- Document 01, "Running a tactic", and document 02, P12: the entry run.
 use Prim.Native.Nat.{ℕ}
 use mathlib.Core.Bool.{cond}
 use mathlib.Core.List.{List}
@@ -15,7 +15,7 @@ use Rattle.evaluation.specs.Machine.{Control, running, stopped, State, run, sta
 use Rattle.entries.specs.Outcomes.{Outcome, success, refusal, inFile, tableFile, otherFile, noFile}
 use Rattle.entries.specs.LentSpace.{Written, writeIn}
 
--- "A run that succeeds writes a proof file"; 22, 23 and 24 with "file and place 0", after so many steps
+-- "A run that succeeds writes a proof file"; 22, 23, 24 and (P12) 40 with "file and place 0", after so many steps
 unfoldable pub runEnd : Job → (steps : ℕ) → Control → Outcome (List ℕ)
 runEnd j n (running π t g k) = refusal budgetSpent noFile 0 n
 runEnd j n (stopped (proved s h)) = success (proofBytes (record { goals = j .goals; term = s; remaining = h })) n
@@ -40,7 +40,7 @@ runOutcome table job budget =
 
 -- the size of the work space that docs/ENTRIES.md names: all that a run of the most steps can use
 abbrev pub runWork : ℕ
-runWork = 1290752
+runWork = 640000
 
 unfoldable pub runTactic : (table job : List ℕ) → (budget : ℕ) → (work out : List ℕ) → Written
 runTactic table job budget work out = writeIn runWork work out (runOutcome table job budget)

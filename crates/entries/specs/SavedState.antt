@@ -9,10 +9,11 @@ use Rattle.format.specs.Encoding.{wordBytes, termBytes, goalBytes}
 use Rattle.evaluation.specs.Machine.{Place, Frame, labelled, sequenceLeft, sequenceRight, tensorLeft, tensorRight, alternationLeft, Control, running, stopped, State}
 use Rattle.evaluation.specs.Halts.{stage, lastPlace, ownGoals, heldOf}
 
--- "as many as docs/ names": the bytes of every saved state. A halted run of n steps has at most n waiting terms and finished fields together: 6 bytes for each
--- waiting term, and 5 + 16 for each finished field and the goals that it gave; the job's 256 goals, the term to begin and three numbers make 524 more.
+-- "as many as docs/ names": the bytes of every saved state. A halted run of n steps has at most n waiting terms and finished fields together, and of these (P12) at
+-- most 4,096 fields: 6 bytes for each waiting term, and 5 + 16 for each finished field and the goals that it gave; the job's 256 goals, the term to begin and three
+-- numbers make 524 more.
 abbrev pub savedSize : ℕ
-savedSize = 86540
+savedSize = 160268
 
 -- the field of a left term that ended, "finished so far"
 abbrev pub finishedField : Frame → List ℕ

@@ -175,8 +175,9 @@ edgeLines =
     ∷ runs tableT5 jobT5T6 4096 (refusal tacticFailed noFile 0 1)
     -- 24 before the first step
     ∷ runs [] (3 ∷ 0 ∷ 0 ∷ 21 ∷ 0 ∷ 0 ∷ []) 0 (refusal budgetSpent noFile 0 0)
-    -- 25: "Budget 4,096 runs; 4,097 is 25", before any reading
-    ∷ runs (1 ∷ []) [] 4097 (refusal budgetTooLarge noFile 0 0)
+    -- 25: "Budget 4,096 runs; 4,097 is 25", which P12 makes 16,384 and 16,385; before any reading
+    ∷ runs [] (3 ∷ 0 ∷ 0 ∷ 21 ∷ 0 ∷ 0 ∷ []) 16384 (success (3 ∷ 0 ∷ 0 ∷ 21 ∷ 0 ∷ 0 ∷ 3 ∷ 0 ∷ 0 ∷ []) 1)
+    ∷ runs (1 ∷ []) [] 16385 (refusal budgetTooLarge noFile 0 0)
     -- 26: one byte too few; the steps are those of the whole run
     ∷ runsInto [] (3 ∷ 0 ∷ 0 ∷ 21 ∷ 0 ∷ 0 ∷ []) 1 (7 ∷ []) (replicate 8 7) (record { answer = answer.refusal 26 0 0 1; work = 0 ∷ []; out = replicate 8 7 })
     -- a success leaves the bytes past its result untouched; all twelve numbers of the answer
@@ -190,7 +191,7 @@ edgeLines =
     -- 29: one byte of work space is too little, and stays as it was
     ∷ checksWith [] [] (7 ∷ []) (record { answer = answer.refusal 29 0 0 0; work = 7 ∷ [] })
     -- 29 before 25
-    ∷ runsWith [] [] 4097 (7 ∷ []) (7 ∷ []) (record { answer = answer.refusal 29 0 0 0; work = 7 ∷ []; out = 7 ∷ [] })
+    ∷ runsWith [] [] 16385 (7 ∷ []) (7 ∷ []) (record { answer = answer.refusal 29 0 0 0; work = 7 ∷ []; out = 7 ∷ [] })
     -- a use with three premises written back: tensors lean right
     ∷ writes tableB (3 ∷ 0 ∷ 2 ∷ 0 ∷ 50 ∷ 32 ∷ 0 ∷ 4 ∷ 0 ∷ 5 ∷ 0 ∷ 50 ∷ 33 ∷ 0 ∷ 2 ∷ 0 ∷ 10 ∷ 33 ∷ 0 ∷ 2 ∷ 0 ∷ 20 ∷ 33 ∷ 0 ∷ 2 ∷ 0 ∷ 50 ∷ []) (done (3 ∷ 0 ∷ 2 ∷ 0 ∷ 50 ∷ 19 ∷ 0 ∷ 20 ∷ 16 ∷ 0 ∷ 2 ∷ 0 ∷ 5 ∷ 20 ∷ 0 ∷ 12 ∷ 17 ∷ 0 ∷ 0 ∷ 20 ∷ 0 ∷ 6 ∷ 17 ∷ 0 ∷ 0 ∷ 17 ∷ 0 ∷ 0 ∷ 3 ∷ 0 ∷ 6 ∷ 0 ∷ 10 ∷ 0 ∷ 20 ∷ 0 ∷ 50 ∷ []))
     -- no roots are written back as empty

@@ -59,13 +59,14 @@ haltLines =
     -- a run that ends with its budget does not halt
     ∷ endsUnhalted [] jobEmpty 1 (success (3 ∷ 0 ∷ 0 ∷ 21 ∷ 0 ∷ 0 ∷ 3 ∷ 0 ∷ 0 ∷ []) 1)
     -- 25 before any reading; 24 comes after the files are read
-    ∷ endsUnhalted (1 ∷ []) [] 4097 (refusal budgetTooLarge noFile 0 0)
+    ∷ endsUnhalted [] jobEmpty 16384 (success (3 ∷ 0 ∷ 0 ∷ 21 ∷ 0 ∷ 0 ∷ 3 ∷ 0 ∷ 0 ∷ []) 1)
+    ∷ endsUnhalted (1 ∷ []) [] 16385 (refusal budgetTooLarge noFile 0 0)
     ∷ endsUnhalted [] [] 0 (refusal fieldTorn otherFile 0 0)
     -- "its state fills the first bytes .. and bytes past them untouched; no other answer touches it"
     ∷ saves (7 ∷ 7 ∷ 7 ∷ []) (some (1 ∷ 2 ∷ [])) (1 ∷ 2 ∷ 7 ∷ [])
     ∷ saves (7 ∷ 7 ∷ 7 ∷ []) none (7 ∷ 7 ∷ 7 ∷ [])
     -- 29 before 25, and all four spaces stay as they were
-    ∷ haltsWith [] [] 4097 (7 ∷ []) (aFrame ∷ []) (7 ∷ []) (7 ∷ []) (record { answer = answer.refusal 29 0 0 0; work = 7 ∷ []; frames = aFrame ∷ []; out = 7 ∷ []; state = 7 ∷ [] })
+    ∷ haltsWith [] [] 16385 (7 ∷ []) (aFrame ∷ []) (7 ∷ []) (7 ∷ []) (record { answer = answer.refusal 29 0 0 0; work = 7 ∷ []; frames = aFrame ∷ []; out = 7 ∷ []; state = 7 ∷ [] })
     ∷ []
 
 unfoldable pub resumeLines : List Line
@@ -75,11 +76,13 @@ resumeLines =
     ∷ stepsIn (5 ∷ []) 0
     ∷ stepsIn (1 ∷ 2 ∷ []) 258
     ∷ stepsIn (1 ∷ 2 ∷ 3 ∷ []) 258
-    -- 25: "b + c over 4,096", before any reading, whatever the state
-    ∷ resumes (1 ∷ []) [] (16 ∷ 0 ∷ []) 0 (unbegun (refusal fieldTorn tableFile 0 0))
-    ∷ resumes (1 ∷ []) [] (16 ∷ 0 ∷ []) 1 (unbegun (refusal budgetTooLarge noFile 0 0))
-    ∷ resumes (1 ∷ []) [] (16 ∷ []) 4096 (unbegun (refusal fieldTorn tableFile 0 0))
-    ∷ resumes (1 ∷ []) [] (16 ∷ []) 4097 (unbegun (refusal budgetTooLarge noFile 0 0))
+    -- 25: b + c over 16,384, before any reading, whatever the state
+    ∷ resumes (1 ∷ []) [] (64 ∷ 0 ∷ []) 0 (unbegun (refusal fieldTorn tableFile 0 0))
+    ∷ resumes (1 ∷ []) [] (64 ∷ 0 ∷ []) 1 (unbegun (refusal budgetTooLarge noFile 0 0))
+    ∷ resumes (1 ∷ []) [] (16 ∷ 0 ∷ []) 12288 (unbegun (refusal fieldTorn tableFile 0 0))
+    ∷ resumes (1 ∷ []) [] (16 ∷ 0 ∷ []) 12289 (unbegun (refusal budgetTooLarge noFile 0 0))
+    ∷ resumes (1 ∷ []) [] (16 ∷ []) 16384 (unbegun (refusal fieldTorn tableFile 0 0))
+    ∷ resumes (1 ∷ []) [] (16 ∷ []) 16385 (unbegun (refusal budgetTooLarge noFile 0 0))
     ∷ resumes (1 ∷ []) [] (0 ∷ 1 ∷ []) 4294967295 (unbegun (refusal budgetTooLarge noFile 0 0))
     -- 30 is tested "after both files are read"
     ∷ resumes [] (3 ∷ []) [] 0 (unbegun (refusal fieldTorn otherFile 0 0))
