@@ -69,7 +69,7 @@ NoBytes-alone = (t p w o : List ℕ) → 0 < length p → (check t p w ≡ check
 
 -- a job, a flat file and a term file of no bytes are still 2; of a table that reads and space enough
 pub record NoBytesElsewhere (t : List ℕ) : Type 0 where
-  pub job : (b : ℕ) (w o : List ℕ) → b ≤ 4096 → runWork ≤ length w → runTactic t [] b w o .answer ≡ answer.refusal 2 2 0 0
+  pub job : (b : ℕ) (w o : List ℕ) → b ≤ 16384 → runWork ≤ length w → runTactic t [] b w o .answer ≡ answer.refusal 2 2 0 0
   pub searched-job : (h b : ℕ) (w o : List ℕ) → 1 ≤ h → h ≤ 64 → b ≤ 4096 → searchWork ≤ length w → searchTactic t [] h b w o .answer ≡ answer.refusal 2 2 0 0
   pub flat : (w : List ℕ) → checkFlatWork ≤ length w → checkFlat t [] w .answer ≡ answer.refusal 2 2 0 0
   pub written-flat : (w o : List ℕ) → writeProofWork ≤ length w → writeProof t [] w o .answer ≡ answer.refusal 2 2 0 0

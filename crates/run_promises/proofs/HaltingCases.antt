@@ -12,7 +12,7 @@ use lib.Dec.{ltb}
 use lib.ListN.{length, take, drop, replicate}
 use lib.Seq.{take-at}
 use Rattle.format.specs.Limits.{mostSteps}
-use Rattle.format.specs.Refusals.{number, joinedTooLong, budgetSpent, budgetTooLarge}
+use Rattle.format.specs.Refusals.{number, joinedTooLong, fieldsTooMany, budgetSpent, budgetTooLarge}
 use Rattle.format.specs.Results.{Result, gives, refused}
 use Rattle.tables.specs.Tables.{Table}
 use Rattle.tables.specs.ReadTables.{readTable}
@@ -20,7 +20,7 @@ use Rattle.tables.proofs.ReadsTable.{reads-unique-rules, reads-unique-definitio
 use Rattle.tables.proofs.RefusedTable.{table-place}
 use Rattle.files.specs.Jobs.{Job, readJob}
 use Rattle.files.proofs.RefusedFiles.{Job-refused}
-use Rattle.evaluation.specs.Ends.{End, proof, failure, overflow}
+use Rattle.evaluation.specs.Ends.{End, proof, failure, overflow, excess}
 use Rattle.evaluation.specs.EndingOf.{endingOf}
 use Rattle.evaluation.specs.Machine.{Control, running, stopped, State, after, Running, run}
 use Rattle.evaluation.specs.Outcomes.{Ending, proved, failed, ended}
@@ -46,7 +46,7 @@ Refused May (refusal c f p k) = May (number c)
 
 -- run_halting, and resume; without a halt
 abbrev pub RunMay : (number : ℕ) → Type 0
-RunMay k = (k ≤ 23) ⊎ (k ≡ 25)
+RunMay k = (k ≤ 23) ⊎ (k ≡ 25) ⊎ (k ≡ 40)
 
 abbrev pub ResumeMay : (number : ℕ) → Type 0
 ResumeMay k = RunMay k ⊎ (k ≡ 30)
@@ -70,6 +70,7 @@ module _ (t f : List ℕ) (T : Table) (j : Job) (e : readTable t ≡ gives T) (g
       go (proof s h) p = absurd (let z : _≡_ {A = ℕ} 0 1 = cc in omega arith)
       go failure p = absurd (let z : _≡_ {A = ℕ} 0 1 = cc in omega arith)
       go overflow p = let z : joinedTooLong ≡ c = cc in inl (omega (arith, ap number z))
+      go excess p = let z : fieldsTooMany ≡ c = cc in inr (inr (sym (ap number z)))
 
   module _ (l : n ≤ mostSteps) where
     by-control : (k : ℕ) (κ : Control) → run T n (begins j) ≡ after k κ → HaltingComes RunMay t f n (record { outcome = runEnd j k κ; saved = savedIn k κ })
@@ -106,7 +107,7 @@ module _ (t f : List ℕ) (b : ℕ) where
 
   by-budget : Dec (mostSteps < b) → C (haltingOutcome t f b)
   unfolding haltingOutcome number
-  by-budget (yes l) = subst C (sym (over-limit t f b next l)) (comes-ended (refusal budgetTooLarge 0 0 0) (inr refl))
+  by-budget (yes l) = subst C (sym (over-limit t f b next l)) (comes-ended (refusal budgetTooLarge 0 0 0) (inr (inl refl)))
   by-budget (no l) = by-table (omega arith) (readTable t) refl
 
   pub halting-comes : C (haltingOutcome t f b)
@@ -126,13 +127,14 @@ module _ (May : (number : ℕ) → Type 0) (w o : List ℕ) where
       go false z = inl (inl (sym z))
 
 -- numbers that are not among them
-pub run-unlisted : (k : ℕ) → 23 < k → (k ≡ 25 → ⊥) → RunMay k → ⊥
-run-unlisted k l d (inl h) = omega (arith, l, h)
-run-unlisted k l d (inr h) = d h
+pub run-unlisted : (k : ℕ) → 23 < k → k < 40 → (k ≡ 25 → ⊥) → RunMay k → ⊥
+run-unlisted k l m d (inl h) = omega (arith, l, h)
+run-unlisted k l m d (inr (inl h)) = d h
+run-unlisted k l m d (inr (inr h)) = omega (arith, m, h)
 
-pub resume-unlisted : (k : ℕ) → 23 < k → (k ≡ 25 → ⊥) → (k ≡ 30 → ⊥) → ResumeMay k → ⊥
-resume-unlisted k l d r (inl h) = run-unlisted k l d h
-resume-unlisted k l d r (inr h) = r h
+pub resume-unlisted : (k : ℕ) → 23 < k → k < 40 → (k ≡ 25 → ⊥) → (k ≡ 30 → ⊥) → ResumeMay k → ⊥
+resume-unlisted k l m d r (inl h) = run-unlisted k l m d h
+resume-unlisted k l m d r (inr h) = r h
 
 module _ (w : List ℕ) (fs : List LentFrame) (o st : List ℕ) where
   abbrev call : HaltingOutcome → Halting

@@ -43,7 +43,7 @@ halts-as-run t f b w fs o st l =
     )
 
 pub not-24 : RunMay 24 → ⊥
-not-24 = run-unlisted 24 (omega arith) (λ q. omega (arith, q))
+not-24 = run-unlisted 24 (omega arith) (omega arith) (λ q. omega (arith, q))
 
 -- STATE SIZE: what is saved has room in the size that docs/ names.
 pub state-size : promise.State-size
@@ -107,7 +107,7 @@ pub halting-ends : promise.Halting-ends
 unfolding runHalting
 halting-ends t f b w fs o st =
     ends-halting t f w fs o st (RunRefuses b) (haltingOutcome t f b) (subst (Answers t f (RunRefuses b)) (sym (halting-run t f b)) (run-outcome t f b))
-    (not-short w fs o st RunMay (run-unlisted 29 (omega arith) (λ q. omega (arith, q))) t f b (haltingOutcome t f b) (halting-comes t f b))
+    (not-short w fs o st RunMay (run-unlisted 29 (omega arith) (omega arith) (λ q. omega (arith, q))) t f b (haltingOutcome t f b) (halting-comes t f b))
 
 -- MORE BUDGET (P14): any answer but 24 stays, with every byte of the lent spaces.
 

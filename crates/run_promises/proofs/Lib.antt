@@ -5,6 +5,7 @@ pub mod HaltingCases
 pub mod HaltingPromises
 pub mod ResumeCases
 pub mod ResumePromises
+pub mod HeldPromises
 pub mod OwnGoals
 pub mod SavedPlaces
 pub mod SearchPromises

@@ -90,7 +90,7 @@ more-come (comes-ended o r) = comes-ended o (more-may o r)
 
 pub resume-comes : (t f s : List ℕ) (c : ℕ) (h : HaltingOutcome) → Resumes t f s c h → HaltingComes ResumeMay t f (stepsOf s + c) h
 unfolding number
-resume-comes t f s c h (over l) = comes-ended (refusal budgetTooLarge 0 0 0) (inl (inr refl))
+resume-comes t f s c h (over l) = comes-ended (refusal budgetTooLarge 0 0 0) (inl (inr (inl refl)))
 resume-comes t f s c h (in-table l x p e) = comes-ended (refusal x 1 p 0) (inl (inl (omega (arith, table-place t x p e .most))))
 resume-comes t f s c h (in-job l x p g) = comes-ended (refusal x 2 p 0) (inl (inl (omega (arith, Job-refused f x p g .most))))
 resume-comes t f s c h (forged l T j e g d) = comes-ended (refusal stateNotGenuine 0 0 0) (inr refl)

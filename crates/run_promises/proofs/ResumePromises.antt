@@ -128,7 +128,7 @@ module _ (t f s : List ℕ) (c : ℕ) (w : List ℕ) (fs : List LentFrame) (o st
   call = haltIn w fs o st
 
   abbrev Forged : Type 0
-  Forged = Enough w fs st × (stepsOf s + c ≤ 4096) × ((T : Table) × (j : Job) × (readTable t ≡ gives T) × (readJob f ≡ gives j) × (genuine T j s ≡ true → ⊥))
+  Forged = Enough w fs st × (stepsOf s + c ≤ mostSteps) × ((T : Table) × (j : Job) × (readTable t ≡ gives T) × (readJob f ≡ gives j) × (genuine T j s ≡ true → ⊥))
 
   module _ (l : Enough w fs st) where
     refusal-30 : (x : Cause) (file p : ℕ) → call (unbegun (refusal x file p 0)) .answer .number ≡ 30 → number x ≡ 30
@@ -138,7 +138,7 @@ module _ (t f s : List ℕ) (c : ℕ) (w : List ℕ) (fs : List LentFrame) (o st
     unfolding writeOut number
     run-30 n h (comes-halted x fit) z = let q = ap (λ (y : Halting). y .answer .number) (lent-enough w fs o st l h) in omega (arith, z, q)
     run-30 n h (comes-ended x r) z =
-        other-number w fs o st RunMay l x r 30 (run-unlisted 30 (omega arith) (λ q. omega (arith, q))) (λ q. omega (arith, q)) (λ q. omega (arith, q)) z
+        other-number w fs o st RunMay l x r 30 (run-unlisted 30 (omega arith) (omega arith) (λ q. omega (arith, q))) (λ q. omega (arith, q)) (λ q. omega (arith, q)) z
 
     to-forged : (h : HaltingOutcome) → Resumes t f s c h → call h .answer .number ≡ 30 → Forged
     unfolding number
@@ -163,22 +163,18 @@ not-genuine t f s c w fs o st = (by-spaces t f s c w fs o st (enough-or-not w fs
 
 -- WRITES, ENDS, MORE BUDGET
 resume-not-24 : ResumeMay 24 → ⊥
-resume-not-24 = resume-unlisted 24 (omega arith) (λ q. omega (arith, q)) (λ q. omega (arith, q))
+resume-not-24 = resume-unlisted 24 (omega arith) (omega arith) (λ q. omega (arith, q)) (λ q. omega (arith, q))
 
 pub resume-writes : promise.Resume-writes
 unfolding resumeRun
 resume-writes t f s c w fs o st = writes-state w fs o st ResumeMay resume-not-24 t f (stepsOf s + c) (resumeOutcome t f s c) (resume-comes t f s c (resumeOutcome t f s c) (resumes t f s c))
 
 module _ (t f s : List ℕ) (c : ℕ) where
-  run-refuses : (n file q k : ℕ) → RunRefuses (stepsOf s + c) n file q k → ResumeRefuses s c n file q k
-  run-refuses n file q k (a, b, inl r) = (a, b, inl r)
-  run-refuses n file q k (a, b, inr r) = (a, b, inr (inl (r .0), r .1))
-
   run-ended : (a : _) → EndedWriting t f (RunRefuses (stepsOf s + c)) a → EndedWriting t f (ResumeRefuses s c) a
   run-ended a (ended-wrote n k) = ended-wrote n k
   run-ended a (ended.EndedWriting.ended-table n q l m h) = ended.EndedWriting.ended-table n q l m h
   run-ended a (ended.EndedWriting.ended-other n q l m h) = ended.EndedWriting.ended-other n q l m h
-  run-ended a (ended.EndedWriting.ended-own n file q k r) = ended.EndedWriting.ended-own n file q k (run-refuses n file q k r)
+  run-ended a (ended.EndedWriting.ended-own n file q k r) = ended.EndedWriting.ended-own n file q k (inl r)
   run-ended a (ended-output k) = ended-output k
   run-ended a ended-unstarted = ended-unstarted
 
@@ -189,10 +185,10 @@ module _ (t f s : List ℕ) (c : ℕ) where
 
   resume-answers : (h : HaltingOutcome) → Resumes t f s c h → Answers t f (ResumeRefuses s c) (h .outcome)
   unfolding Answers number
-  resume-answers h (over l) = ended.EndedWriting.ended-own 25 0 0 0 (refl, refl, inr (inl refl, refl))
+  resume-answers h (over l) = ended.EndedWriting.ended-own 25 0 0 0 (inl (refl, refl, inr (inr (refl, l, refl))))
   resume-answers h (in-table l x p e) = let r = table-place t x p e in ended.EndedWriting.ended-table (number x) p (r .least) (r .most) (r .within)
   resume-answers h (in-job l x p g) = let r = Job-refused f x p g in ended.EndedWriting.ended-other (number x) p (r .least) (r .most) (r .within)
-  resume-answers h (forged l T j e g d) = ended.EndedWriting.ended-own 30 0 0 0 (refl, refl, inr (inr refl, refl))
+  resume-answers h (forged l T j e g d) = ended.EndedWriting.ended-own 30 0 0 0 (inr (refl, refl, refl, refl))
   resume-answers h (as-run l) =
       run-answers (h .outcome) (subst (Answers t f (RunRefuses (stepsOf s + c))) (sym (halting-run t f (stepsOf s + c))) (run-outcome t f (stepsOf s + c)))
 
@@ -200,7 +196,7 @@ pub resume-ends : promise.Resume-ends
 unfolding resumeRun
 resume-ends t f s c w fs o st =
     ends-halting t f w fs o st (ResumeRefuses s c) (resumeOutcome t f s c) (resume-answers t f s c (resumeOutcome t f s c) (resumes t f s c))
-    (not-short w fs o st ResumeMay (resume-unlisted 29 (omega arith) (λ q. omega (arith, q)) (λ q. omega (arith, q))) t f (stepsOf s + c) (resumeOutcome t f s c) (resume-comes t f s c (resumeOutcome t f s c) (resumes t f s c)))
+    (not-short w fs o st ResumeMay (resume-unlisted 29 (omega arith) (omega arith) (λ q. omega (arith, q)) (λ q. omega (arith, q))) t f (stepsOf s + c) (resumeOutcome t f s c) (resume-comes t f s c (resumeOutcome t f s c) (resumes t f s c)))
 
 module _ (t f s : List ℕ) (b c : ℕ) (l : b ≤ c) (k : stepsOf s + c ≤ mostSteps) where
   abbrev Same : Type 0

@@ -11,7 +11,7 @@ use borrow.Author.Tests.{lt-ltb, le-ltb}
 use Rattle.format.specs.declared.values.Goal.{Goal}
 use Rattle.format.specs.Encoding.{Bytes, GoalValues, TermValues}
 use Rattle.format.specs.Limits.{mostSteps}
-use Rattle.format.specs.Refusals.{Cause, number, joinedTooLong, tacticFailed, budgetSpent, budgetTooLarge}
+use Rattle.format.specs.Refusals.{Cause, number, joinedTooLong, fieldsTooMany, tacticFailed, budgetSpent, budgetTooLarge}
 use Rattle.format.specs.Results.{Result, gives, refused}
 use Rattle.format.specs.Terms.{Term}
 use Rattle.tables.specs.Tables.{Table, HasRule, UniqueRules, UniqueDefinitions}
@@ -24,12 +24,14 @@ use Rattle.files.specs.Within.{ProofWithin, JobWithin}
 use Rattle.files.proofs.ReadsJob.{reads-job}
 use Rattle.files.proofs.ReadsProof.{proof-back}
 use Rattle.files.proofs.RefusedFiles.{Job-refused}
-use Rattle.evaluation.specs.Ends.{End, proof, failure, overflow, Ends}
+use Rattle.evaluation.specs.Ends.{End, proof, failure, overflow, excess, FewHeld, Ends}
 use Rattle.evaluation.specs.EndingOf.{endingOf}
+use Rattle.evaluation.specs.RunSizes.{heldFields}
 use Rattle.evaluation.specs.Evaluates.{Evaluates}
 use Rattle.hitac.specs.Validates.{AtMost256, Validates}
 use Rattle.evaluation.proofs.BigStep.{ends-evaluates, evaluates-validates}
-use Rattle.evaluation.proofs.RunBounds.{proof-fields, proof-goals}
+use Rattle.evaluation.proofs.RunBounds.{proof-goals}
+use Rattle.evaluation.proofs.HeldBounds.{excess-late, run-held}
 use Rattle.hitac.proofs.ValidatesLaws.{validates-hiproof}
 use Rattle.evaluation.specs.Machine.{Place, Control, running, stopped, State, after, Running, run, start}
 use Rattle.evaluation.specs.Outcomes.{Ending, proved, failed, ended}
@@ -42,7 +44,7 @@ use Rattle.entries.specs.Run.{begins, runEnd, runResult, runOutcome, runWork, r
 use Rattle.promises.specs.Accepted.{Accepted}
 use Rattle.promises.specs.Ended as ended-specs
 use Rattle.promises.specs.Results.{resultOf, wroteAfter}
-use Rattle.run_promises.specs.RunPromises.{RunAnswers, Run-answers, Run-accepted, RunRefuses, Run-ends}
+use Rattle.run_promises.specs.RunPromises.{RunAnswers, Run-answers, Run-accepted, RunRefuses, Run-ends, Run-limit}
 use Rattle.promises.proofs.LentLaws.{Answers, ends-written}
 use Rattle.run_promises.proofs.RunWithin.{evaluated-values}
 
@@ -65,7 +67,7 @@ module _ (t f : List ℕ) (b : ℕ) (T : Table) (j : Job) (l : b ≤ mostSteps) 
   outcome = rw (le-ltb mostSteps b l, e, g)
 
   -- the outcome of a run that has ended
-  ended-so : (n : ℕ) (x : End) → Ends T (j .goals) (j .term) n x → n ≤ b → runOutcome t f b ≡ runEnd j n (stopped (endingOf x))
+  ended-so : (n : ℕ) (x : End) → Ends T FewHeld 0 (j .goals) (j .term) n x → n ≤ b → runOutcome t f b ≡ runEnd j n (stopped (endingOf x))
   unfolding runResult
   ended-so n x d h = outcome ∙ ap (runResult j) (run↔ends T rules definitions (at-job j) (j .term) (j .goals) b n x .1 (d, h))
 
@@ -74,7 +76,7 @@ module _ (t f : List ℕ) (b : ℕ) (T : Table) (j : Job) (l : b ≤ mostSteps) 
   unfolding runEnd
   still-running (running π u h w) r n = refl
 
-  spent-so : ((n : ℕ) (x : End) → Ends T (j .goals) (j .term) n x → n ≤ b → ⊥) → runOutcome t f b ≡ refusal budgetSpent 0 0 b
+  spent-so : ((n : ℕ) (x : End) → Ends T FewHeld 0 (j .goals) (j .term) n x → n ≤ b → ⊥) → runOutcome t f b ≡ refusal budgetSpent 0 0 b
   unfolding runResult
   spent-so none =
       let r = running↔no-end T rules definitions (at-job j) (j .term) (j .goals) b .1 none in
@@ -84,20 +86,24 @@ module _ (t f : List ℕ) (b : ℕ) (T : Table) (j : Job) (l : b ≤ mostSteps) 
   unfolding runTactic writeIn writeOut
   answer-of w o h c n q = rw (le-ltb (length w) runWork h, q)
 
-  writes : (n : ℕ) (s : Term) (h : List Goal) → Ends T (j .goals) (j .term) n (proof s h) → n ≤ b
+  writes : (n : ℕ) (s : Term) (h : List Goal) → Ends T FewHeld 0 (j .goals) (j .term) n (proof s h) → n ≤ b
       → (w o : List ℕ) → runWork ≤ length w → length (resultOf j s h) ≤ length o → runTactic t f b w o ≡ wroteAfter n (resultOf j s h) w o
   unfolding runTactic writeIn writeOut runEnd
   writes n s h d k w o x y = rw (ended-so n (proof s h) d k, le-ltb (length w) runWork x, le-ltb (length o) (length (resultOf j s h)) y)
 
-  fails : (n : ℕ) → Ends T (j .goals) (j .term) n failure → n ≤ b → (w o : List ℕ) → runWork ≤ length w → runTactic t f b w o .answer ≡ answer.refusal 23 0 0 n
+  fails : (n : ℕ) → Ends T FewHeld 0 (j .goals) (j .term) n failure → n ≤ b → (w o : List ℕ) → runWork ≤ length w → runTactic t f b w o .answer ≡ answer.refusal 23 0 0 n
   unfolding runEnd number
   fails n d k w o x = answer-of w o x tacticFailed n (ended-so n failure d k)
 
-  overflows : (n : ℕ) → Ends T (j .goals) (j .term) n overflow → n ≤ b → (w o : List ℕ) → runWork ≤ length w → runTactic t f b w o .answer ≡ answer.refusal 22 0 0 n
+  overflows : (n : ℕ) → Ends T FewHeld 0 (j .goals) (j .term) n overflow → n ≤ b → (w o : List ℕ) → runWork ≤ length w → runTactic t f b w o .answer ≡ answer.refusal 22 0 0 n
   unfolding runEnd number
   overflows n d k w o x = answer-of w o x joinedTooLong n (ended-so n overflow d k)
 
-  spends : ((n : ℕ) (x : End) → Ends T (j .goals) (j .term) n x → n ≤ b → ⊥) → (w o : List ℕ) → runWork ≤ length w → runTactic t f b w o .answer ≡ answer.refusal 24 0 0 b
+  exceeds : (n : ℕ) → Ends T FewHeld 0 (j .goals) (j .term) n excess → n ≤ b → (w o : List ℕ) → runWork ≤ length w → runTactic t f b w o .answer ≡ answer.refusal 40 0 0 n
+  unfolding runEnd number
+  exceeds n d k w o x = answer-of w o x fieldsTooMany n (ended-so n excess d k)
+
+  spends : ((n : ℕ) (x : End) → Ends T FewHeld 0 (j .goals) (j .term) n x → n ≤ b → ⊥) → (w o : List ℕ) → runWork ≤ length w → runTactic t f b w o .answer ≡ answer.refusal 24 0 0 b
   unfolding number
   spends none w o x = answer-of w o x budgetSpent b (spent-so none)
 
@@ -112,11 +118,16 @@ module _ (t f : List ℕ) (b : ℕ) (T : Table) (j : Job) (l : b ≤ mostSteps) 
   unfolding Answers
   own c n x y z = ended-specs.EndedWriting.ended-own (number c) 0 0 n (refl, refl, inl (x, y, z))
 
-  only-22 : (c : Cause) (x : End) → endingOf x ≡ ended c → (22 ≤ number c) × (number c ≤ 24)
+  late : (n : ℕ) → 4096 < n → n ≤ b → May (refusal fieldsTooMany 0 0 n)
+  unfolding Answers number
+  late n x z = ended-specs.EndedWriting.ended-own 40 0 0 n (refl, refl, inr (inl (refl, x, z)))
+
+  by-limit : (c : Cause) (n : ℕ) (x : End) → endingOf x ≡ ended c → Ends T FewHeld 0 (j .goals) (j .term) n x → n ≤ b → May (refusal c 0 0 n)
   unfolding number
-  only-22 c (proof s h) q = absurd (let z : _≡_ {A = ℕ} 0 1 = cc in omega arith)
-  only-22 c failure q = absurd (let z : _≡_ {A = ℕ} 0 1 = cc in omega arith)
-  only-22 c overflow q = let z : joinedTooLong ≡ c = cc in subst (λ (d : Cause). (22 ≤ number d) × (number d ≤ 24)) z (omega arith, omega arith)
+  by-limit c n (proof s h) q d l = absurd (let z : _≡_ {A = ℕ} 0 1 = cc in omega arith)
+  by-limit c n failure q d l = absurd (let z : _≡_ {A = ℕ} 0 1 = cc in omega arith)
+  by-limit c n overflow q d l = let z : joinedTooLong ≡ c = cc in subst (λ (x : Cause). May (refusal x 0 0 n)) z (own joinedTooLong n (omega arith) (omega arith) l)
+  by-limit c n excess q d l = let z : fieldsTooMany ≡ c = cc in subst (λ (x : Cause). May (refusal x 0 0 n)) z (late n (excess-late d) l)
 
   by-control : (κ : Control) → σ .control ≡ κ → May (runEnd j (σ .steps) κ)
   unfolding runEnd Answers number
@@ -125,19 +136,18 @@ module _ (t f : List ℕ) (b : ℕ) (T : Table) (j : Job) (l : b ≤ mostSteps) 
   by-control (stopped failed) q = own tacticFailed (σ .steps) (omega arith) (omega arith) steps-few
   by-control (stopped (ended c)) q =
       let r = run-ending T rules definitions (at-job j) (j .term) (j .goals) b (σ .steps) (ended c) (ap (λ (κ : Control). after (σ .steps) κ) q) in
-      let k = only-22 c (r .0) (r .1) in
-      own c (σ .steps) (k .0) (k .1) steps-few
+      by-limit c (σ .steps) (r .0) (r .1) (r .2) steps-few
 
   begun : May (runOutcome t f b)
   unfolding runResult
   begun = subst May (sym outcome) (by-control (σ .control) refl)
 
 pub run-answers : Run-answers
-run-answers t f b T j l e g = record { proves = writes t f b T j l e g; fails = fails t f b T j l e g; overflows = overflows t f b T j l e g; spends = spends t f b T j l e g }
+run-answers t f b T j l e g = record { proves = writes t f b T j l e g; fails = fails t f b T j l e g; overflows = overflows t f b T j l e g; exceeds = exceeds t f b T j l e g; spends = spends t f b T j l e g }
 
 -- accepted
 module _ (t f : List ℕ) (table-bytes : Bytes t) (job-bytes : Bytes f) (T : Table) (j : Job) (e : readTable t ≡ gives T) (g : readJob f ≡ gives j) where
-  module _ (n : ℕ) (s : Term) (h : List Goal) (d : Ends T (j .goals) (j .term) n (proof s h)) (l : n ≤ 4096) where
+  module _ (n : ℕ) (s : Term) (h : List Goal) (d : Ends T FewHeld 0 (j .goals) (j .term) n (proof s h)) where
     job-within : JobWithin j
     job-within = reads-job f j job-bytes .0 g .1
 
@@ -158,7 +168,7 @@ module _ (t f : List ℕ) (table-bytes : Bytes t) (job-bytes : Bytes f) (T : Tab
       few-goals = job-within .few-goals;
       goal-values = job-within .goal-values;
       hiproof = validates-hiproof validates;
-      few-fields = omega (arith, proof-fields T n (at-job j) (j .term) (j .goals) ran, l);
+      few-fields = subst (λ (σ : State). heldFields (σ .control) ≤ 4096) ran (run-held T n (at-job j) (j .term) (j .goals));
       term-values = values .0;
       few-remaining = proof-goals T n (at-job j) (j .term) (j .goals) (λ a γ k m. reads-few-premises t T e _ m) (job-within .few-goals) ran;
       remaining-values = values .1;
@@ -168,7 +178,7 @@ module _ (t f : List ℕ) (table-bytes : Bytes t) (job-bytes : Bytes f) (T : Tab
     accepted = record { the-table = T; the-proof = record { goals = j .goals; term = s; remaining = h }; table-reads = e; proof-reads = proof-back _ within; validates = validates }
 
 pub run-accepted : Run-accepted
-run-accepted t f table-bytes job-bytes T j e g n s h d l = accepted t f table-bytes job-bytes T j e g n s h d l
+run-accepted t f table-bytes job-bytes T j e g n s h d = accepted t f table-bytes job-bytes T j e g n s h d
 
 -- demand 1
 module _ (t f : List ℕ) (b : ℕ) where
@@ -187,9 +197,9 @@ module _ (t f : List ℕ) (b : ℕ) where
   unfolding runOutcome
   job-refused h T c q e g = rw (le-ltb mostSteps b h, e, g)
 
-  too-large : Ok (refusal budgetTooLarge 0 0 0)
+  too-large : mostSteps < b → Ok (refusal budgetTooLarge 0 0 0)
   unfolding Answers number
-  too-large = ended-specs.EndedWriting.ended-own 25 0 0 0 (refl, refl, inr (refl, refl))
+  too-large h = ended-specs.EndedWriting.ended-own 25 0 0 0 (refl, refl, inr (inr (refl, h, refl)))
 
   in-table : (c : Cause) (q : ℕ) → readTable t ≡ refused c q → Ok (refusal c 1 q 0)
   unfolding Answers
@@ -208,7 +218,7 @@ module _ (t f : List ℕ) (b : ℕ) where
   by-table h (refused c q) e = subst Ok (sym (table-refused h c q e)) (in-table c q e)
 
   by-budget : Dec (mostSteps < b) → Ok (runOutcome t f b)
-  by-budget (yes h) = subst Ok (sym (over-budget h)) too-large
+  by-budget (yes h) = subst Ok (sym (over-budget h)) (too-large h)
   by-budget (no h) = by-table (omega arith) (readTable t) refl
 
   pub run-outcome : Ok (runOutcome t f b)
@@ -217,3 +227,7 @@ module _ (t f : List ℕ) (b : ℕ) where
 pub run-ends : Run-ends
 unfolding runTactic
 run-ends t f b w o = ends-written t f w o (RunRefuses b) runWork (runOutcome t f b) (run-outcome t f b)
+
+pub run-limit : Run-limit
+unfolding runTactic writeIn writeOut number
+run-limit t f b w o enough h = rw (le-ltb (length w) runWork enough, over-budget t f b h)

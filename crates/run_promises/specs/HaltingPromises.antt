@@ -1,4 +1,4 @@
--- Document 02, P1, "Stepping for the debugger", for the entry run_halting, as statements about its definition.
+-- Document 02, P1, "Stepping for the debugger", and P12, "Longer runs", for the entry run_halting, as statements about its definition.
 use Prim.Native.Nat.{ℕ, _-_, _≤_}
 use mathlib.Core.Path.{_≡_}
 use mathlib.Core.List.{List, [], _++_}
@@ -22,7 +22,7 @@ use Rattle.run_promises.specs.RunPromises.{RunRefuses}
 
 -- each lent space for which docs/ names a size is long enough; "shorter is 29"
 abbrev pub Enough : (work : List ℕ) → List LentFrame → (state : List ℕ) → Type 0
-Enough w fs st = (1377292 ≤ length w) × (4096 ≤ length fs) × (86540 ≤ length st)
+Enough w fs st = (800268 ≤ length w) × (16384 ≤ length fs) × (160268 ≤ length st)
 
 -- after 29: everything as it was
 abbrev pub untouched : (work : List ℕ) → List LentFrame → (out state : List ℕ) → Halting
@@ -55,7 +55,7 @@ stateOf c st = c ++ replicate (savedSize - length c) 0 ++ drop savedSize st
 
 -- "as many as docs/ names" are enough, for every run that halts within the limit of steps
 abbrev pub State-size : Type 0
-State-size = (t f : List ℕ) (n : ℕ) → n ≤ 4096 → (x : HaltsAfter t f n) → length (contentsOf x) ≤ 86540
+State-size = (t f : List ℕ) (n : ℕ) → n ≤ 16384 → (x : HaltsAfter t f n) → length (contentsOf x) ≤ 160268
 
 -- what a halt with these bytes leaves: 24 with its steps, work space and frames all zero, the output space untouched, and the state
 abbrev pub haltedAfter : (steps : ℕ) → (contents : List ℕ) → (work : List ℕ) → List LentFrame → (out state : List ℕ) → Halting
@@ -63,7 +63,7 @@ haltedAfter n c w fs o st = record { answer = answer.refusal 24 0 0 n; work = re
 
 -- A run that has not ended after its budget is such a halt.
 abbrev pub Halting-halts : Type 0
-Halting-halts = (t f : List ℕ) (b : ℕ) (w : List ℕ) (fs : List LentFrame) (o st : List ℕ) → Enough w fs st → b ≤ 4096 → (x : HaltsAfter t f b)
+Halting-halts = (t f : List ℕ) (b : ℕ) (w : List ℕ) (fs : List LentFrame) (o st : List ℕ) → Enough w fs st → b ≤ 16384 → (x : HaltsAfter t f b)
     → runHalting t f b w fs o st ≡ haltedAfter b (contentsOf x) w fs o st
 
 -- "A halt is 24 ..; no other answer touches it."
@@ -96,5 +96,5 @@ Halting-ends = (t f : List ℕ) (b : ℕ) (w : List ℕ) (fs : List LentFrame) (
 
 -- P14: "any machine answer other than 24 under budget b is the answer, bytes and steps included, under every larger budget allowed"
 abbrev pub More-budget-halting : Type 0
-More-budget-halting = (t f : List ℕ) (b c : ℕ) (w : List ℕ) (fs : List LentFrame) (o st : List ℕ) → b ≤ c → c ≤ 4096 → (runHalting t f b w fs o st .answer .number ≡ 24 → ⊥)
+More-budget-halting = (t f : List ℕ) (b c : ℕ) (w : List ℕ) (fs : List LentFrame) (o st : List ℕ) → b ≤ c → c ≤ 16384 → (runHalting t f b w fs o st .answer .number ≡ 24 → ⊥)
     → runHalting t f c w fs o st ≡ runHalting t f b w fs o st

@@ -13,17 +13,17 @@ use Rattle.tables.specs.ReadTables.{readTable}
 use Rattle.hitac.specs.Validates.{AtMost256, AnyList}
 use Rattle.evaluation.specs.TacticArity.{tacticArity}
 use Rattle.hitac.specs.Arity.{Arity}
-use Rattle.evaluation.specs.Ends.{End, proof, Ends}
+use Rattle.evaluation.specs.Ends.{End, proof, FewHeld, Ends}
 use Rattle.evaluation.specs.Evaluates.{Evaluates}
 use Rattle.entries.specs.Run.{runTactic}
 
 -- a term has one end on its goals, after one number of steps
 abbrev pub One-end : Type 0
-One-end = (t : List ℕ) (T : Table) → readTable t ≡ gives T → (a : Term) (g : List Goal) (n m : ℕ) (e x : End) → Ends T g a n e → Ends T g a m x → (n ≡ m) × (e ≡ x)
+One-end = (t : List ℕ) (T : Table) → readTable t ≡ gives T → (a : Term) (g : List Goal) (n m : ℕ) (e x : End) → Ends T FewHeld 0 g a n e → Ends T FewHeld 0 g a m x → (n ≡ m) × (e ≡ x)
 
 -- a proof at the end is one of the paper's evaluations, with no joined list over 256 and no higher than the steps
 abbrev pub Run-evaluates : Type 0
-Run-evaluates = (T : Table) (a s : Term) (g h : List Goal) (n : ℕ) → Ends T g a n (proof s h) → Evaluates T AtMost256 n g a s h × Evaluates T AnyList n g a s h
+Run-evaluates = (T : Table) (a s : Term) (g h : List Goal) (n : ℕ) → Ends T FewHeld 0 g a n (proof s h) → Evaluates T AtMost256 n g a s h × Evaluates T AnyList n g a s h
 
 -- the arity by which a tensor is split is that of section 2.1, up to 256
 abbrev pub Arity-is : Type 0
@@ -31,4 +31,4 @@ Arity-is = (t : List ℕ) (T : Table) → readTable t ≡ gives T → (a : Term)
 
 -- what a run answers, and leaves in the lent spaces, under a budget that suffices, it does under every larger one
 abbrev pub More-budget : Type 0
-More-budget = (t f : List ℕ) (b c : ℕ) (w o : List ℕ) → b ≤ c → c ≤ 4096 → (runTactic t f b w o .answer .number ≡ 24 → ⊥) → runTactic t f c w o ≡ runTactic t f b w o
+More-budget = (t f : List ℕ) (b c : ℕ) (w o : List ℕ) → b ≤ c → c ≤ 16384 → (runTactic t f b w o .answer .number ≡ 24 → ⊥) → runTactic t f c w o ≡ runTactic t f b w o
