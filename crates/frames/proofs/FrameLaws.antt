@@ -14,7 +14,7 @@ use Rattle.tactics.proofs.NumberLaws.{same-long, only-long, long-same}
 use Rattle.frames.specs.declared.Frame.{Frame}
 use Rattle.frames.specs.Frames.{frameAt, putFrame}
 
-module _ (w : List ℕ) (at : ℕ) (f : Frame) (room : at + 13 < length w) where
+module _ (w : List ℕ) (at : ℕ) (f : Frame) (room : at + 21 < length w) where
   abbrev w₁ : List ℕ
   w₁ = putWord w at (f .kind)
 
@@ -31,7 +31,13 @@ module _ (w : List ℕ) (at : ℕ) (f : Frame) (room : at + 13 < length w) where
   w₅ = putLong w₄ (at + 8) (f .start)
 
   abbrev w₆ : List ℕ
-  w₆ = putWord w₅ (at + 12) (f .mark)
+  w₆ = putLong w₅ (at + 12) (f .mark)
+
+  abbrev w₇ : List ℕ
+  w₇ = putWord w₆ (at + 16) (f .held)
+
+  abbrev w₈ : List ℕ
+  w₈ = putLong w₇ (at + 18) (f .arena)
 
   o₁ : Only at (at + 2) w w₁
   o₁ = only-word w at (f .kind)
@@ -48,32 +54,46 @@ module _ (w : List ℕ) (at : ℕ) (f : Frame) (room : at + 13 < length w) where
   o₅ : Only (at + 8) (at + 12) w₄ w₅
   o₅ = only-wider (at + 8) (at + 8 + 4) _ _ w₄ w₅ (only-long w₄ (at + 8) (f .start)) (omega arith) (omega arith)
 
-  o₆ : Only (at + 12) (at + 14) w₅ w₆
-  o₆ = only-wider (at + 12) (at + 12 + 2) _ _ w₅ w₆ (only-word w₅ (at + 12) (f .mark)) (omega arith) (omega arith)
+  o₆ : Only (at + 12) (at + 16) w₅ w₆
+  o₆ = only-wider (at + 12) (at + 12 + 4) _ _ w₅ w₆ (only-long w₅ (at + 12) (f .mark)) (omega arith) (omega arith)
 
-  pub only-frame : Only at (at + 14) w (putFrame w at f)
+  o₇ : Only (at + 16) (at + 18) w₆ w₇
+  o₇ = only-wider (at + 16) (at + 16 + 2) _ _ w₆ w₇ (only-word w₆ (at + 16) (f .held)) (omega arith) (omega arith)
+
+  o₈ : Only (at + 18) (at + 22) w₇ w₈
+  o₈ = only-wider (at + 18) (at + 18 + 4) _ _ w₇ w₈ (only-long w₇ (at + 18) (f .arena)) (omega arith) (omega arith)
+
+  pub only-frame : Only at (at + 22) w (putFrame w at f)
   unfolding putFrame
   only-frame =
-      only-then at (at + 14) w w₁ _ (only-wider at (at + 2) at (at + 14) w w₁ o₁ (omega arith) (omega arith))
-      (only-then at (at + 14) w₁ w₂ _ (only-wider (at + 2) (at + 4) at (at + 14) w₁ w₂ o₂ (omega arith) (omega arith))
-      (only-then at (at + 14) w₂ w₃ _ (only-wider (at + 4) (at + 6) at (at + 14) w₂ w₃ o₃ (omega arith) (omega arith))
-      (only-then at (at + 14) w₃ w₄ _ (only-wider (at + 6) (at + 8) at (at + 14) w₃ w₄ o₄ (omega arith) (omega arith))
-      (only-then at (at + 14) w₄ w₅ _ (only-wider (at + 8) (at + 12) at (at + 14) w₄ w₅ o₅ (omega arith) (omega arith))
-      (only-wider (at + 12) (at + 14) at (at + 14) w₅ w₆ o₆ (omega arith) (omega arith))))))
+      only-then at (at + 22) w w₁ _ (only-wider at (at + 2) at (at + 22) w w₁ o₁ (omega arith) (omega arith))
+      (only-then at (at + 22) w₁ w₂ _ (only-wider (at + 2) (at + 4) at (at + 22) w₁ w₂ o₂ (omega arith) (omega arith))
+      (only-then at (at + 22) w₂ w₃ _ (only-wider (at + 4) (at + 6) at (at + 22) w₂ w₃ o₃ (omega arith) (omega arith))
+      (only-then at (at + 22) w₃ w₄ _ (only-wider (at + 6) (at + 8) at (at + 22) w₃ w₄ o₄ (omega arith) (omega arith))
+      (only-then at (at + 22) w₄ w₅ _ (only-wider (at + 8) (at + 12) at (at + 22) w₄ w₅ o₅ (omega arith) (omega arith))
+      (only-then at (at + 22) w₅ w₆ _ (only-wider (at + 12) (at + 16) at (at + 22) w₅ w₆ o₆ (omega arith) (omega arith))
+      (only-then at (at + 22) w₆ w₇ _ (only-wider (at + 16) (at + 18) at (at + 22) w₆ w₇ o₇ (omega arith) (omega arith))
+      (only-wider (at + 18) (at + 22) at (at + 22) w₇ w₈ o₈ (omega arith) (omega arith))))))))
 
-  late₅ : Same 0 (at + 12) w₅ w₆
-  late₅ = λ i l h. o₆ .kept .below i h
+  late₇ : Same 0 (at + 18) w₇ w₈
+  late₇ = λ i l h. o₈ .kept .below i h
 
-  late₄ : Same 0 (at + 8) w₄ w₆
+  late₆ : Same 0 (at + 16) w₆ w₈
+  late₆ = λ i l h. late₇ i l (omega arith) ∙ o₇ .kept .below i h
+
+  late₅ : Same 0 (at + 12) w₅ w₈
+  late₅ = λ i l h. late₆ i l (omega arith) ∙ o₆ .kept .below i h
+
+  late₄ : Same 0 (at + 8) w₄ w₈
   late₄ = λ i l h. late₅ i l (omega arith) ∙ o₅ .kept .below i h
 
-  late₃ : Same 0 (at + 6) w₃ w₆
+  late₃ : Same 0 (at + 6) w₃ w₈
   late₃ = λ i l h. late₄ i l (omega arith) ∙ o₄ .kept .below i h
 
-  late₂ : Same 0 (at + 4) w₂ w₆
+  late₂ : Same 0 (at + 4) w₂ w₈
   late₂ = λ i l h. late₃ i l (omega arith) ∙ o₃ .kept .below i h
 
-  late₁ : Same 0 (at + 2) w₁ w₆
+  late₁ : Same 0 (at + 2) w₁ w₈
   late₁ = λ i l h. late₂ i l (omega arith) ∙ o₂ .kept .below i h
 
   n₁ : length w₁ ≡ length w
@@ -91,14 +111,22 @@ module _ (w : List ℕ) (at : ℕ) (f : Frame) (room : at + 13 < length w) where
   n₅ : length w₅ ≡ length w
   n₅ = o₅ .same-length ∙ n₄
 
+  n₆ : length w₆ ≡ length w
+  n₆ = o₆ .same-length ∙ n₅
+
+  n₇ : length w₇ ≡ length w
+  n₇ = o₇ .same-length ∙ n₆
+
   -- a frame is read back where it was stored
   pub frame-same : frameAt (putFrame w at f) at ≡ f
   unfolding frameAt putFrame
   frame-same =
-      let e₁ : word w₆ at ≡ f .kind = same-word w₁ w₆ 0 (at + 2) at late₁ (omega arith) (omega arith) ∙ word-same w at (f .kind) (omega arith) in
-      let e₂ : word w₆ (at + 2) ≡ f .file = same-word w₂ w₆ 0 (at + 4) (at + 2) late₂ (omega arith) (omega arith) ∙ word-same w₁ (at + 2) (f .file) (omega (arith, n₁)) in
-      let e₃ : word w₆ (at + 4) ≡ f .at = same-word w₃ w₆ 0 (at + 6) (at + 4) late₃ (omega arith) (omega arith) ∙ word-same w₂ (at + 4) (f .at) (omega (arith, n₂)) in
-      let e₄ : word w₆ (at + 6) ≡ f .count = same-word w₄ w₆ 0 (at + 8) (at + 6) late₄ (omega arith) (omega arith) ∙ word-same w₃ (at + 6) (f .count) (omega (arith, n₃)) in
-      let e₅ : long w₆ (at + 8) ≡ f .start = same-long w₅ w₆ 0 (at + 12) (at + 8) late₅ (omega arith) (omega arith) ∙ long-same w₄ (at + 8) (f .start) (omega (arith, n₄)) in
-      let e₆ : word w₆ (at + 12) ≡ f .mark = word-same w₅ (at + 12) (f .mark) (omega (arith, n₅)) in
-      λ i. record { kind = e₁ i; file = e₂ i; at = e₃ i; count = e₄ i; start = e₅ i; mark = e₆ i }
+      let e₁ : word w₈ at ≡ f .kind = same-word w₁ w₈ 0 (at + 2) at late₁ (omega arith) (omega arith) ∙ word-same w at (f .kind) (omega arith) in
+      let e₂ : word w₈ (at + 2) ≡ f .file = same-word w₂ w₈ 0 (at + 4) (at + 2) late₂ (omega arith) (omega arith) ∙ word-same w₁ (at + 2) (f .file) (omega (arith, n₁)) in
+      let e₃ : word w₈ (at + 4) ≡ f .at = same-word w₃ w₈ 0 (at + 6) (at + 4) late₃ (omega arith) (omega arith) ∙ word-same w₂ (at + 4) (f .at) (omega (arith, n₂)) in
+      let e₄ : word w₈ (at + 6) ≡ f .count = same-word w₄ w₈ 0 (at + 8) (at + 6) late₄ (omega arith) (omega arith) ∙ word-same w₃ (at + 6) (f .count) (omega (arith, n₃)) in
+      let e₅ : long w₈ (at + 8) ≡ f .start = same-long w₅ w₈ 0 (at + 12) (at + 8) late₅ (omega arith) (omega arith) ∙ long-same w₄ (at + 8) (f .start) (omega (arith, n₄)) in
+      let e₆ : long w₈ (at + 12) ≡ f .mark = same-long w₆ w₈ 0 (at + 16) (at + 12) late₆ (omega arith) (omega arith) ∙ long-same w₅ (at + 12) (f .mark) (omega (arith, n₅)) in
+      let e₇ : word w₈ (at + 16) ≡ f .held = same-word w₇ w₈ 0 (at + 18) (at + 16) late₇ (omega arith) (omega arith) ∙ word-same w₆ (at + 16) (f .held) (omega (arith, n₆)) in
+      let e₈ : long w₈ (at + 18) ≡ f .arena = long-same w₇ (at + 18) (f .arena) (omega (arith, n₇)) in
+      λ i. record { kind = e₁ i; file = e₂ i; at = e₃ i; count = e₄ i; start = e₅ i; mark = e₆ i; held = e₇ i; arena = e₈ i }

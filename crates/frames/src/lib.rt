@@ -1,4 +1,4 @@
-// The terms that wait, as frames of 14 bytes in work space.
+// The terms that wait, as frames of 22 bytes in work space.
 // Document 01, "Running a tactic": what waits while a term is run.
 ghost use mathlib.Core.Path.{_≡_};
 ghost use Prim.Native.Nat.{_+_, _<_};
@@ -22,18 +22,21 @@ pub const TENSOR_RIGHT: u16 = 5;
 
 pub const ALTERNATION_LEFT: u16 = 6;
 
-// A term that waits: its kind, the file and the place of its right term, the goals that it keeps, and where its field begins in the hiproof so far.
+// A term that waits: its kind, the file and the place of its right term, and the goals that it keeps; and from the moment at which it began, where its field
+// begins in the hiproof so far, the fields held, and the end of the goals.
 pub struct Frame {
     pub kind: u16,
     pub file: u16,
     pub at: u16,
     pub count: u16,
     pub start: usize,
-    pub mark: u16,
+    pub mark: usize,
+    pub held: u16,
+    pub arena: usize,
 }
 
 pub fn load_frame(work: &[u8], at: usize) -> Frame
-    requires { ⌜ at + 13 < length (now work) ⌝ }
+    requires { ⌜ at + 21 < length (now work) ⌝ }
     ensures { λ r. ⌜ r ≡ frameAt (now (work .entry)) at ⌝ }
 {
     Frame {
@@ -42,12 +45,14 @@ pub fn load_frame(work: &[u8], at: usize) -> Frame
         at: load16(work, at + 4),
         count: load16(work, at + 6),
         start: load32(work, at + 8),
-        mark: load16(work, at + 12),
+        mark: load32(work, at + 12),
+        held: load16(work, at + 16),
+        arena: load32(work, at + 18),
     }
 }
 
 pub fn store_frame(work: &mut [u8], at: usize, f: Frame)
-    requires { ⌜ (at + 13 < length (now work)) × (f .start < 4294967296) ⌝ }
+    requires { ⌜ (at + 21 < length (now work)) × (f .start < 4294967296) × (f .mark < 4294967296) × (f .arena < 4294967296) ⌝ }
     ensures { λ _. ⌜ now (work .exit) ≡ putFrame (now (work .entry)) at f ⌝ }
 {
     store16(work, at, f.kind);
@@ -55,5 +60,7 @@ pub fn store_frame(work: &mut [u8], at: usize, f: Frame)
     store16(work, at + 4, f.at);
     store16(work, at + 6, f.count);
     store32(work, at + 8, f.start);
-    store16(work, at + 12, f.mark);
+    store32(work, at + 12, f.mark);
+    store16(work, at + 16, f.held);
+    store32(work, at + 18, f.arena);
 }

@@ -15,7 +15,8 @@ use Rattle.format.specs.declared.values.RuleName.{RuleName}
 use Rattle.format.specs.declared.values.Goal.{Goal}
 use Rattle.format.specs.declared.values.TacticNo.{TacticNo}
 use Rattle.format.specs.Goals.{goalsAt}
-use Rattle.format.specs.Terms.{Term, atomic, tensor, defined, size}
+use Rattle.format.specs.Limits.{mostHeld}
+use Rattle.format.specs.Terms.{Term, atomic, tensor, defined, size, fields}
 use Rattle.format.specs.Standing.{Head, Stands}
 use Rattle.format.proofs.GoalsLaws.{length-goalsAt}
 use Rattle.format.proofs.GoalsAt.{take-goals, drop-goals, goals-paste}
@@ -27,9 +28,8 @@ use Rattle.tables.specs.Tables.{Table}
 use Rattle.tables.specs.Standing.{TableStands}
 use Rattle.tables.specs.Found.{ruleFound, FindsRule, BodyStands, BodyPlaced, FindsBody}
 use Rattle.tables.specs.Places.{bodyPlace}
-use Rattle.evaluation.specs.Outcomes.{splitAt, finished, foundPremises, ruleGives}
-use Rattle.evaluation.specs.Machine.{past, tensorLeft}
-use Rattle.arities.specs.Layout.{outputEnd}
+use Rattle.evaluation.specs.Outcomes.{Ending, splitAt, finished, foundPremises, ruleGives}
+use Rattle.evaluation.specs.Machine.{past, tensorLeft, held}
 use Rattle.arities.specs.Arities.{arityCode}
 use Rattle.tactics.specs.Memory.{Same, Only}
 use Rattle.tactics.specs.Numbers.{putHeader}
@@ -41,10 +41,11 @@ use Rattle.tactics.specs.Source.{source}
 use Rattle.frames.specs.Frames.{putFrame}
 use Rattle.machine.specs.declared.state.State.{State}
 use Rattle.machine.specs.Shows.{GoalsIs, FrameIs, Ends, Config, next, done, Holds}
-use Rattle.machine.specs.Begun.{enter, Room, Begins, BeginsIn, failed, entered, tensorNext, tensorFrame, atomicNext, ruleNext, used, definedNext, unfolded}
+use Rattle.machine.specs.Begun.{enter, Room, Begins, BeginsIn, failed, exceeded, entered, tensorNext, tensorFrame, atomicNext, ruleNext, used, definedNext, unfolded}
 use Rattle.machine.specs.Step.{Grown}
 use Rattle.machine.proofs.KeepLaws.{kept-behind, frames-kept}
-use Rattle.machine.proofs.BeginLaws.{place-on, fail-holds, fail-begins, fail-grown, goals-stay, frames-stay, beyond-output, only-push, goals-under, push-here, enter-grown, enter-sizes}
+use Rattle.machine.proofs.HeldLaws.{within-fits, within-over}
+use Rattle.machine.proofs.BeginLaws.{holds-none, place-on, fail-holds, fail-begins, fail-grown, lose-grown, exceed-begins, goals-stay, frames-stay, beyond-output, only-push, goals-under, push-here, enter-grown, enter-sizes}
 
 -- the number that stands for an arity
 code-none : (o : Option ℕ) (n : ℕ) → n ≡ arityCode o → n ≡ 0 → o ≡ none
@@ -83,13 +84,13 @@ module _ (w : List ℕ) (s : State) (room : Room w s) where
       → ((t u : Term) → right ≡ s .at + 3 + size t → Begins w s v r (tensor t u) (tensorNext (some (n - 1)) t u)) → Grown w s v r → Tensors right n v r
   tensor-split right n v r z b gr = (λ o t u e a. subst (λ (x : Option ℕ). Begins w s v r (tensor t u) (tensorNext x t u)) (sym (code-some o n a z)) (b t u e), gr)
 
-  pub split-end : (right n : ℕ) (v : List ℕ) → n ≤ s .count → v ≡ putFrame (putHeader w (s .out) 20 0) (s .top - 14) (tensorFrame s right n)
+  pub split-end : (right n : ℕ) (v : List ℕ) → n ≤ s .count → v ≡ putFrame (putHeader w (s .out) 20 0) (s .top - 22) (tensorFrame s right n)
       → ((t u : Term) → right ≡ s .at + 3 + size t → Begins w s v (entered s 3 n (s .out + 3)) (tensor t u) (tensorNext (some n) t u)) × Grown w s v (entered s 3 n (s .out + 3))
   unfolding Holds FrameIs Stands
   split-end right n v c q =
       let y = putHeader w (s .out) 20 0 in
       let f = tensorFrame s right n in
-      let z = putFrame y (s .top - 14) f in
+      let z = putFrame y (s .top - 22) f in
       let r = entered s 3 n (s .out + 3) in
       let only = only-header w (s .out) 20 0 in
       let push = only-push w s room y (only .same-length) f in
@@ -111,20 +112,35 @@ module _ (w : List ℕ) (s : State) (room : Room w s) where
               place-is = place-on s π 3 (s .at + 3) (h .place-is) refl;
               stands = h .stands .1;
               goals = left;
-              frames = push-here w s room y (only .same-length) f table job (s .out + 3) (tensorLeft (past π (3 + size t)) u (drop n g)) k refl
+              frames = push-here w s room y (only .same-length) f table job (s .out + 3) (tensorLeft (past π (3 + size t)) u (drop n g)) k refl refl refl (h .held-is) (h .sizes)
                   (frames-stay w s room y 3 only (omega arith) table job k (h .frames))
                   (refl, refl, tag, subst (λ (p : ℕ). Stands (source table job (s .file)) p u) (sym e) (h .stands .2), others, place-on s π (3 + size t) right (h .place-is) (omega (arith, e)));
-              sizes = enter-sizes w s room (tensorLeft (past π (3 + size t)) u (drop n g)) k 3 n (s .out + 3) (h .sizes) (omega arith) (omega arith);
+              held-is = h .held-is ∙ sym (holds-none (tensorLeft (past π (3 + size t)) u (drop n g)) k refl);
+              sizes = enter-sizes w s room 3 n (s .out + 3) (h .sizes) (omega arith);
             }),
         enter-grown w s room y (only .same-length) f (beyond-output w s room y 3 only (omega arith)) 3 n (s .out + 3),
       )
 
+  one-atomic : (a : RuleName) → fields (atomic a) ≡ 1
+  unfolding fields
+  one-atomic a = refl
+
+  -- a rule whose field cannot be held
+  pub use-exceeds : (b : List ℕ) (place n name : ℕ) (r : State) → mostHeld ≤ s .held → r ≡ exceeded s
+      → ((a : RuleName) → name ≡ a .0 → Begins w s w r (atomic a) (atomicNext a (some (goalsAt b place n)))) × Grown w s w r
+  use-exceeds b place n name r full q = (
+    λ a e. exceed-begins w s room (atomic a) (atomicNext a (some (goalsAt b place n)))
+        (λ π g k i h. ap (λ (x : Ending). done x k) (within-over (held k) (atomic a) (goalsAt b place n) (omega (arith, one-atomic a, full, i)))) r q,
+    lose-grown w s room 4 r q,
+  )
+
   -- a rule used
-  pub use-end : (b : List ℕ) (place n name : ℕ) (y₁ y v : List ℕ) → outputEnd ≤ s .arena → n ≤ 8 → place + n * 2 ≤ length b
+  pub use-end : (b : List ℕ) (place n name : ℕ) (y₁ y v : List ℕ) → s .held < mostHeld → n ≤ 8 → place + n * 2 ≤ length b
       → y₁ ≡ putHeader w (s .out) 16 2 → y ≡ putWord y₁ (s .out + 3) name → v ≡ paste y (s .arena) (drop place b) (n * 2)
       → ((a : RuleName) → name ≡ a .0 → Begins w s v (used s n) (atomic a) (atomicNext a (some (goalsAt b place n)))) × Grown w s v (used s n)
   unfolding Holds Ends Stands size
-  use-end b place n name y₁ y v low few inside q₁ q₂ q₃ =
+  use-end b place n name y₁ y v fits few inside q₁ q₂ q₃ =
+      let low = room .goals-low in
       let only₁ : Only (s .out) (s .out + 3) w y₁ = subst (λ (x : List ℕ). Only (s .out) (s .out + 3) w x) (sym q₁) (only-header w (s .out) 16 2) in
       let only₂ : Only (s .out + 3) (s .out + 3 + 2) y₁ y = subst (λ (x : List ℕ). Only (s .out + 3) (s .out + 3 + 2) y₁ x) (sym q₂) (only-word y₁ (s .out + 3) name) in
       let only : Only (s .out) (s .out + 5) w y = only-then (s .out) (s .out + 5) w y₁ y
@@ -144,17 +160,26 @@ module _ (w : List ℕ) (s : State) (room : Room w s) where
       let val : word v (s .out + 3) ≡ name =
       same-word y v 0 (s .out + 5) (s .out + 3) out-same (omega arith) (omega arith) ∙ ap (λ (x : List ℕ). word x (s .out + 3)) q₂
       ∙ word-same y₁ (s .out + 3) name (omega (arith, l₁, room .output-fits, room .space)) in (
-        λ a e table job π g k h. record {
-          mode-is = refl;
-          from = s .out;
-          stands = (head, val ∙ e);
-          out-is = refl;
-          goals = record { low = low; high = omega arith; few = omega (arith, few); are = there };
-          frames = frames-kept y v (s .arena) (s .arena + n * 2) (omega arith) table job k (s .top) (s .out)
-              (kept-behind (s .arena) (s .arena + n * 2) (s .out) (s .arena) (s .top) y v only₃ (omega (arith, low, room .output-fits)) (omega arith) (omega (arith, few, room .goals-fit, room .frames-low)))
-              (frames-stay w s room y 5 only (omega arith) table job k (h .frames));
-          sizes = record { output-fits = omega (arith, h .sizes .output-fits); goals-fit = omega (arith, h .sizes .goals-fit, few); frames-fit = omega (arith, h .sizes .frames-fit) };
-        },
+        λ a e table job π g k h. subst (λ (x : Ending). Ends table job v (used s n) x k) (sym (within-fits (held k) (atomic a) (goalsAt b place n) (omega (arith, one-atomic a, fits, h .held-is))))
+            (record {
+              mode-is = refl;
+              from = s .out;
+              stands = (head, val ∙ e);
+              out-is = refl;
+              goals = record { low = low; high = omega arith; few = omega (arith, few); are = there };
+              few-goals = omega (arith, few, one-atomic a);
+              frames = frames-kept y v (s .arena) (s .arena + n * 2) (omega arith) table job k (s .top) (s .out)
+                  (kept-behind (s .arena) (s .arena + n * 2) (s .out) (s .arena) (s .top) y v only₃ (omega (arith, low, room .output-fits)) (omega arith) (omega (arith, few, room .goals-fit, room .frames-low)))
+                  (frames-stay w s room y 5 only (omega arith) table job k (h .frames));
+              held-is = omega (arith, one-atomic a, h .held-is);
+              sizes = record {
+                output-fits = omega (arith, h .sizes .output-fits);
+                held-fits = omega (arith, fits);
+                goals-low = omega (arith, low);
+                goals-fit = omega (arith, h .sizes .goals-fit, few);
+                frames-fit = omega (arith, h .sizes .frames-fit);
+              };
+            }),
         record {
           beyond = λ i b. only₃ .kept .above i (omega (arith, few, room .goals-fit)) ∙ beyond-output w s room y 5 only (omega arith) i b;
           same-length = only₃ .same-length ∙ ly;
@@ -169,7 +194,7 @@ module _ (w : List ℕ) (s : State) (room : Room w s) where
 
     pub rule-fails : (r : State) → (s .count ≡ 1 → ⊥) → r ≡ failed s → UsesRule w r
     rule-fails r c q = (
-      λ T a st e. fail-begins w s room (atomic a) (ruleNext T a) (λ π g k h. by-none w (s .start) (s .count) (ruleGives T a) (λ o. done (finished (atomic a) o) k) g (h .are) (not-one-at w (s .start) _ (s .count) c)) r q,
+      λ T a st e. fail-begins w s room (atomic a) (ruleNext T a) (λ π g k h. by-none w (s .start) (s .count) (ruleGives T a) (λ o. done (finished (held k) (atomic a) o) k) g (h .are) (not-one-at w (s .start) _ (s .count) c)) r q,
       fail-grown w s room r q,
     )
 
@@ -178,7 +203,7 @@ module _ (w : List ℕ) (s : State) (room : Room w s) where
       unfolding ruleFound
       rule-missing r m q = (
         λ T a st i. fail-begins w s room (atomic a) (ruleNext T a)
-            (λ π g k h. ap (λ (x : Option (List Goal)). done (finished (atomic a) x) k) (rule-gives bytes first name goal o f w (s .start) (s .count) c e T a g st i (h .are) ∙ ap (λ (x : RuleFound). foundPremises (ruleFound bytes x)) m)) r q,
+            (λ π g k h. ap (λ (x : Option (List Goal)). done (finished (held k) (atomic a) x) k) (rule-gives bytes first name goal o f w (s .start) (s .count) c e T a g st i (h .are) ∙ ap (λ (x : RuleFound). foundPremises (ruleFound bytes x)) m)) r q,
         fail-grown w s room r q,
       )
 
@@ -186,7 +211,7 @@ module _ (w : List ℕ) (s : State) (room : Room w s) where
         pub rule-used : (v : List ℕ) (r : State) → ((a : RuleName) → name .0 ≡ a .0 → Begins w s v r (atomic a) (atomicNext a (some (goalsAt bytes place n)))) → Grown w s v r → UsesRule v r
         unfolding ruleFound
         rule-used v r b gr = (
-          λ T a st i table job π g k h. subst (λ (x : Option (List Goal)). Holds table job v r (done (finished (atomic a) x) k))
+          λ T a st i table job π g k h. subst (λ (x : Option (List Goal)). Holds table job v r (done (finished (held k) (atomic a) x) k))
               (sym (rule-gives bytes first name goal o f w (s .start) (s .count) c e T a g st i (h .goals .are) ∙ ap (λ (x : RuleFound). foundPremises (ruleFound bytes x)) m)) (b a i table job π g k h),
           gr,
         )
@@ -215,7 +240,14 @@ module _ (w : List ℕ) (s : State) (room : Room w s) where
             stands = b .2;
             goals = h .goals;
             frames = h .frames;
-            sizes = record { output-fits = omega (arith, h .sizes .output-fits); goals-fit = omega (arith, h .sizes .goals-fit); frames-fit = omega (arith, h .sizes .frames-fit) };
+            held-is = h .held-is;
+            sizes = record {
+              output-fits = omega (arith, h .sizes .output-fits);
+              held-fits = h .sizes .held-fits;
+              goals-low = h .sizes .goals-low;
+              goals-fit = h .sizes .goals-fit;
+              frames-fit = omega (arith, h .sizes .frames-fit);
+            };
           }),
       record { beyond = λ i b. refl; same-length = refl; one-step = refl },
     )

@@ -1,4 +1,5 @@
--- A tensor's right term proved its goals: the lists are joined in the bytes that the frame kept aside, and the field is closed; or they are too long.
+-- A tensor's right term proved its goals: the lists are joined in the place of all goals since the tensor began, and the field is closed; or they are too long, or
+-- one more field cannot be held.
 -- Assumes nothing.
 use Prim.Native.Nat.{ℕ, _+_, _*_, _-_, _≤_, _<_}
 use mathlib.Core.Path.{_≡_, refl, sym, ap, ap₂, subst, _∙_}
@@ -10,24 +11,28 @@ use borrow.Author.Tests.{le-leb, lt-leb}
 use Rattle.words.specs.Word.{putWord}
 use Rattle.words.proofs.WordLaws.{word-same}
 use Rattle.format.specs.declared.values.Goal.{Goal}
+use Rattle.format.specs.Limits.{mostHeld}
 use Rattle.format.specs.Refusals.{joinedTooLong}
-use Rattle.format.specs.Terms.{Term, tensor, size}
+use Rattle.format.specs.Terms.{Term, tensor, size, fields}
 use Rattle.format.specs.Standing.{Head, Stands}
 use Rattle.format.proofs.GoalsLaws.{length-goalsAt}
-use Rattle.evaluation.specs.Outcomes.{Ending, proved, ended, joinedFits, besideLeft}
+use Rattle.files.proofs.Sizes.{size-most}
+use Rattle.evaluation.specs.Outcomes.{Ending, proved, ended, within, joinedFits, besideLeft}
 use Rattle.evaluation.specs.Machine as M
-use Rattle.evaluation.specs.Machine.{tensorRight}
-use Rattle.arities.specs.Layout.{outputEnd, goalsEnd, framesEnd}
+use Rattle.evaluation.specs.Machine.{tensorRight, held}
+use Rattle.arities.specs.Layout.{outputEnd, goalsEnd}
 use Rattle.tactics.specs.Memory.{Only}
-use Rattle.tactics.specs.Goals.{Gathered}
+use Rattle.tactics.specs.Goals.{Joined}
 use Rattle.tactics.proofs.MemoryLaws.{only-word, same-term, same-goals}
 use Rattle.frames.specs.declared.Frame.{Frame}
 use Rattle.frames.specs.Frames.{frameAt}
 use Rattle.machine.specs.declared.state.State.{State}
-use Rattle.machine.specs.Shows.{GoalsIs, FrameIs, FramesAt, setAside, Proved, Ends, Holds}
-use Rattle.machine.specs.Popping.{pop, Fits, Smaller, Waiting, Popped, joined, overflowed}
+use Rattle.machine.specs.Shows.{GoalsIs, FrameIs, Began, FramesAt, Sizes, overflows, exceeds, Proved, Lost, Ends, Holds}
+use Rattle.machine.specs.Popping.{pop, Fits, Smaller, Waiting, Popped, joined, endedBy}
 use Rattle.machine.proofs.KeepLaws.{kept-output, kept-behind, frames-kept}
-use Rattle.machine.proofs.WaitingLaws.{by-kind, if-proved, waiting-fits, innermost}
+use Rattle.machine.proofs.WaitingLaws.{by-kind, if-proved, under, waiting-fits, innermost}
+use Rattle.machine.proofs.HeldLaws.{within-fits, within-over}
+use Rattle.machine.proofs.PopLaws.{lost-under, leave-smaller}
 
 -- what the code needs to know before it joins
 pub record Joins (w : List ℕ) (s : State) (f : Frame) : Type 0 where
@@ -36,7 +41,9 @@ pub record Joins (w : List ℕ) (s : State) (f : Frame) : Type 0 where
   pub left-high : f .start + f .count * 2 ≤ s .arena
   pub right-high : s .start + s .count * 2 ≤ s .arena
   pub closes : f .mark + 3 ≤ s .out
-  pub low : outputEnd ≤ s .arena
+  pub short : s .out < f .mark + 3 + 65536
+  pub low : outputEnd ≤ f .arena
+  pub before : f .arena ≤ s .arena
   pub room : s .arena + 512 ≤ goalsEnd
 
 module _ (w : List ℕ) (s : State) (wait : Waiting w s) (m : s .mode ≡ 1) (f : Frame) (e : f ≡ frameAt w (s .top)) (n : f .kind ≡ 5) where
@@ -51,16 +58,19 @@ module _ (w : List ℕ) (s : State) (wait : Waiting w s) (m : s .mode ≡ 1) (f 
     pub tag : getD w (f .mark) 0 ≡ 20
     pub left : Stands w (f .mark + 3) q
     pub gave : GoalsIs w (s .arena) (f .start) (f .count) i
-    pub frames : FramesAt table job w (s .arena) k (s .top + 14) (f .mark)
-    pub output-fits : s .out ≤ 5 * s .steps
-    pub goals-fit : s .arena + 512 + setAside k + 248 ≤ outputEnd + 512 + 264 * s .steps
-    pub frames-fit : framesEnd ≤ s .top + 14 * s .steps
+    pub left-goals : f .count ≤ 8 * fields q
+    pub right-goals : s .count ≤ 8 * fields p
+    pub frames : FramesAt table job w (f .arena) k (s .top + 22) (f .mark)
+    pub began : Began f (s .arena) k
+    pub held-is : s .held ≡ fields q + held k + fields p
+    pub sizes : Sizes s
+    pub lost : (mode : ℕ) → Lost mode table job w (endedBy mode s) k
 
   -- a statement of every ending and every frame is one of a proof and a tensor whose right term ended
   if-beside : (P : Ending → M.Frame → Type 0) (table job : List ℕ) (k : List M.Frame)
       → ((π : M.Place) (q : Term) (i : List Goal) (p : Term) (g : List Goal) → Beside table job q i p g k → P (proved p g) (tensorRight π q i))
       → (z : Ending) (x : M.Frame) → Ends table job w s z (x ∷ k) → P z x
-  unfolding FrameIs setAside
+  unfolding FrameIs Ends held
   if-beside P table job k h z x ends =
       if-proved table job w s (x ∷ k) (λ y. P y x) m
       (λ p g a. let t = innermost table job w s f (a .from) x k e (a .frames) in
@@ -72,10 +82,13 @@ module _ (w : List ℕ) (s : State) (wait : Waiting w s) (m : s .mode ≡ 1) (f 
         tag = o .2;
         left = o .3;
         gave = o .4;
+        left-goals = o .6;
+        right-goals = a .few-goals;
         frames = t .rest;
-        output-fits = b .sizes .output-fits;
-        goals-fit = omega (arith, b .sizes .goals-fit);
-        frames-fit = b .sizes .frames-fit;
+        began = t .began;
+        held-is = b .held-is;
+        sizes = b .sizes;
+        lost = λ mode. lost-under w s mode table job x k (under table job w s (proved p g) (x ∷ k) a);
       })) x (sym n ∙ t .kind) a (t .frame)) z ends
 
   pub joins : Joins w s f
@@ -85,8 +98,10 @@ module _ (w : List ℕ) (s : State) (wait : Waiting w s) (m : s .mode ≡ 1) (f 
     left-high = b .gave .high;
     right-high = b .goals .high;
     closes = omega (arith, b .out-is);
-    low = omega (arith, b .goals .low, b .goals .high);
-    room = omega (arith, b .goals-fit, wait .few-steps);
+    short = omega (arith, b .out-is, size-most p, size-most q, b .held-is, b .sizes .held-fits);
+    low = b .began .goals-low;
+    before = b .began .goals-before;
+    room = fits .goals-fit;
   }) (wait .ending) (wait .frame) (wait .ends)
 
   counted : (i g : List Goal) → GoalsIs w (s .arena) (f .start) (f .count) i → GoalsIs w (s .arena) (s .start) (s .count) g → length (i ++ g) ≡ f .count + s .count
@@ -95,31 +110,38 @@ module _ (w : List ℕ) (s : State) (wait : Waiting w s) (m : s .mode ≡ 1) (f 
       let y : length g ≡ s .count = sym (ap length (b .are)) ∙ length-goalsAt (s .count) w (s .start) in
       length-append i g ∙ ap₂ (λ (j k : ℕ). j + k) x y
 
-  joined-or-not : (q p : Term) (i g : List Goal) (t : Bool) → joinedFits (i ++ g) ≡ t → besideLeft q i (proved p g) ≡ cond t (proved (tensor q p) (i ++ g)) (ended joinedTooLong)
-  joined-or-not q p i g t h = ap (λ (b : Bool). cond b (proved (tensor q p) (i ++ g)) (ended joinedTooLong)) h
+  joined-or-not : (kept : ℕ) (q p : Term) (i g : List Goal) (t : Bool) → joinedFits (i ++ g) ≡ t
+      → besideLeft kept q i (proved p g) ≡ cond t (within kept (tensor q p) (i ++ g)) (ended joinedTooLong)
+  joined-or-not kept q p i g t h = ap (λ (b : Bool). cond b (within kept (tensor q p) (i ++ g)) (ended joinedTooLong)) h
 
-  pub overflow-end : (r : State) → 256 < f .count + s .count → r ≡ overflowed s → Popped w s w r × Smaller w s w r
+  -- too many goals
+  pub overflow-end : (r : State) → 256 < f .count + s .count → r ≡ endedBy 3 s → Popped w s w r × Smaller w s w r
   unfolding Ends Holds pop
   overflow-end r c o =
       subst (λ (y : State). Popped w s w y × Smaller w s w y) (sym o) (
-        λ table job z x k h. if-beside (λ y j. Holds table job w (overflowed s) (pop y j k)) table job k
+        λ table job z x k h. if-beside (λ y j. Holds table job w (endedBy 3 s) (pop y j k)) table job k
             (λ π q i p g b.
-            subst (λ (y : Ending). Ends table job w (overflowed s) y k)
-            (sym (joined-or-not q p i g false (lt-leb (length (i ++ g)) 256 (omega (arith, c, counted i g (b .gave) (b .goals))))))
-            (record {
-              cause-is = refl;
-              lost = record {
-                mode-is = refl;
-                from = f .mark;
-                below = omega (arith, b .out-is);
-                frames = b .frames;
-                sizes = record { output-fits = b .output-fits; goals-fit = omega (arith, b .goals-fit); frames-fit = omega (arith, b .frames-fit) };
-              };
-            })) z x h,
-        record { beyond = λ i b. refl; same-length = refl; same-steps = refl; further = λ x. omega arith },
+            subst (λ (y : Ending). Ends table job w (endedBy 3 s) y k)
+            (sym (joined-or-not (held k) q p i g false (lt-leb (length (i ++ g)) 256 (omega (arith, c, counted i g (b .gave) (b .goals))))))
+            (record { limit = overflows; lost = b .lost 3 })) z x h,
+        leave-smaller w s 3,
       )
 
-  module _ (c : f .count + s .count ≤ 256) (y : List ℕ) (ga : Gathered w y (s .arena) (f .start) (f .count) (s .start) (s .count)) where
+  -- not too many: a field more than may be held
+  pub exceed-end : (r : State) → f .count + s .count ≤ 256 → mostHeld ≤ s .held → r ≡ endedBy 4 s → Popped w s w r × Smaller w s w r
+  unfolding Ends Holds pop fields
+  exceed-end r c over o =
+      subst (λ (y : State). Popped w s w y × Smaller w s w y) (sym o) (
+        λ table job z x k h. if-beside (λ y j. Holds table job w (endedBy 4 s) (pop y j k)) table job k
+            (λ π q i p g b.
+            subst (λ (y : Ending). Ends table job w (endedBy 4 s) y k)
+            (sym (joined-or-not (held k) q p i g true (le-leb (length (i ++ g)) 256 (omega (arith, c, counted i g (b .gave) (b .goals))))
+            ∙ within-over (held k) (tensor q p) (i ++ g) (omega (arith, over, b .held-is))))
+            (record { limit = exceeds; lost = b .lost 4 })) z x h,
+        leave-smaller w s 4,
+      )
+
+  module _ (c : f .count + s .count ≤ 256) (under-most : s .held < mostHeld) (y : List ℕ) (jo : Joined w y (f .arena) (s .arena) (f .start) (f .count) (s .start) (s .count)) where
     abbrev len : ℕ
     len = s .out - f .mark - 3
 
@@ -127,10 +149,10 @@ module _ (w : List ℕ) (s : State) (wait : Waiting w s) (m : s .mode ≡ 1) (f 
     v = putWord y (f .mark + 1) len
 
     abbrev arena′ : ℕ
-    arena′ = s .arena + (f .count + s .count) * 2
+    arena′ = f .arena + (f .count + s .count) * 2
 
-    o₁ : Only (s .arena) arena′ w y
-    o₁ = ga .only
+    o₁ : Only (f .arena) (s .arena + (f .count + s .count) * 2) w y
+    o₁ = jo .only
 
     o₂ : Only (f .mark + 1) (f .mark + 1 + 2) y v
     o₂ = only-word y (f .mark + 1) len
@@ -153,28 +175,30 @@ module _ (w : List ℕ) (s : State) (wait : Waiting w s) (m : s .mode ≡ 1) (f 
           inside = omega (arith, size-same, o, fits .output-fits, fits .space);
         }
 
-    goals-there : (i g : List Goal) → GoalsIs w (s .arena) (f .start) (f .count) i → GoalsIs w (s .arena) (s .start) (s .count) g → GoalsIs v arena′ (s .arena) (f .count + s .count) (i ++ g)
+    goals-there : (i g : List Goal) → GoalsIs w (s .arena) (f .start) (f .count) i → GoalsIs w (s .arena) (s .start) (s .count) g → GoalsIs v arena′ (f .arena) (f .count + s .count) (i ++ g)
     goals-there i g a b = record {
       low = joins .low;
       high = omega arith;
       few = c;
-      are = same-goals y v (f .count + s .count) (s .arena) (λ j l r. o₂ .kept .above j (omega (arith, joins .low, joins .closes, fits .output-fits)))
-          ∙ ga .goals ∙ ap₂ (λ (x z : List Goal). x ++ z) (a .are) (b .are);
+      are = same-goals y v (f .count + s .count) (f .arena) (λ j l r. o₂ .kept .above j (omega (arith, joins .low, joins .closes, fits .output-fits)))
+          ∙ jo .goals ∙ ap₂ (λ (x z : List Goal). x ++ z) (a .are) (b .are);
     }
 
-    frames-there : (table job : List ℕ) (k : List M.Frame) → FramesAt table job w (s .arena) k (s .top + 14) (f .mark) → FramesAt table job v arena′ k (s .top + 14) (f .mark)
+    frames-there : (table job : List ℕ) (k : List M.Frame) → FramesAt table job w (f .arena) k (s .top + 22) (f .mark) → FramesAt table job v arena′ k (s .top + 22) (f .mark)
     frames-there table job k h =
-        frames-kept y v arena′ arena′ (omega arith) table job k (s .top + 14) (f .mark)
-        (kept-output (f .mark + 1) (f .mark + 1 + 2) (f .mark) arena′ (s .top + 14) y v o₂ (omega arith) (omega (arith, joins .closes, fits .output-fits)) (omega (arith, fits .frames-low)))
-        (frames-kept w y (s .arena) arena′ (omega arith) table job k (s .top + 14) (f .mark)
-        (kept-behind (s .arena) arena′ (f .mark) (s .arena) (s .top + 14) w y o₁ (omega (arith, joins .closes, fits .output-fits, joins .low)) (omega arith) (omega (arith, joins .room, c, fits .frames-low))) h)
+        frames-kept y v (f .arena) arena′ (omega arith) table job k (s .top + 22) (f .mark)
+        (kept-output (f .mark + 1) (f .mark + 1 + 2) (f .mark) (f .arena) (s .top + 22) y v o₂ (omega arith) (omega (arith, joins .closes, fits .output-fits)) (omega (arith, fits .frames-low)))
+        (frames-kept w y (f .arena) (f .arena) (omega arith) table job k (s .top + 22) (f .mark)
+        (kept-behind (f .arena) (s .arena + (f .count + s .count) * 2) (f .mark) (f .arena) (s .top + 22) w y o₁
+        (omega (arith, joins .closes, fits .output-fits, joins .low)) (omega arith) (omega (arith, joins .room, c, fits .frames-low))) h)
 
     join-popped : Popped w s v (joined s f)
-    unfolding Ends Holds pop Stands size
+    unfolding Ends Holds pop Stands size fields
     join-popped table job z x k h = if-beside (λ y j. Holds table job v (joined s f) (pop y j k)) table job k
         (λ π q i p g b.
         subst (λ (y : Ending). Ends table job v (joined s f) y k)
-        (sym (joined-or-not q p i g true (le-leb (length (i ++ g)) 256 (omega (arith, c, counted i g (b .gave) (b .goals))))))
+        (sym (joined-or-not (held k) q p i g true (le-leb (length (i ++ g)) 256 (omega (arith, c, counted i g (b .gave) (b .goals))))
+        ∙ within-fits (held k) (tensor q p) (i ++ g) (omega (arith, under-most, b .held-is))))
         (record {
           mode-is = refl;
           from = f .mark;
@@ -185,8 +209,16 @@ module _ (w : List ℕ) (s : State) (wait : Waiting w s) (m : s .mode ≡ 1) (f 
           );
           out-is = omega (arith, b .out-is);
           goals = goals-there i g (b .gave) (b .goals);
+          few-goals = omega (arith, b .left-goals, b .right-goals);
           frames = frames-there table job k (b .frames);
-          sizes = record { output-fits = b .output-fits; goals-fit = omega (arith, b .goals-fit, c); frames-fit = omega (arith, b .frames-fit) };
+          held-is = omega (arith, b .held-is);
+          sizes = record {
+            output-fits = b .sizes .output-fits;
+            held-fits = omega (arith, under-most);
+            goals-low = omega (arith, joins .low);
+            goals-fit = omega (arith, b .began .goals-fit, b .began .held-is, b .held-is, b .left-goals, b .right-goals);
+            frames-fit = omega (arith, b .sizes .frames-fit);
+          };
         })) z x h
 
     pub join-end : (x : List ℕ) → x ≡ v → Popped w s x (joined s f) × Smaller w s x (joined s f)

@@ -1,5 +1,6 @@
 pub mod KeepLaws
 pub mod WaitingLaws
+pub mod HeldLaws
 pub mod PopLaws
 pub mod TurnLaws
 pub mod JoinLaws

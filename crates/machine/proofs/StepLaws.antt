@@ -67,7 +67,9 @@ module _ (bytes : List ℕ) (first : ℕ) (src w : List ℕ) (s : State) where
         record {
           steps-left = q .steps-left;
           output-fits = omega (arith, q .steps-left, z .output-fits);
-          goals-fit = omega (arith, q .steps-left, z .goals-fit);
+          goals-low = z .goals-low;
+          goals-fit = omega (arith, z .held-fits, z .goals-fit);
+          held-fits = z .held-fits;
           frames-low = omega (arith, q .steps-left, z .frames-fit);
           frames-high = frames-top bytes (q .job) w (s .arena) (q .frames) (s .top) (s .out) (q .runs .frames);
           space = q .space;

@@ -1,6 +1,6 @@
 -- A left term proved its goals and the right one is next: the frame stays and is stored anew with the goals given, all else lies below it or above it.
 -- Assumes nothing.
-use Prim.Native.Nat.{ℕ, _+_, _≤_}
+use Prim.Native.Nat.{ℕ, _+_, _≤_, _<_}
 use mathlib.Core.Path.{_≡_, refl, sym, subst, _∙_}
 use mathlib.Core.List.{List, _∷_}
 use native.Mathlib.Omega.{arith}
@@ -10,7 +10,7 @@ use Rattle.format.specs.Terms.{Term, size}
 use Rattle.format.specs.Standing.{Stands}
 use Rattle.evaluation.specs.Outcomes.{proved}
 use Rattle.evaluation.specs.Machine as M
-use Rattle.evaluation.specs.Machine.{sequenceRight, tensorRight}
+use Rattle.evaluation.specs.Machine.{sequenceRight, tensorRight, held}
 use Rattle.arities.specs.Layout.{goalsEnd}
 use Rattle.tactics.specs.Memory.{Only}
 use Rattle.tactics.proofs.MemoryLaws.{same-term}
@@ -18,10 +18,10 @@ use Rattle.frames.specs.declared.Frame.{Frame}
 use Rattle.frames.specs.Frames.{frameAt, putFrame}
 use Rattle.frames.proofs.FrameLaws.{only-frame, frame-same}
 use Rattle.machine.specs.declared.state.State.{State}
-use Rattle.machine.specs.Shows.{GoalsIs, FrameIs, FramesAt, setAside, Proved, Ends, Holds}
+use Rattle.machine.specs.Shows.{GoalsIs, FrameIs, Began, FramesAt, Sizes, Proved, Ends, Holds}
 use Rattle.machine.specs.Popping.{pop, Fits, Smaller, Waiting, Popped, turn, turned, beside}
 use Rattle.machine.proofs.KeepLaws.{kept-behind, goals-kept, frames-kept}
-use Rattle.machine.proofs.WaitingLaws.{by-kind, if-proved, waiting-fits, waiting-top, innermost}
+use Rattle.machine.proofs.WaitingLaws.{by-kind, if-proved, waiting-fits, waiting-top, waiting-mark, waiting-began, innermost}
 
 module _ (w : List ℕ) (s : State) (wait : Waiting w s) (m : s .mode ≡ 1) where
   fits : Fits w s
@@ -33,11 +33,28 @@ module _ (w : List ℕ) (s : State) (wait : Waiting w s) (m : s .mode ≡ 1) whe
       if-proved (wait .table) (wait .job) w s (wait .frame ∷ wait .frames) (λ z. (s .count ≤ 256) × (s .start ≤ goalsEnd)) m
       (λ p g a. (a .goals .few, omega (arith, a .goals .high, fits .goals-fit))) (wait .ending) (wait .ends)
 
+  -- what is stored with the frame is small
+  pub stored-small : (f : Frame) → f ≡ frameAt w (s .top) → (s .start < 4294967296) × (f .mark < 4294967296) × (f .arena < 4294967296)
+  stored-small f e =
+      let small : (frameAt w (s .top) .mark < 4294967296) × (frameAt w (s .top) .arena < 4294967296) = (
+        omega (arith, waiting-mark w s wait, fits .output-fits),
+        omega (arith, waiting-began w s wait .goals-before, fits .goals-fit),
+      ) in
+      let both = subst (λ (y : Frame). (y .mark < 4294967296) × (y .arena < 4294967296)) (sym e) small in
+      (omega (arith, given-small), both .0, both .1)
+
+  -- the numbers stay
+  sizes-turn : (f : Frame) → Sizes s → Sizes (turn s f)
+  sizes-turn f z = record { output-fits = z .output-fits; held-fits = z .held-fits; goals-low = z .goals-low; goals-fit = z .goals-fit; frames-fit = z .frames-fit }
+
+  sizes-beside : (f : Frame) → Sizes s → Sizes (beside s f)
+  sizes-beside f z = record { output-fits = z .output-fits; held-fits = z .held-fits; goals-low = z .goals-low; goals-fit = z .goals-fit; frames-fit = z .frames-fit }
+
   module _ (f : Frame) (e : f ≡ frameAt w (s .top)) (kind : ℕ) where
     abbrev v : List ℕ
     v = putFrame w (s .top) (turned kind s f)
 
-    only : Only (s .top) (s .top + 14) w v
+    only : Only (s .top) (s .top + 22) w v
     only = only-frame w (s .top) (turned kind s f) (omega (arith, waiting-top w s wait, fits .space))
 
     back : frameAt v (s .top) ≡ turned kind s f
@@ -53,16 +70,25 @@ module _ (w : List ℕ) (s : State) (wait : Waiting w s) (m : s .mode ≡ 1) whe
     tag-stays : (tag : ℕ) → f .mark ≤ s .out → getD w (f .mark) 0 ≡ tag → getD v (f .mark) 0 ≡ tag
     tag-stays tag b t = only .kept .below (f .mark) (omega (arith, b, fits .output-fits, fits .frames-low)) ∙ t
 
-    frames-stay : (table job : List ℕ) (x : M.Frame) (k : List M.Frame) → f .mark ≤ s .out → FramesAt table job w (s .arena) k (s .top + 14) (f .mark)
+    frames-stay : (table job : List ℕ) (x : M.Frame) (k : List M.Frame) → f .mark ≤ s .out → Began f (s .arena) k → FramesAt table job w (f .arena) k (s .top + 22) (f .mark)
         → FrameIs table job v (s .arena) (turned kind s f) (s .out) x → FramesAt table job v (s .arena) (x ∷ k) (s .top) (s .out)
     unfolding FramesAt
-    frames-stay table job x k b h one =
-        let rest : FramesAt table job v (s .arena) k (s .top + 14) (f .mark) =
-        frames-kept w v (s .arena) (s .arena) (omega arith) table job k (s .top + 14) (f .mark)
-        (kept-behind (s .top) (s .top + 14) (f .mark) (s .arena) (s .top + 14) w v only
-        (omega (arith, fits .frames-low, fits .output-fits, b)) (omega (arith, fits .goals-fit, fits .frames-low)) (omega arith)) h in (
+    frames-stay table job x k b began h one =
+        let before : f .arena ≤ s .arena = began .goals-before in
+        let rest : FramesAt table job v (f .arena) k (s .top + 22) (f .mark) =
+        frames-kept w v (f .arena) (f .arena) (omega arith) table job k (s .top + 22) (f .mark)
+        (kept-behind (s .top) (s .top + 22) (f .mark) (f .arena) (s .top + 22) w v only
+        (omega (arith, fits .frames-low, fits .output-fits, b)) (omega (arith, before, fits .goals-fit, fits .frames-low)) (omega arith)) h in
+        let same : Began (turned kind s f) (s .arena) k = record {
+          held-is = began .held-is;
+          held-fits = began .held-fits;
+          goals-fit = began .goals-fit;
+          goals-low = began .goals-low;
+          goals-before = began .goals-before;
+        } in (
           subst (λ (y : Frame). FrameIs table job v (s .arena) y (s .out) x) (sym back) one,
-          subst (λ (y : Frame). FramesAt table job v (s .arena) k (s .top + 14) (y .mark)) (sym back) rest,
+          subst (λ (y : Frame). FramesAt table job v (y .arena) k (s .top + 22) (y .mark)) (sym back) rest,
+          subst (λ (y : Frame). Began y (s .arena) k) (sym back) same,
         )
 
     smaller : (r : State) → r .steps ≡ s .steps → r .mode ≡ 0 → Smaller w s v r
@@ -70,7 +96,7 @@ module _ (w : List ℕ) (s : State) (wait : Waiting w s) (m : s .mode ≡ 1) whe
 
     -- the right term of a sequence, on the goals that its left gave
     turns : f .kind ≡ 2 → kind ≡ 3 → Popped w s v (turn s f)
-    unfolding Ends Holds pop FrameIs setAside
+    unfolding Ends Holds pop FrameIs held
     turns n y table job z x k h =
         if-proved table job w s (x ∷ k) (λ j. Holds table job v (turn s f) (pop j x k)) m
         (λ p g a. let i = innermost table job w s f (a .from) x k e (a .frames) in
@@ -80,19 +106,20 @@ module _ (w : List ℕ) (s : State) (wait : Waiting w s) (m : s .mode ≡ 1) whe
           place-is = t .4;
           stands = t .3;
           goals = goals-stay (s .start) (s .count) g (b .goals);
-          frames = frames-stay table job (sequenceRight π p) k (omega (arith, t .1, a .out-is)) (i .rest) (
+          frames = frames-stay table job (sequenceRight π p) k (omega (arith, t .1, a .out-is)) (i .began) (i .rest) (
             y,
             omega (arith, t .1, a .out-is),
             tag-stays 19 (omega (arith, t .1, a .out-is)) (t .2),
             term-stays p (f .mark + 3) (omega (arith, t .1, a .out-is)) (subst (λ (o : ℕ). Stands w o p) (t .1) (a .stands)),
             t .4,
           );
-          sizes = record { output-fits = b .sizes .output-fits; goals-fit = omega (arith, b .sizes .goals-fit); frames-fit = b .sizes .frames-fit };
+          held-is = omega (arith, b .held-is);
+          sizes = sizes-turn f (b .sizes);
         }) x (sym n ∙ i .kind) a (i .frame)) z h
 
     -- the right term of a tensor, on its own goals
     besides : f .kind ≡ 4 → kind ≡ 5 → Popped w s v (beside s f)
-    unfolding Ends Holds pop FrameIs setAside
+    unfolding Ends Holds pop FrameIs held
     besides n y table job z x k h =
         if-proved table job w s (x ∷ k) (λ j. Holds table job v (beside s f) (pop j x k)) m
         (λ p g a. let i = innermost table job w s f (a .from) x k e (a .frames) in
@@ -102,15 +129,17 @@ module _ (w : List ℕ) (s : State) (wait : Waiting w s) (m : s .mode ≡ 1) whe
           place-is = t .5;
           stands = t .3;
           goals = goals-stay (f .start) (f .count) j (t .4);
-          frames = frames-stay table job (tensorRight π p g) k (omega (arith, t .1, a .out-is)) (i .rest) (
+          frames = frames-stay table job (tensorRight π p g) k (omega (arith, t .1, a .out-is)) (i .began) (i .rest) (
             y,
             omega (arith, t .1, a .out-is),
             tag-stays 20 (omega (arith, t .1, a .out-is)) (t .2),
             term-stays p (f .mark + 3) (omega (arith, t .1, a .out-is)) (subst (λ (o : ℕ). Stands w o p) (t .1) (a .stands)),
             goals-stay (s .start) (s .count) g (b .goals),
             t .5,
+            a .few-goals,
           );
-          sizes = record { output-fits = b .sizes .output-fits; goals-fit = omega (arith, b .sizes .goals-fit); frames-fit = b .sizes .frames-fit };
+          held-is = omega (arith, b .held-is);
+          sizes = sizes-beside f (b .sizes);
         }) x (sym n ∙ i .kind) a (i .frame)) z h
 
   module _ (f : Frame) (e : f ≡ frameAt w (s .top)) (y : List ℕ) where

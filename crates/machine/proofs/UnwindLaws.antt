@@ -12,7 +12,7 @@ use Rattle.machine.specs.declared.state.State.{State}
 use Rattle.machine.specs.Shows.{FramesAt, Ends, Config, next, done, Holds, Shows}
 use Rattle.machine.specs.Popping.{pop, settle, Smaller, Fewer, Waiting, Popped, Unwinding, Unwound}
 use Rattle.machine.proofs.KeepLaws.{frame-top}
-use Rattle.machine.proofs.WaitingLaws.{under}
+use Rattle.machine.proofs.WaitingLaws.{limit-mode, under}
 use Rattle.machine.proofs.PopLaws.{settle-pop}
 
 -- what is left to unwind comes to the same
@@ -47,7 +47,7 @@ module _ (w : List ℕ) (s : State) where
   unfolding Ends
   not-running table job (proved p g) k h m = omega (arith, m, h .mode-is)
   not-running table job failed k h m = omega (arith, m, h .mode-is)
-  not-running table job (ended c) k h m = omega (arith, m, h .lost .mode-is)
+  not-running table job (ended c) k h m = omega (arith, m, limit-mode (s .mode) c (h .limit))
 
   pub after-done : (table job : List ℕ) (c : Config) → Holds table job w s c → (s .mode ≡ 0 → ⊥) → Reached table job w s (settle c)
   unfolding Holds settle

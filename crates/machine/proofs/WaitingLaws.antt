@@ -10,7 +10,7 @@ use lib.Dec.{eqb}
 use lib.ListN.{length}
 use Rattle.format.specs.declared.values.Goal.{Goal}
 use Rattle.format.specs.declared.values.Label.{Label}
-use Rattle.format.specs.Limits.{mostSteps}
+use Rattle.format.specs.Limits.{mostSteps, mostHeld}
 use Rattle.format.specs.Refusals.{Cause}
 use Rattle.format.specs.Terms.{Term}
 use Rattle.evaluation.specs.Outcomes.{Ending, proved, failed, ended}
@@ -20,9 +20,9 @@ use Rattle.arities.specs.Layout.{spaceEnd, framesEnd}
 use Rattle.frames.specs.declared.Frame.{Frame}
 use Rattle.frames.specs.Frames.{frameAt}
 use Rattle.machine.specs.declared.state.State.{State}
-use Rattle.machine.specs.Shows.{FrameIs, FramesAt, Sizes, Proved, Lost, Overflowed, Ends}
+use Rattle.machine.specs.Shows.{FrameIs, FramesAt, Began, Sizes, LimitMode, overflows, exceeds, Proved, Lost, Limited, Ends}
 use Rattle.machine.specs.Popping.{Fits, Waiting, Unwinding}
-use Rattle.machine.proofs.KeepLaws.{frames-top, frame-mark}
+use Rattle.machine.proofs.KeepLaws.{frames-top, frame-top, frame-mark}
 
 -- the kind of the frame of a waiting term
 unfoldable pub kindOf : M.Frame → ℕ
@@ -61,21 +61,32 @@ by-kind P k c (tensorLeft π u g) e = subst (Case P) e c π u g
 by-kind P k c (tensorRight π s g) e = subst (Case P) e c π s g
 by-kind P k c (alternationLeft π u g) e = subst (Case P) e c π u g
 
+-- a limit is neither a proof nor a failure
+pub limit-mode : (mode : ℕ) (c : Cause) → LimitMode mode c → 3 ≤ mode
+limit-mode _ _ overflows = omega arith
+limit-mode _ _ exceeds = omega arith
+
+limit-not-proved : (mode : ℕ) (c : Cause) → LimitMode mode c → mode ≡ 1 → ⊥
+limit-not-proved mode c l m = omega (arith, m, limit-mode mode c l)
+
+limit-not-failed : (mode : ℕ) (c : Cause) → LimitMode mode c → mode ≡ 2 → ⊥
+limit-not-failed mode c l m = omega (arith, m, limit-mode mode c l)
+
 -- which ending it is
 module _ (table job w : List ℕ) (s : State) (k : List M.Frame) (P : Ending → Type 0) where
   pub if-proved : s .mode ≡ 1 → ((p : Term) (g : List Goal) → Proved table job w s p g k → P (proved p g)) → (e : Ending) → Ends table job w s e k → P e
   unfolding Ends
   if-proved m f (proved p g) h = f p g h
   if-proved m f failed h = absurd (omega (arith, m, h .mode-is))
-  if-proved m f (ended c) h = absurd (omega (arith, m, h .lost .mode-is))
+  if-proved m f (ended c) h = absurd (limit-not-proved (s .mode) c (h .limit) m)
 
   pub if-failed : s .mode ≡ 2 → (Lost 2 table job w s k → P failed) → (e : Ending) → Ends table job w s e k → P e
   unfolding Ends
   if-failed m f (proved p g) h = absurd (omega (arith, m, h .mode-is))
   if-failed m f failed h = f h
-  if-failed m f (ended c) h = absurd (omega (arith, m, h .lost .mode-is))
+  if-failed m f (ended c) h = absurd (limit-not-failed (s .mode) c (h .limit) m)
 
-  pub if-ended : (s .mode ≡ 1 → ⊥) → (s .mode ≡ 2 → ⊥) → ((c : Cause) → Overflowed table job w s c k → P (ended c)) → (e : Ending) → Ends table job w s e k → P e
+  pub if-ended : (s .mode ≡ 1 → ⊥) → (s .mode ≡ 2 → ⊥) → ((c : Cause) → Limited table job w s c k → P (ended c)) → (e : Ending) → Ends table job w s e k → P e
   unfolding Ends
   if-ended a b f (proved p g) h = absurd (a (h .mode-is))
   if-ended a b f failed h = absurd (b (h .mode-is))
@@ -86,7 +97,7 @@ pub record Under (table job w : List ℕ) (s : State) (k : List M.Frame) : Type 
   pub from : ℕ
   pub below : from ≤ s .out
   pub frames : FramesAt table job w (s .arena) k (s .top) from
-  pub sizes : Sizes s k 248
+  pub sizes : Sizes s
 
 pub under : (table job w : List ℕ) (s : State) (e : Ending) (k : List M.Frame) → Ends table job w s e k → Under table job w s k
 unfolding Ends
@@ -97,7 +108,8 @@ under table job w s (ended c) k h = record { from = h .lost .from; below = h .lo
 under-fits : (table job w : List ℕ) (s : State) (k : List M.Frame) → s .steps ≤ mostSteps → spaceEnd ≤ length w → Under table job w s k → Fits w s
 under-fits table job w s k few room u = record {
   output-fits = omega (arith, few, u .sizes .output-fits);
-  goals-fit = omega (arith, few, u .sizes .goals-fit);
+  goals-low = u .sizes .goals-low;
+  goals-fit = omega (arith, u .sizes .held-fits, u .sizes .goals-fit);
   frames-low = omega (arith, few, u .sizes .frames-fit);
   frames-high = frames-top table job w (s .arena) k (s .top) (u .from) (u .frames);
   space = room;
@@ -113,9 +125,16 @@ module _ (w : List ℕ) (s : State) (h : Waiting w s) where
   pub waiting-fits : Fits w s
   waiting-fits = under-fits (h .table) (h .job) w s (h .frame ∷ h .frames) (h .few-steps) (h .space) waiting-under
 
-  pub waiting-top : s .top + 14 ≤ framesEnd
+  pub waiting-top : s .top + 22 ≤ framesEnd
+  waiting-top = let u = waiting-under in frame-top (h .table) (h .job) w (s .arena) (h .frame) (h .frames) (s .top) (u .from) (u .frames)
+
+  -- the goals that the innermost waiting term began with
+  pub waiting-began : Began (frameAt w (s .top)) (s .arena) (h .frames)
   unfolding FramesAt
-  waiting-top = frames-top (h .table) (h .job) w (s .arena) (h .frames) (s .top + 14) _ (waiting-under .frames .1)
+  waiting-began = waiting-under .frames .2
+
+  pub waiting-held : s .held ≤ mostHeld
+  waiting-held = waiting-under .sizes .held-fits
 
   pub waiting-mark : frameAt w (s .top) .mark ≤ s .out
   waiting-mark = let u = waiting-under in omega (arith, frame-mark (h .table) (h .job) w (s .arena) (h .frame) (h .frames) (s .top) (u .from) (u .frames), u .below)
@@ -123,7 +142,8 @@ module _ (w : List ℕ) (s : State) (h : Waiting w s) where
 -- the innermost waiting term, and the others, by the frame that the code loaded
 pub record Innermost (table job w : List ℕ) (s : State) (f : Frame) (o : ℕ) (x : M.Frame) (k : List M.Frame) : Type 0 where
   pub frame : FrameIs table job w (s .arena) f o x
-  pub rest : FramesAt table job w (s .arena) k (s .top + 14) (f .mark)
+  pub rest : FramesAt table job w (f .arena) k (s .top + 22) (f .mark)
+  pub began : Began f (s .arena) k
   pub kind : f .kind ≡ kindOf x
 
 pub innermost : (table job w : List ℕ) (s : State) (f : Frame) (o : ℕ) (x : M.Frame) (k : List M.Frame) → f ≡ frameAt w (s .top)
@@ -133,6 +153,7 @@ innermost table job w s f o x k e h =
     let one : FrameIs table job w (s .arena) f o x = subst (λ (y : Frame). FrameIs table job w (s .arena) y o x) (sym e) (h .0) in
     record {
       frame = one;
-      rest = subst (λ (y : Frame). FramesAt table job w (s .arena) k (s .top + 14) (y .mark)) (sym e) (h .1);
+      rest = subst (λ (y : Frame). FramesAt table job w (y .arena) k (s .top + 22) (y .mark)) (sym e) (h .1);
+      began = subst (λ (y : Frame). Began y (s .arena) k) (sym e) (h .2);
       kind = kind-is table job w (s .arena) f o x one;
     }

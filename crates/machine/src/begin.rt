@@ -8,7 +8,7 @@ ghost use Rattle.format.specs.declared.values.RuleName.{RuleName};
 ghost use Rattle.format.specs.declared.values.TacticNo.{TacticNo};
 ghost use Rattle.format.specs.declared.values.Goal.{Goal};
 ghost use Rattle.format.specs.declared.values.Label.{Label};
-ghost use Rattle.format.specs.Limits.{mostSteps};
+ghost use Rattle.format.specs.Limits.{mostSteps, mostHeld};
 ghost use Rattle.format.specs.Goals.{goalsAt};
 ghost use Rattle.format.specs.Terms.{Term, atomic, id, label, sequence, tensor, empty, alternation, assert, defined, size};
 ghost use Rattle.tables.specs.Tables.{Table};
@@ -16,9 +16,11 @@ ghost use Rattle.tables.specs.Standing.{TableStands};
 ghost use Rattle.arities.specs.Arities.{arityCode};
 ghost use Rattle.tactics.specs.Numbers.{putHeader};
 ghost use Rattle.machine.specs.Shows.{GoalsIs};
-ghost use Rattle.machine.specs.Begun.{Room, Begins, BeginsIn, idNext, emptyNext, assertNext, sequenceNext, alternationNext, labelNext, tensorNext, atomicNext, ruleNext, definedNext, failed, kept};
+ghost use Rattle.machine.specs.Begun.{Room, Begins, BeginsIn, idNext, emptyNext, assertNext, sequenceNext, alternationNext, labelNext, tensorNext, atomicNext, ruleNext, definedNext, lost, kept};
 ghost use Rattle.machine.specs.Step.{Given, BeginsAny, BeginsPair, Grown, PairStands};
+use crate::state::EXCEEDED;
 use crate::state::FAILED;
+use crate::state::MOST_HELD;
 use crate::state::PROVED;
 use crate::state::RUNNING;
 use crate::state::State;
@@ -46,14 +48,17 @@ use tactics::numbers::put_header;
 use words::copy_in;
 use words::store16;
 
+// The field that an assertion leaves is that of id.
+const ASSERTED: u8 = 17;
+
 impl State {
-    // The term cannot take its goals.
-    fn fail(self) -> State
+    // The term ends without a proof: it cannot take its goals, or one more field cannot be held.
+    fn lose(self, mode: u8) -> State
         requires { ⌜ self .steps < mostSteps ⌝ }
-        ensures { λ r. ⌜ r ≡ failed self ⌝ }
+        ensures { λ r. ⌜ r ≡ lost mode self ⌝ }
     {
         State {
-            mode: FAILED,
+            mode,
             file: self.file,
             at: self.at,
             start: self.start,
@@ -61,13 +66,14 @@ impl State {
             top: self.top,
             arena: self.arena,
             out: self.out,
+            held: self.held,
             steps: self.steps + 1,
         }
     }
 
     // The term gives its goals back and leaves a field without contents.
     fn keep(self, tag: u8, work: &mut [u8]) -> State
-        requires { ⌜ Room (now work) self ⌝ }
+        requires { ⌜ Room (now work) self × (self .held < mostHeld) ⌝ }
         ensures written { λ r. ⌜ now (work .exit) ≡ putHeader (now (work .entry)) (self .out) tag 0 ⌝ }
         ensures kept { λ r. ⌜ r ≡ kept self ⌝ }
     {
@@ -82,6 +88,7 @@ impl State {
             top: self.top,
             arena: self.arena,
             out: out + 3,
+            held: self.held + 1,
             steps: self.steps + 1,
         }
     }
@@ -92,7 +99,10 @@ impl State {
         ensures grown { λ r. ⌜ Grown (now (work .entry)) self (now (work .exit)) r ⌝ }
     {
         if self.count != 1 {
-            return self.fail();
+            return self.lose(FAILED);
+        }
+        if MOST_HELD <= self.held {
+            return self.lose(EXCEEDED);
         }
         self.keep(17, work)
     }
@@ -103,7 +113,10 @@ impl State {
         ensures grown { λ r. ⌜ Grown (now (work .entry)) self (now (work .exit)) r ⌝ }
     {
         if self.count != 0 {
-            return self.fail();
+            return self.lose(FAILED);
+        }
+        if MOST_HELD <= self.held {
+            return self.lose(EXCEEDED);
         }
         self.keep(21, work)
     }
@@ -116,13 +129,16 @@ impl State {
     {
         let start = self.start;
         if self.count != 1 {
-            return self.fail();
+            return self.lose(FAILED);
         }
         let here = goal_at(work, start);
-        if here.0 == goal.0 {
-            return self.keep(17, work);
+        if here.0 != goal.0 {
+            return self.lose(FAILED);
         }
-        self.fail()
+        if MOST_HELD <= self.held {
+            return self.lose(EXCEEDED);
+        }
+        self.keep(ASSERTED, work)
     }
 
     fn begin_sequence(self, right: u16, work: &mut [u8]) -> State
@@ -132,7 +148,9 @@ impl State {
     {
         let file = self.file;
         let out = self.out;
-        let top = self.top - 14;
+        let top = self.top - 22;
+        let arena = self.arena;
+        let held = self.held;
         put_header(work, out, 19, 0);
         let f = Frame {
             kind: SEQUENCE_LEFT,
@@ -140,7 +158,9 @@ impl State {
             at: right,
             count: 0,
             start: 0,
-            mark: out as u16,
+            mark: out,
+            held: held as u16,
+            arena,
         };
         store_frame(work, top, f);
         State {
@@ -150,8 +170,9 @@ impl State {
             start: self.start,
             count: self.count,
             top,
-            arena: self.arena,
+            arena,
             out: out + 3,
+            held,
             steps: self.steps + 1,
         }
     }
@@ -164,7 +185,9 @@ impl State {
     {
         let file = self.file;
         let out = self.out;
-        let top = self.top - 14;
+        let top = self.top - 22;
+        let arena = self.arena;
+        let held = self.held;
         let start = self.start;
         let count = self.count;
         let f = Frame {
@@ -173,7 +196,9 @@ impl State {
             at: right,
             count: count as u16,
             start,
-            mark: out as u16,
+            mark: out,
+            held: held as u16,
+            arena,
         };
         store_frame(work, top, f);
         State {
@@ -183,8 +208,9 @@ impl State {
             start,
             count,
             top,
-            arena: self.arena,
+            arena,
             out,
+            held,
             steps: self.steps + 1,
         }
     }
@@ -195,11 +221,13 @@ impl State {
         ensures grown { λ r. ⌜ Grown (now (work .entry)) self (now (work .exit)) r ⌝ }
     {
         if self.count != 1 {
-            return self.fail();
+            return self.lose(FAILED);
         }
         let file = self.file;
         let out = self.out;
-        let top = self.top - 14;
+        let top = self.top - 22;
+        let arena = self.arena;
+        let held = self.held;
         let inner = self.at + 5;
         put_header(work, out, 18, 0);
         store16(work, out + 3, name.0);
@@ -209,7 +237,9 @@ impl State {
             at: inner as u16,
             count: 0,
             start: 0,
-            mark: out as u16,
+            mark: out,
+            held: held as u16,
+            arena,
         };
         store_frame(work, top, f);
         State {
@@ -219,8 +249,9 @@ impl State {
             start: self.start,
             count: self.count,
             top,
-            arena: self.arena,
+            arena,
             out: out + 5,
+            held,
             steps: self.steps + 1,
         }
     }
@@ -232,11 +263,11 @@ impl State {
         ensures grown { λ r. ⌜ Grown (now (work .entry)) self (now (work .exit)) r ⌝ }
     {
         if arity == 0 {
-            return self.fail();
+            return self.lose(FAILED);
         }
         let left = (arity - 1) as usize;
         if self.count < left {
-            return self.fail();
+            return self.lose(FAILED);
         }
         self.split(right, left, work)
     }
@@ -250,7 +281,9 @@ impl State {
         let file = self.file;
         let out = self.out;
         let start = self.start;
-        let top = self.top - 14;
+        let top = self.top - 22;
+        let arena = self.arena;
+        let held = self.held;
         put_header(work, out, 20, 0);
         let f = Frame {
             kind: TENSOR_LEFT,
@@ -258,7 +291,9 @@ impl State {
             at: right,
             count: (self.count - left) as u16,
             start: start + left * 2,
-            mark: out as u16,
+            mark: out,
+            held: held as u16,
+            arena,
         };
         store_frame(work, top, f);
         State {
@@ -268,8 +303,9 @@ impl State {
             start,
             count: left,
             top,
-            arena: self.arena,
+            arena,
             out: out + 3,
+            held,
             steps: self.steps + 1,
         }
     }
@@ -282,12 +318,12 @@ impl State {
     {
         let start = self.start;
         if self.count != 1 {
-            return self.fail();
+            return self.lose(FAILED);
         }
         let goal = goal_at(work, start);
         let found = find_rule(table, first, name, goal);
         match found {
-            RuleFound::Missing => self.fail(),
+            RuleFound::Missing => self.lose(FAILED),
             RuleFound::Rule(_, place, count) => self.use_rule(name, place, count, table, work),
         }
     }
@@ -305,6 +341,9 @@ impl State {
         ensures begun { λ r. ⌜ ((a : RuleName) → name .0 ≡ a .0 → Begins (now (work .entry)) self (now (work .exit)) r (atomic a) (atomicNext a (some (goalsAt (now (table .entry)) place count)))) ⌝ }
         ensures grown { λ r. ⌜ Grown (now (work .entry)) self (now (work .exit)) r ⌝ }
     {
+        if MOST_HELD <= self.held {
+            return self.lose(EXCEEDED);
+        }
         let out = self.out;
         let arena = self.arena;
         put_header(work, out, 16, 2);
@@ -319,6 +358,7 @@ impl State {
             top: self.top,
             arena: arena + count * 2,
             out: out + 5,
+            held: self.held + 1,
             steps: self.steps + 1,
         }
     }
@@ -331,7 +371,7 @@ impl State {
     {
         let found = find_body(table, first, number);
         match found {
-            BodyFound::Missing => self.fail(),
+            BodyFound::Missing => self.lose(FAILED),
             BodyFound::At(place) => State {
                 mode: RUNNING,
                 file: 0,
@@ -341,6 +381,7 @@ impl State {
                 top: self.top,
                 arena: self.arena,
                 out: self.out,
+                held: self.held,
                 steps: self.steps + 1,
             },
         }

@@ -4,17 +4,23 @@ ghost use Prim.Native.Nat.{_+_};
 ghost use Rattle.tactics.specs.Source.{source};
 ghost use Rattle.machine.specs.Step.{Given, Stepped, Grown};
 
-// How a state stands: a term is to begin; or the last one ended with a proof, failed, or ended the run (22).
+// How a state stands: a term is to begin; or the last one ended with a proof, failed, or ended the run, by a joined list (22) or by the fields held (40).
 pub const RUNNING: u8 = 0;
 
 pub const PROVED: u8 = 1;
 
 pub const FAILED: u8 = 2;
 
-pub const ENDED: u8 = 3;
+pub const OVERFLOWED: u8 = 3;
+
+pub const EXCEEDED: u8 = 4;
+
+// The most fields of finished terms that a run may hold.
+pub const MOST_HELD: usize = 4096;
 
 // The next term to begin, by its file (0 the table, 1 the job) and place, with its goals; or how the last one ended, with the goals that it gave.
-// The frame of the innermost term that waits is at `top`; goals lie below `arena`, the hiproof so far below `out`. Terms begun are counted.
+// The frame of the innermost term that waits is at `top`; goals lie below `arena`, the hiproof so far below `out`. The fields of finished terms that are still
+// part of the run are counted (`held`), and so are the terms begun.
 pub struct State {
     pub mode: u8,
     pub file: u16,
@@ -24,6 +30,7 @@ pub struct State {
     pub top: usize,
     pub arena: usize,
     pub out: usize,
+    pub held: usize,
     pub steps: usize,
 }
 

@@ -3,9 +3,11 @@ ghost use mathlib.Core.Path.{_≡_};
 ghost use Prim.Native.Nat.{_+_, _≤_};
 ghost use Rattle.arities.specs.Layout.{framesEnd};
 ghost use Rattle.frames.specs.Frames.{frameAt};
-ghost use Rattle.machine.specs.Popping.{Waiting, Popped, Smaller, Unwinding, Unwound, Fewer, leave, overflowed};
-use crate::state::ENDED;
+ghost use Rattle.machine.specs.Popping.{Waiting, Popped, Smaller, Unwinding, Unwound, Fewer, Closing, leave, endedBy};
+use crate::state::EXCEEDED;
 use crate::state::FAILED;
+use crate::state::MOST_HELD;
+use crate::state::OVERFLOWED;
 use crate::state::PROVED;
 use crate::state::RUNNING;
 use crate::state::State;
@@ -18,7 +20,7 @@ use frames::TENSOR_LEFT;
 use frames::TENSOR_RIGHT;
 use frames::load_frame;
 use frames::store_frame;
-use tactics::goals::gather;
+use tactics::goals::join_goals;
 use words::store16;
 
 impl State {
@@ -33,14 +35,15 @@ impl State {
             at: self.at,
             start: self.start,
             count: self.count,
-            top: self.top + 14,
+            top: self.top + 22,
             arena: self.arena,
             out: self.out,
+            held: self.held,
             steps: self.steps,
         }
     }
 
-    // A term failed: an alternation begins its right term on the same goals, every other term that waits fails too.
+    // A term failed: an alternation begins its right term on the same goals, with what was held when it began; every other term that waits fails too.
     fn pop_failed(self, work: &[u8]) -> State
         requires { ⌜ (self .mode ≡ 2) × Waiting (now work) self ⌝ }
         ensures popped { λ r. ⌜ Popped (now (work .entry)) self (now (work .entry)) r ⌝ }
@@ -48,19 +51,21 @@ impl State {
     {
         let top = self.top;
         let f = load_frame(work, top);
-        let mark = f.mark as usize;
         if f.kind != ALTERNATION_LEFT {
             return self.leave();
         }
+        let arena = f.arena;
+        let held = f.held as usize;
         State {
             mode: RUNNING,
             file: f.file,
             at: f.at as usize,
             start: f.start,
             count: f.count as usize,
-            top: top + 14,
-            arena: self.arena,
-            out: mark,
+            top: top + 22,
+            arena,
+            out: f.mark,
+            held,
             steps: self.steps,
         }
     }
@@ -86,9 +91,34 @@ impl State {
         if kind == ALTERNATION_LEFT {
             return self.leave();
         }
-        let mark = f.mark as usize;
-        store16(work, mark + 1, (self.out - mark - 3) as u16);
-        self.leave()
+        self.close(work, f)
+    }
+
+    // A label's or a sequence's field is closed; 40 if one more cannot be held.
+    fn close(self, work: &mut [u8], f: Frame) -> State
+        requires { ⌜ (self .mode ≡ 1) × Closing (f .kind) × (f ≡ frameAt (now work) (self .top)) × Waiting (now work) self ⌝ }
+        ensures popped { λ r. ⌜ Popped (now (work .entry)) self (now (work .exit)) r ⌝ }
+        ensures smaller { λ r. ⌜ Smaller (now (work .entry)) self (now (work .exit)) r ⌝ }
+    {
+        let mark = f.mark;
+        let out = self.out;
+        let held = self.held;
+        if MOST_HELD <= held {
+            return self.limit(EXCEEDED);
+        }
+        store16(work, mark + 1, (out - mark - 3) as u16);
+        State {
+            mode: PROVED,
+            file: self.file,
+            at: self.at,
+            start: self.start,
+            count: self.count,
+            top: self.top + 22,
+            arena: self.arena,
+            out,
+            held: held + 1,
+            steps: self.steps,
+        }
     }
 
     // A sequence's left term proved its goals: its right term is next, on what the left gave.
@@ -109,6 +139,8 @@ impl State {
             count: count as u16,
             start,
             mark: f.mark,
+            held: f.held,
+            arena: f.arena,
         };
         store_frame(work, top, g);
         State {
@@ -120,6 +152,7 @@ impl State {
             top,
             arena: self.arena,
             out: self.out,
+            held: self.held,
             steps: self.steps,
         }
     }
@@ -142,6 +175,8 @@ impl State {
             count: self.count as u16,
             start: self.start,
             mark: f.mark,
+            held: f.held,
+            arena: f.arena,
         };
         store_frame(work, top, g);
         State {
@@ -153,11 +188,12 @@ impl State {
             top,
             arena: self.arena,
             out: self.out,
+            held: self.held,
             steps: self.steps,
         }
     }
 
-    // A tensor's right term proved its goals: the two lists are joined and its field is closed; 22 if they are too many.
+    // A tensor's right term proved its goals: the two lists are joined and its field is closed; 22 if they are too many, 40 if one more field cannot be held.
     fn join(self, work: &mut [u8], f: Frame) -> State
         requires { ⌜ (self .mode ≡ 1) × (f .kind ≡ 5) × (f ≡ frameAt (now work) (self .top)) × Waiting (now work) self ⌝ }
         ensures popped { λ r. ⌜ Popped (now (work .entry)) self (now (work .exit)) r ⌝ }
@@ -165,41 +201,46 @@ impl State {
     {
         let left = f.count as usize;
         let right = self.count;
-        let mark = f.mark as usize;
-        let arena = self.arena;
+        let mark = f.mark;
+        let place = f.arena;
         let out = self.out;
         if 256 < left + right {
-            return self.overflow();
+            return self.limit(OVERFLOWED);
         }
-        gather(work, arena, f.start, left, self.start, right);
+        if MOST_HELD <= self.held {
+            return self.limit(EXCEEDED);
+        }
+        join_goals(work, place, self.arena, f.start, left, self.start, right);
         store16(work, mark + 1, (out - mark - 3) as u16);
         State {
             mode: PROVED,
             file: self.file,
             at: self.at,
-            start: arena,
+            start: place,
             count: left + right,
-            top: self.top + 14,
-            arena: arena + (left + right) * 2,
+            top: self.top + 22,
+            arena: place + (left + right) * 2,
             out,
+            held: self.held + 1,
             steps: self.steps,
         }
     }
 
-    // The run ends: a joined list is too long.
-    fn overflow(self) -> State
+    // The run ends by a limit, when the term of a frame was to end.
+    fn limit(self, mode: u8) -> State
         requires { ⌜ self .top ≤ framesEnd ⌝ }
-        ensures { λ r. ⌜ r ≡ overflowed self ⌝ }
+        ensures { λ r. ⌜ r ≡ endedBy mode self ⌝ }
     {
         State {
-            mode: ENDED,
+            mode,
             file: self.file,
             at: self.at,
             start: self.start,
             count: self.count,
-            top: self.top + 14,
+            top: self.top + 22,
             arena: self.arena,
             out: self.out,
+            held: self.held,
             steps: self.steps,
         }
     }

@@ -37,11 +37,23 @@ add-load32 c = omega (arith, c .before .before .before .before .before .pre)
 load32-requires : tie.Need-load32-requires
 load32-requires c κs = search needs
 
+add-load32-2 : tie.Need-add-load32-2
+add-load32-2 c = omega (arith, c .before .before .before .before .before .before .pre)
+
+load32-requires-2 : tie.Need-load32-requires-2
+load32-requires-2 c κs = search needs
+
 add-load16-4 : tie.Need-add-load16-4
-add-load16-4 c = omega (arith, c .before .before .before .before .before .before .pre)
+add-load16-4 c = omega (arith, c .before .before .before .before .before .before .before .pre)
 
 load16-requires-5 : tie.Need-load16-requires-5
 load16-requires-5 c κs = search needs
+
+add-load32-3 : tie.Need-add-load32-3
+add-load32-3 c = omega (arith, c .before .before .before .before .before .before .before .before .pre)
+
+load32-requires-3 : tie.Need-load32-requires-3
+load32-requires-3 c κs = search needs
 
 returns : tie.Need-returns
 unfolding frameAt
@@ -60,6 +72,10 @@ load-frame-spec =
     load16-requires-4
     add-load32
     load32-requires
+    add-load32-2
+    load32-requires-2
     add-load16-4
     load16-requires-5
+    add-load32-3
+    load32-requires-3
     returns)

@@ -37,11 +37,23 @@ add-store32 c = omega (arith, c .before .before .before .before .before .before 
 store32-requires : tie.Need-store32-requires
 store32-requires c κs = search needs
 
+add-store32-2 : tie.Need-add-store32-2
+add-store32-2 c = omega (arith, c .before .before .before .before .before .before .before .before .before .before .before .before .before .before .before .before .before .before .before .before .before .before .pre)
+
+store32-requires-2 : tie.Need-store32-requires-2
+store32-requires-2 c κs = search needs
+
 add-store16-4 : tie.Need-add-store16-4
-add-store16-4 c = omega (arith, c .before .before .before .before .before .before .before .before .before .before .before .before .before .before .before .before .before .before .before .before .before .before .pre)
+add-store16-4 c = omega (arith, c .before .before .before .before .before .before .before .before .before .before .before .before .before .before .before .before .before .before .before .before .before .before .before .before .before .before .pre)
 
 store16-requires-5 : tie.Need-store16-requires-5
 store16-requires-5 c κs = search needs
+
+add-store32-3 : tie.Need-add-store32-3
+add-store32-3 c = omega (arith, c .before .before .before .before .before .before .before .before .before .before .before .before .before .before .before .before .before .before .before .before .before .before .before .before .before .before .before .before .before .before .pre)
+
+store32-requires-3 : tie.Need-store32-requires-3
+store32-requires-3 c κs = search needs
 
 same-length : tie.Need-same-length
 same-length c = search needs
@@ -63,7 +75,11 @@ store-frame-spec =
     store16-requires-4
     add-store32
     store32-requires
+    add-store32-2
+    store32-requires-2
     add-store16-4
     store16-requires-5
+    add-store32-3
+    store32-requires-3
     same-length
     returns)

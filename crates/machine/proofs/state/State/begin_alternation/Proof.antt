@@ -1,4 +1,4 @@
--- `begin_alternation` meets its contract: a frame.
+-- `begin_alternation` meets its contract: a frame that keeps the goals.
 -- Assumes nothing.
 use Rattle.machine.proofs.BeginLaws.{alternation-end}
 use native.Mathlib.Omega.{arith}
@@ -12,20 +12,20 @@ use Rattle.frames.proofs.store_frame.Reads as store-frame-reads
 sub-top : tie.Need-sub-top
 sub-top c = omega (arith, c .before .before .pre)
 
-cast-t10 : tie.Need-cast-t10
-cast-t10 c = omega (arith, c .before .before .pre)
+cast-t12 : tie.Need-cast-t12
+cast-t12 c = omega (arith, c .before .before .pre)
 
-cast-t11 : tie.Need-cast-t11
-cast-t11 c = omega (arith, c .before .before .pre)
+cast-t13 : tie.Need-cast-t13
+cast-t13 c = omega (arith, c .before .before .pre)
 
 store-frame-requires : tie.Need-store-frame-requires
 store-frame-requires c κs = search needs
 
-add-t15 : tie.Need-add-t15
-add-t15 c = omega (arith, c .before .before .before .before .before .before .before .pre)
+add-t17 : tie.Need-add-t17
+add-t17 c = omega (arith, c .before .before .before .before .before .before .before .pre)
 
-add-t16 : tie.Need-add-t16
-add-t16 c = omega (arith, c .before .before .before .before .before .before .before .before .pre)
+add-t18 : tie.Need-add-t18
+add-t18 c = omega (arith, c .before .before .before .before .before .before .before .before .pre)
 
 same-length : tie.Need-same-length
 same-length c = search needs
@@ -39,4 +39,12 @@ returns c =
 pub begin-alternation-spec : {M : Type 1} → statement M
 begin-alternation-spec =
     tie.close
-    (tie.spec sub-top cast-t10 cast-t11 store-frame-requires add-t15 add-t16 same-length returns)
+    (tie.spec
+    sub-top
+    cast-t12
+    cast-t13
+    store-frame-requires
+    add-t17
+    add-t18
+    same-length
+    returns)

@@ -1,31 +1,31 @@
--- `begin_label` meets its contract: by the number of goals; a header and the label, then a frame.
+-- `begin_label` meets its contract: by the number of goals; a header, the name and a frame.
 -- Assumes nothing.
 use mathlib.Core.Path.{ap, _∙_}
 use mathlib.Core.List.{List}
 use Prim.Native.Nat.{ℕ, _+_, _-_}
-use native.Mathlib.Omega.{arith}
-use Rattle.words.specs.Word.{putWord}
-use Rattle.tactics.proofs.numbers.put_header.Reads as put-header-reads
 use Rattle.frames.specs.Frames.{putFrame}
+use Rattle.words.specs.Word.{putWord}
 use Rattle.machine.specs.Begun.{labelFrame}
 use Rattle.machine.proofs.BeginLaws.{label-fails, label-end}
+use native.Mathlib.Omega.{arith}
 use borrow.Author.Needs.{needs}
 use Rattle.machine.proofs.state.State.begin_label.Statement.{statement}
 use Rattle.machine.proofs.state.State.begin_label.Tie as tie
 use Rattle.machine.proofs.state.State.begin_label.Reads as reads
 use Rattle.machine.proofs.state.State.begin_label.Lts as lts
-use Rattle.frames.proofs.store_frame.Reads as store-frame-reads
-use Rattle.machine.proofs.state.State.fail.Reads as fail-reads
+use Rattle.tactics.proofs.numbers.put_header.Reads as put-header-reads
 use Rattle.words.proofs.store16.Reads as store16-reads
+use Rattle.frames.proofs.store_frame.Reads as store-frame-reads
+use Rattle.machine.proofs.state.State.lose.Reads as lose-reads
 
-fail-requires : tie.Need-fail-requires
-fail-requires c κs = search needs
+lose-requires : tie.Need-lose-requires
+lose-requires c κs = search needs
 
 returns : tie.Need-returns
 returns c =
     let a = c .before .before .before .before .args in
     let p = c .before .before .before .before .pre in
-    label-fails (a .work .now) (a .self) (p .0) (a .name .0) _ (c .before .if1 .taken) (c .fail .ensures)
+    label-fails (a .work .now) (a .self) (p .0) (a .name .0) _ (c .before .if1 .taken) (c .lose .ensures)
 
 sub-top : tie.Need-sub-top
 sub-top c = omega (arith, c .before .before .before .before .pre)
@@ -42,20 +42,20 @@ add-store16 c = omega (arith, c .before .before .before .before .before .before 
 store16-requires : tie.Need-store16-requires
 store16-requires c κs = search needs
 
-cast-t16 : tie.Need-cast-t16
-cast-t16 c = omega (arith, c .before .before .before .before .before .before .before .before .before .before .before .before .before .pre)
+cast-t18 : tie.Need-cast-t18
+cast-t18 c = omega (arith, c .before .before .before .before .before .before .before .before .before .before .before .before .before .pre)
 
-cast-t17 : tie.Need-cast-t17
-cast-t17 c = omega (arith, c .before .before .before .before .before .before .before .before .before .before .before .before .before .pre)
+cast-t19 : tie.Need-cast-t19
+cast-t19 c = omega (arith, c .before .before .before .before .before .before .before .before .before .before .before .before .before .pre)
 
 store-frame-requires : tie.Need-store-frame-requires
 store-frame-requires c κs = search needs
 
-add-t15 : tie.Need-add-t15
-add-t15 c = omega (arith, c .before .before .before .before .before .before .before .before .before .before .before .before .before .before .before .before .before .pre)
+add-t17 : tie.Need-add-t17
+add-t17 c = omega (arith, c .before .before .before .before .before .before .before .before .before .before .before .before .before .before .before .before .before .pre)
 
-add-t20 : tie.Need-add-t20
-add-t20 c = omega (arith, c .before .before .before .before .before .before .before .before .before .before .before .before .before .before .before .before .before .before .pre)
+add-t22 : tie.Need-add-t22
+add-t22 c = omega (arith, c .before .before .before .before .before .before .before .before .before .before .before .before .before .before .before .before .before .before .pre)
 
 same-length : tie.Need-same-length
 same-length c = search needs
@@ -65,24 +65,24 @@ returns-2 c =
     let a = c .before .before .before .before .before .before .before .before .before .before .before .before .before .before .before .before .before .before .args in
     let p = c .before .before .before .before .before .before .before .before .before .before .before .before .before .before .before .before .before .before .pre in
     label-end (a .work .now) (a .self) (p .0) (a .name .0) _ (c .before .before .before .before .before .before .before .before .before .before .before .before .before .before .before .if1 .left)
-    (c .before .before .before .store-frame .ensures ∙ ap (λ (x : List ℕ). putFrame x (a .self .top - 14) (labelFrame (a .self)))
+    (c .before .before .before .store-frame .ensures ∙ ap (λ (x : List ℕ). putFrame x (a .self .top - 22) (labelFrame (a .self)))
     (c .before .before .before .before .before .before .before .store16 .ensures ∙ ap (λ (x : List ℕ). putWord x (a .self .out + 3) (a .name .0)) (c .before .before .before .before .before .before .before .before .before .before .before .put-header .ensures)))
 
 pub begin-label-spec : {M : Type 1} → statement M
 begin-label-spec =
     tie.close
     (tie.spec
-    fail-requires
+    lose-requires
     returns
     sub-top
     add-inner
     put-header-requires
     add-store16
     store16-requires
-    cast-t16
-    cast-t17
+    cast-t18
+    cast-t19
     store-frame-requires
-    add-t15
-    add-t20
+    add-t17
+    add-t22
     same-length
     returns-2)

@@ -3,7 +3,6 @@
 use mathlib.Core.Path.{ap, _∙_}
 use mathlib.Core.List.{List}
 use Prim.Native.Nat.{ℕ, _-_}
-use Rattle.tactics.proofs.numbers.put_header.Reads as put-header-reads
 use Rattle.frames.specs.Frames.{putFrame}
 use Rattle.machine.specs.Begun.{sequenceFrame}
 use Rattle.machine.proofs.BeginLaws.{sequence-end}
@@ -13,6 +12,7 @@ use Rattle.machine.proofs.state.State.begin_sequence.Statement.{stateme
 use Rattle.machine.proofs.state.State.begin_sequence.Tie as tie
 use Rattle.machine.proofs.state.State.begin_sequence.Reads as reads
 use Rattle.machine.proofs.state.State.begin_sequence.Lts as lts
+use Rattle.tactics.proofs.numbers.put_header.Reads as put-header-reads
 use Rattle.frames.proofs.store_frame.Reads as store-frame-reads
 
 sub-top : tie.Need-sub-top
@@ -21,20 +21,20 @@ sub-top c = omega (arith, c .before .before .pre)
 put-header-requires : tie.Need-put-header-requires
 put-header-requires c κs = search needs
 
-cast-t11 : tie.Need-cast-t11
-cast-t11 c = omega (arith, c .before .before .before .before .before .before .pre)
+cast-t13 : tie.Need-cast-t13
+cast-t13 c = omega (arith, c .before .before .before .before .before .before .pre)
 
 store-frame-requires : tie.Need-store-frame-requires
 store-frame-requires c κs = search needs
 
-add-t14 : tie.Need-add-t14
-add-t14 c = omega (arith, c .before .before .before .before .before .before .before .before .before .before .before .pre)
-
-add-t15 : tie.Need-add-t15
-add-t15 c = omega (arith, c .before .before .before .before .before .before .before .before .before .before .before .pre)
-
 add-t16 : tie.Need-add-t16
-add-t16 c = omega (arith, c .before .before .before .before .before .before .before .before .before .before .before .before .pre)
+add-t16 c = omega (arith, c .before .before .before .before .before .before .before .before .before .before .before .pre)
+
+add-t17 : tie.Need-add-t17
+add-t17 c = omega (arith, c .before .before .before .before .before .before .before .before .before .before .before .pre)
+
+add-t18 : tie.Need-add-t18
+add-t18 c = omega (arith, c .before .before .before .before .before .before .before .before .before .before .before .before .pre)
 
 same-length : tie.Need-same-length
 same-length c = search needs
@@ -44,7 +44,7 @@ returns c =
     let a = c .before .before .before .before .before .before .before .before .before .before .before .before .args in
     let p = c .before .before .before .before .before .before .before .before .before .before .before .before .pre in
     sequence-end (a .work .now) (a .self) (p .0) (a .right) _
-    (c .before .before .before .before .store-frame .ensures ∙ ap (λ (x : List ℕ). putFrame x (a .self .top - 14) (sequenceFrame (a .self) (a .right))) (c .before .before .before .before .before .before .before .before .put-header .ensures))
+    (c .before .before .before .before .store-frame .ensures ∙ ap (λ (x : List ℕ). putFrame x (a .self .top - 22) (sequenceFrame (a .self) (a .right))) (c .before .before .before .before .before .before .before .before .put-header .ensures))
 
 pub begin-sequence-spec : {M : Type 1} → statement M
 begin-sequence-spec =
@@ -52,10 +52,10 @@ begin-sequence-spec =
     (tie.spec
     sub-top
     put-header-requires
-    cast-t11
+    cast-t13
     store-frame-requires
-    add-t14
-    add-t15
     add-t16
+    add-t17
+    add-t18
     same-length
     returns)

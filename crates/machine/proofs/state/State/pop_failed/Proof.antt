@@ -16,29 +16,29 @@ load-frame-requires c κs =
     let p = c .before .pre in
     omega (arith, waiting-top (a .work .now) (a .self) (p .1), p .1 .space)
 
-cast-mark : tie.Need-cast-mark
-cast-mark c = omega (arith, c .before .before .before .pre)
-
 leave-requires : tie.Need-leave-requires
 leave-requires c κs =
-    let a = c .before .before .before .before .before .args in
-    let p = c .before .before .before .before .before .pre in
+    let a = c .before .before .before .before .args in
+    let p = c .before .before .before .before .pre in
     waiting-fits (a .work .now) (a .self) (p .1) .frames-high
 
 returns : tie.Need-returns
 returns c =
-    let a = c .before .before .before .before .before .before .args in
-    let p = c .before .before .before .before .before .before .pre in
-    failed-end (a .work .now) (a .self) (c .before .before .before .before .load-frame .result) (c .before .before .before .before .load-frame .ensures) _ (p .0) (c .before .if1 .taken) (c .leave .ensures)
+    let a = c .before .before .before .before .before .args in
+    let p = c .before .before .before .before .before .pre in
+    failed-end (a .work .now) (a .self) (c .before .before .before .load-frame .result) (c .before .before .before .load-frame .ensures) _ (p .0) (c .before .if1 .taken) (c .leave .ensures)
 
-cast-t7 : tie.Need-cast-t7
-cast-t7 c = omega (arith, c .before .before .before .before .before .before .pre)
+cast-held : tie.Need-cast-held
+cast-held c = omega (arith, c .before .before .before .before .before .pre)
 
 cast-t8 : tie.Need-cast-t8
-cast-t8 c = omega (arith, c .before .before .before .before .before .before .before .pre)
+cast-t8 c = omega (arith, c .before .before .before .before .before .before .pre)
 
-add-t9 : tie.Need-add-t9
-add-t9 c =
+cast-t9 : tie.Need-cast-t9
+cast-t9 c = omega (arith, c .before .before .before .before .before .before .before .pre)
+
+add-t10 : tie.Need-add-t10
+add-t10 c =
     let a = c .before .before .before .before .before .before .before .args in
     let p = c .before .before .before .before .before .before .before .pre in
     omega (arith, waiting-top (a .work .now) (a .self) (p .1))
@@ -47,17 +47,17 @@ returns-2 : tie.Need-returns-2
 returns-2 c =
     let a = c .before .before .before .before .before .before .before .args in
     let p = c .before .before .before .before .before .before .before .pre in
-    alternative-end (a .work .now) (a .self) (c .before .before .before .before .before .load-frame .result) (c .before .before .before .before .before .load-frame .ensures) (p .0) (c .before .before .if1 .left)
+    alternative-end (a .work .now) (a .self) (c .before .before .before .before .before .load-frame .result) (c .before .before .before .before .before .load-frame .ensures) (p .0) (c .before .before .before .if1 .left)
 
 pub pop-failed-spec : {M : Type 1} → statement M
 pop-failed-spec =
     tie.close
     (tie.spec
     load-frame-requires
-    cast-mark
     leave-requires
     returns
-    cast-t7
+    cast-held
     cast-t8
-    add-t9
+    cast-t9
+    add-t10
     returns-2)

@@ -2,18 +2,18 @@
 -- Assumes nothing.
 use native.Mathlib.Omega.{arith}
 use Rattle.machine.proofs.WaitingLaws.{waiting-top, waiting-fits}
-use Rattle.machine.proofs.PopLaws.{chosen-end, close-room, close-end}
+use Rattle.machine.proofs.PopLaws.{chosen-end}
 use borrow.Author.Needs.{needs}
 use Rattle.machine.proofs.state.State.pop_proved.Statement.{statement}
 use Rattle.machine.proofs.state.State.pop_proved.Tie as tie
 use Rattle.machine.proofs.state.State.pop_proved.Reads as reads
 use Rattle.machine.proofs.state.State.pop_proved.Lts as lts
 use Rattle.frames.proofs.load_frame.Reads as load-frame-reads
+use Rattle.machine.proofs.state.State.close.Reads as close-reads
 use Rattle.machine.proofs.state.State.join.Reads as join-reads
 use Rattle.machine.proofs.state.State.leave.Reads as leave-reads
 use Rattle.machine.proofs.state.State.turn.Reads as turn-reads
 use Rattle.machine.proofs.state.State.turn_beside.Reads as turn-beside-reads
-use Rattle.words.proofs.store16.Reads as store16-reads
 
 load-frame-requires : tie.Need-load-frame-requires
 load-frame-requires c κs =
@@ -63,50 +63,17 @@ returns-4 c =
     let p = c .before .before .before .before .before .before .before .before .pre in
     chosen-end (a .work .now) (a .self) (c .before .before .before .before .before .load-frame .result) (c .before .before .before .before .before .load-frame .ensures) _ (p .0) (c .before .if4 .taken) (c .leave .ensures)
 
-cast-mark : tie.Need-cast-mark
-cast-mark c = omega (arith, c .before .before .before .before .before .before .before .before .pre)
-
-add-store16 : tie.Need-add-store16
-add-store16 c = omega (arith, c .before .before .before .before .before .before .before .before .before .pre)
-
-sub-store16 : tie.Need-sub-store16
-sub-store16 c =
-    let a = c .before .before .before .before .before .before .before .before .before .before .args in
-    let p = c .before .before .before .before .before .before .before .before .before .before .pre in
-    omega (arith, close-room (a .work .now) (a .self) (c .before .before .before .before .before .before .before .load-frame .result) (c .before .before .before .before .before .before .before .load-frame .ensures) (p .1) (p .0) (c .before .before .before .before .before .before .if1 .left) (c .before .before .before .before .before .if2 .left) (c .before .before .before .before .if3 .left) (c .before .before .before .if4 .left))
-
-sub-store16-2 : tie.Need-sub-store16-2
-sub-store16-2 c =
-    let a = c .before .before .before .before .before .before .before .before .before .before .args in
-    let p = c .before .before .before .before .before .before .before .before .before .before .pre in
-    omega (arith, close-room (a .work .now) (a .self) (c .before .before .before .before .before .before .before .load-frame .result) (c .before .before .before .before .before .before .before .load-frame .ensures) (p .1) (p .0) (c .before .before .before .before .before .before .if1 .left) (c .before .before .before .before .before .if2 .left) (c .before .before .before .before .if3 .left) (c .before .before .before .if4 .left))
-
-cast-store16 : tie.Need-cast-store16
-cast-store16 c =
-    let a = c .before .before .before .before .before .before .before .before .before .before .args in
-    let p = c .before .before .before .before .before .before .before .before .before .before .pre in
-    omega (arith, waiting-fits (a .work .now) (a .self) (p .1) .output-fits)
-
-store16-requires : tie.Need-store16-requires
-store16-requires c κs =
-    let a = c .before .before .before .before .before .before .before .before .before .before .args in
-    let p = c .before .before .before .before .before .before .before .before .before .before .pre in
-    omega (arith, close-room (a .work .now) (a .self) (c .before .before .before .before .before .before .before .load-frame .result) (c .before .before .before .before .before .before .before .load-frame .ensures) (p .1) (p .0) (c .before .before .before .before .before .before .if1 .left) (c .before .before .before .before .before .if2 .left) (c .before .before .before .before .if3 .left) (c .before .before .before .if4 .left), waiting-fits (a .work .now) (a .self) (p .1) .output-fits, p .1 .space)
-
-leave-requires-2 : tie.Need-leave-requires-2
-leave-requires-2 c κs =
-    let a = c .before .before .before .before .before .before .before .before .before .before .before .before .before .args in
-    let p = c .before .before .before .before .before .before .before .before .before .before .before .before .before .pre in
-    waiting-fits (a .work .now) (a .self) (p .1) .frames-high
+close-requires : tie.Need-close-requires
+close-requires c κs =
+    let a = c .before .before .before .before .before .before .before .before .args in
+    let p = c .before .before .before .before .before .before .before .before .pre in
+    (p .0, (c .before .before .before .before .if1 .left, c .before .before .before .if2 .left, c .before .before .if3 .left, c .before .if4 .left), c .before .before .before .before .before .load-frame .ensures, p .1)
 
 same-length-5 : tie.Need-same-length-5
 same-length-5 c = search needs
 
 returns-5 : tie.Need-returns-5
-returns-5 c =
-    let a = c .before .before .before .before .before .before .before .before .before .before .before .before .before .before .args in
-    let p = c .before .before .before .before .before .before .before .before .before .before .before .before .before .before .pre in
-    close-end (a .work .now) (a .self) (c .before .before .before .before .before .before .before .before .before .before .before .load-frame .result) (c .before .before .before .before .before .before .before .before .before .before .before .load-frame .ensures) (p .1) (p .0) (c .before .before .before .before .before .before .before .before .before .before .if1 .left) (c .before .before .before .before .before .before .before .before .before .if2 .left) (c .before .before .before .before .before .before .before .before .if3 .left) (c .before .before .before .before .before .before .before .if4 .left) _ _ (c .before .before .before .store16 .ensures) (c .leave2 .ensures)
+returns-5 c = search needs
 
 pub pop-proved-spec : {M : Type 1} → statement M
 pop-proved-spec =
@@ -125,12 +92,6 @@ pop-proved-spec =
     leave-requires
     same-length-4
     returns-4
-    cast-mark
-    add-store16
-    sub-store16
-    sub-store16-2
-    cast-store16
-    store16-requires
-    leave-requires-2
+    close-requires
     same-length-5
     returns-5)

@@ -3,7 +3,6 @@
 use mathlib.Core.Path.{ap, _∙_}
 use mathlib.Core.List.{List}
 use Prim.Native.Nat.{ℕ, _-_}
-use Rattle.tactics.proofs.numbers.put_header.Reads as put-header-reads
 use Rattle.frames.specs.Frames.{putFrame}
 use Rattle.machine.specs.Begun.{tensorFrame}
 use Rattle.machine.proofs.FormLaws.{split-end}
@@ -13,6 +12,7 @@ use Rattle.machine.proofs.state.State.split.Statement.{statement}
 use Rattle.machine.proofs.state.State.split.Tie as tie
 use Rattle.machine.proofs.state.State.split.Reads as reads
 use Rattle.machine.proofs.state.State.split.Lts as lts
+use Rattle.tactics.proofs.numbers.put_header.Reads as put-header-reads
 use Rattle.frames.proofs.store_frame.Reads as store-frame-reads
 
 sub-top : tie.Need-sub-top
@@ -21,32 +21,32 @@ sub-top c = omega (arith, c .before .before .pre)
 put-header-requires : tie.Need-put-header-requires
 put-header-requires c κs = search needs
 
-sub-t13 : tie.Need-sub-t13
-sub-t13 c = omega (arith, c .before .before .before .before .before .before .before .pre)
+sub-t15 : tie.Need-sub-t15
+sub-t15 c = omega (arith, c .before .before .before .before .before .before .before .pre)
 
-cast-t14 : tie.Need-cast-t14
-cast-t14 c = omega (arith, c .before .before .before .before .before .before .before .pre)
+cast-t16 : tie.Need-cast-t16
+cast-t16 c = omega (arith, c .before .before .before .before .before .before .before .pre)
 
-mul-t15 : tie.Need-mul-t15
-mul-t15 c = omega (arith, c .before .before .before .before .before .before .before .pre)
+mul-t17 : tie.Need-mul-t17
+mul-t17 c = omega (arith, c .before .before .before .before .before .before .before .pre)
 
-add-t16 : tie.Need-add-t16
-add-t16 c = omega (arith, c .before .before .before .before .before .before .before .pre)
+add-t18 : tie.Need-add-t18
+add-t18 c = omega (arith, c .before .before .before .before .before .before .before .pre)
 
-cast-t17 : tie.Need-cast-t17
-cast-t17 c = omega (arith, c .before .before .before .before .before .before .before .pre)
+cast-t19 : tie.Need-cast-t19
+cast-t19 c = omega (arith, c .before .before .before .before .before .before .before .pre)
 
 store-frame-requires : tie.Need-store-frame-requires
 store-frame-requires c κs = search needs
 
-add-t13 : tie.Need-add-t13
-add-t13 c = omega (arith, c .before .before .before .before .before .before .before .before .before .before .before .before .pre)
-
 add-t15 : tie.Need-add-t15
 add-t15 c = omega (arith, c .before .before .before .before .before .before .before .before .before .before .before .before .pre)
 
-add-t16-2 : tie.Need-add-t16-2
-add-t16-2 c = omega (arith, c .before .before .before .before .before .before .before .before .before .before .before .before .before .pre)
+add-t17 : tie.Need-add-t17
+add-t17 c = omega (arith, c .before .before .before .before .before .before .before .before .before .before .before .before .pre)
+
+add-t18-2 : tie.Need-add-t18-2
+add-t18-2 c = omega (arith, c .before .before .before .before .before .before .before .before .before .before .before .before .before .pre)
 
 same-length : tie.Need-same-length
 same-length c = search needs
@@ -56,7 +56,7 @@ returns c =
     let a = c .before .before .before .before .before .before .before .before .before .before .before .before .before .args in
     let p = c .before .before .before .before .before .before .before .before .before .before .before .before .before .pre in
     split-end (a .work .now) (a .self) (p .0) (a .right) (a .left) _ (p .2)
-    (c .before .before .before .before .store-frame .ensures ∙ ap (λ (x : List ℕ). putFrame x (a .self .top - 14) (tensorFrame (a .self) (a .right) (a .left))) (c .before .before .before .before .before .before .before .before .before .put-header .ensures))
+    (c .before .before .before .before .store-frame .ensures ∙ ap (λ (x : List ℕ). putFrame x (a .self .top - 22) (tensorFrame (a .self) (a .right) (a .left))) (c .before .before .before .before .before .before .before .before .before .put-header .ensures))
 
 pub split-spec : {M : Type 1} → statement M
 split-spec =
@@ -64,14 +64,14 @@ split-spec =
     (tie.spec
     sub-top
     put-header-requires
-    sub-t13
-    cast-t14
-    mul-t15
-    add-t16
-    cast-t17
+    sub-t15
+    cast-t16
+    mul-t17
+    add-t18
+    cast-t19
     store-frame-requires
-    add-t13
     add-t15
-    add-t16-2
+    add-t17
+    add-t18-2
     same-length
     returns)
