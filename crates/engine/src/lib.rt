@@ -21,10 +21,10 @@ use text_reader::entry::read_text;
 use text_writer::entry::write_text;
 use writer::entry::write_proof;
 
-// The minor number goes up with each new call, the major number when programs must be compiled anew.
+// The minor number goes up with each new call, and with new sizes of one; the major number when every program must be compiled anew.
 const MAJOR: u32 = 2;
 
-const MINOR: u32 = 2;
+const MINOR: u32 = 3;
 
 // Whether the proof is accepted in the table.
 #[no_mangle]

@@ -8,9 +8,11 @@ use native.Mathlib.Omega.{arith}
 use Rattle.format.specs.declared.values.Goal.{Goal}
 use Rattle.format.specs.Limits.{mostSteps}
 use Rattle.format.specs.Terms.{Term}
+use Rattle.tables.proofs.ReadsTable.{reads-few-premises}
 use Rattle.files.specs.Counts.{jobTermPlace}
 use Rattle.evaluation.specs.Machine as M
 use Rattle.evaluation.specs.Machine.{running, after, run}
+use Rattle.evaluation.proofs.HaltBounds.{held-goals}
 use Rattle.evaluation.proofs.SharedGoals.{run-shared}
 use Rattle.entries.specs.Run.{begins}
 use Rattle.entries.specs.SavedState.{savedSize, savedContents, zerosTo, savedIn, savedState}
@@ -37,6 +39,7 @@ module _ (t s : List ℕ) (b : ℕ) (w : List ℕ) (x : State) (first term : ℕ
   halts-at : (π : M.Place) (u : Term) (g : List Goal) (k : List M.Frame) → Runs t s w x π u g k → σ ≡ after (x .steps) (running π u g k) → Halts w x
   halts-at π u g k r e =
       let files = halted-files (q .table) b (x .steps) from π (q .job .term) u (q .job .goals) g k (omega arith) e in
+      let few = held-goals (q .table) (λ a γ h m. reads-few-premises t (q .table) (q .table-reads) _ m) b (x .steps) from π (q .job .term) u (q .job .goals) g k (q .job-stands .goals-stand .few) e in
       record {
         table = t;
         job = s;
@@ -51,6 +54,7 @@ module _ (t s : List ℕ) (b : ℕ) (w : List ℕ) (x : State) (first term : ℕ
         file-known = files .0;
         in-files = files .1;
         shared = run-shared (q .table) b (x .steps) from π (q .job .term) u (q .job .goals) g k e;
+        goals-counted = omega (arith, few, r .held-is, r .sizes .held-fits);
         fits = contents-fit t s (q .table) (q .job) (q .table-reads) (q .job-reads) b fits (x .steps) π u g k e;
       }
 

@@ -28,7 +28,7 @@ fn steps_of(saved: &[u8]) -> u16
 fn over_limit(steps: u16, budget: u32) -> bool
     ensures { λ r. ⌜ r ≡ ltb mostSteps (steps + budget) ⌝ }
 {
-    4096 < (steps as u64) + (budget as u64)
+    16384 < (steps as u64) + (budget as u64)
 }
 
 // 25 before any reading, then the files and the steps of the state. Until its bytes are compared with those of the run the state is not genuine, and the answer 30.

@@ -16,7 +16,7 @@ pub fn first_run(table: &[u8], job: &[u8], budget: u32, work: &mut [u8], out: &m
     requires { ⌜ spaceEnd ≤ length (now work) ⌝ }
     ensures { λ r. ⌜ Comes (haltingOutcome (now (table .entry)) (now (job .entry)) budget) (now (work .entry)) (now (out .entry)) (now (work .exit)) r (now (out .exit)) ⌝ }
 {
-    if 4096 < budget {
+    if 16384 < budget {
         let answer = refusal(25, 0, 0, 0);
         return ended(answer);
     }

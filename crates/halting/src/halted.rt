@@ -3,7 +3,7 @@ ghost use mathlib.Core.Path.{_≡_};
 ghost use Rattle.runner.specs.Jobs.{FinishGiven};
 ghost use Rattle.halting.specs.Halted.{Ended, Answered};
 use answers::Answer;
-use machine::state::ENDED;
+use machine::state::FAILED;
 use machine::state::State;
 use runner::job::finish;
 
@@ -15,12 +15,12 @@ pub struct Halted {
     pub term: usize,
 }
 
-// A call that ends without a halt.
+// A call that ends without a halt: no term is to begin.
 pub fn ended(answer: Answer) -> Halted
     ensures { λ r. ⌜ Ended answer r ⌝ }
 {
     let state = State {
-        mode: ENDED,
+        mode: FAILED,
         file: 0,
         at: 0,
         start: 0,
@@ -28,6 +28,7 @@ pub fn ended(answer: Answer) -> Halted
         top: 0,
         arena: 0,
         out: 0,
+        held: 0,
         steps: 0,
     };
     Halted {

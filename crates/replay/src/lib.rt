@@ -109,6 +109,7 @@ pub fn run() {
     differences += replay_file(b"reasons.vec");
     differences += replay_file(b"no-bytes.vec");
     differences += replay_file(b"rules.vec");
+    differences += replay_file(b"longer.vec");
     print_count(b"all differences ", differences);
     io::write_all(STDOUT_FILENO, b"\n");
 }

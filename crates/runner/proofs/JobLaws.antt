@@ -7,7 +7,8 @@ use native.Mathlib.Omega.{arith}
 use lib.ListN.{length, drop}
 use lib.Seq.{paste}
 use Rattle.format.specs.declared.values.Goal.{Goal}
-use Rattle.format.specs.Refusals.{number, tacticFailed, budgetSpent}
+use Rattle.format.specs.Limits.{mostHeld}
+use Rattle.format.specs.Refusals.{Cause, number, tacticFailed, budgetSpent}
 use Rattle.format.specs.Terms.{Term, size}
 use Rattle.format.specs.Standing.{Stands}
 use Rattle.tables.specs.Tables.{Table, UniqueDefinitions}
@@ -17,6 +18,7 @@ use Rattle.files.specs.Proofs.{proofBytes}
 use Rattle.files.specs.Jobs.{Job}
 use Rattle.files.specs.Counts.{jobTermPlace}
 use Rattle.files.specs.Standing.{JobStands}
+use Rattle.files.proofs.Sizes.{size-most}
 use Rattle.evaluation.specs.Machine as M
 use Rattle.evaluation.specs.Machine.{running, stopped, after}
 use Rattle.answers.specs.declared.Answer.{Answer}
@@ -34,7 +36,7 @@ use Rattle.tactics.proofs.MemoryLaws.{only-copy}
 use Rattle.tactics.proofs.JobLaws.{same-place, place-small, goals-few, goals-inside, term-place, term-stands, goals-copied}
 use Rattle.tactics.proofs.EntryLaws as entry
 use Rattle.machine.specs.declared.state.State.{State}
-use Rattle.machine.specs.Shows.{FramesAt, setAside, Proved}
+use Rattle.machine.specs.Shows.{FramesAt, Proved, LimitMode, overflows, exceeds}
 use Rattle.machine.proofs.WaitingLaws.{if-proved, if-failed, if-ended}
 use Rattle.runner.specs.Run.{ShowsState, Started, Ran}
 use Rattle.runner.specs.Jobs.{StartGiven, Starts, FinishGiven, Finishes, JobGiven, JobRan}
@@ -42,13 +44,13 @@ use Rattle.runner.proofs.RunLaws.{known-same, if-running, if-stopped}
 
 -- the first state
 abbrev startState : JobParts → State
-startState parts = record { mode = 0; file = 1; at = parts .term; start = outputEnd; count = parts .goals; top = framesEnd; arena = outputEnd + parts .goals * 2; out = 0; steps = 0 }
+startState parts = record { mode = 0; file = 1; at = parts .term; start = outputEnd; count = parts .goals; top = framesEnd; arena = outputEnd + parts .goals * 2; out = 0; held = 0; steps = 0 }
 
 pub start-few : (job : List ℕ) (parts : JobParts) (w : List ℕ) → StartGiven job parts w → (parts .goals ≤ 256) × (3 + parts .goals * 2 ≤ length job)
 start-few job parts w q = (goals-few job (q .the-job) (q .job-stands) parts (q .parts-are), goals-inside job (q .the-job) (q .job-stands) parts (q .parts-are))
 
 pub start-end : (job : List ℕ) (parts : JobParts) (w v : List ℕ) → StartGiven job parts w → v ≡ paste w outputEnd (drop 3 job) (parts .goals * 2) → Starts job parts w v (startState parts)
-unfolding FramesAt setAside
+unfolding FramesAt M.held
 start-end job parts w v q e =
     let few = start-few job parts w q in
     let only : Only outputEnd (outputEnd + parts .goals * 2) w v =
@@ -63,9 +65,16 @@ start-end job parts w v q e =
         stands = term-stands job j st parts p;
         goals = record { low = omega arith; high = omega arith; few = few .0; are = goals-copied job j st parts p w v outputEnd e (omega (arith, few, q .space)) };
         frames = (refl, refl);
-        sizes = record { output-fits = omega arith; goals-fit = omega (arith, few .0); frames-fit = omega arith };
+        held-is = refl;
+        sizes = record { output-fits = omega arith; held-fits = omega arith; goals-low = omega arith; goals-fit = omega (arith, few .0); frames-fit = omega arith };
       };
     }
+
+-- the number of the limit that ended a run, by its mode
+limit-number : {mode : ℕ} {c : Cause} → LimitMode mode c → (mode ≡ 3 → number c ≡ 22) × ((mode ≡ 3 → ⊥) → number c ≡ 40)
+unfolding number
+limit-number overflows = (λ e. refl, λ n. absurd (n refl))
+limit-number exceeds = (λ e. absurd (omega (arith, e)), λ n. refl)
 
 -- the end of a run, by the last state's mode
 module _ (job w : List ℕ) (s : State) (o : List ℕ) (r : Answer) where
@@ -79,34 +88,45 @@ module _ (job w : List ℕ) (s : State) (o : List ℕ) (r : Answer) where
       if-stopped table job w s (λ x. kept r o ≡ leftIn o (runEnd j (s .steps) x)) n
       (λ e i. if-failed table job w s [] (λ y. kept r o ≡ leftIn o (runEnd j (s .steps) (stopped y))) m (λ l. refuses tacticFailed 23 0 0 (s .steps) r o refl q) e i) κ h
 
-  pub ended-end : (s .mode ≡ 0 → ⊥) → (s .mode ≡ 1 → ⊥) → (s .mode ≡ 2 → ⊥) → r ≡ said.refusal 22 0 0 (s .steps) → Finishes job w s o r o
-  unfolding runEnd number
-  ended-end n a b q table j κ st h =
+  -- by a limit, whose number is the answer's
+  limit-end : (n : ℕ) → ((c : Cause) → LimitMode (s .mode) c → number c ≡ n) → (s .mode ≡ 0 → ⊥) → (s .mode ≡ 1 → ⊥) → (s .mode ≡ 2 → ⊥) → r ≡ said.refusal n 0 0 (s .steps) → Finishes job w s o r o
+  unfolding runEnd
+  limit-end i f n a b q table j κ st h =
       if-stopped table job w s (λ x. kept r o ≡ leftIn o (runEnd j (s .steps) x)) n
-      (λ e i. if-ended table job w s [] (λ y. kept r o ≡ leftIn o (runEnd j (s .steps) (stopped y))) a b (λ c l. refuses c 22 0 0 (s .steps) r o (ap number (l .cause-is)) q) e i) κ h
+      (λ e x. if-ended table job w s [] (λ y. kept r o ≡ leftIn o (runEnd j (s .steps) (stopped y))) a b (λ c l. refuses c i 0 0 (s .steps) r o (f c (l .limit)) q) e x) κ h
+
+  pub overflow-end : (s .mode ≡ 0 → ⊥) → (s .mode ≡ 1 → ⊥) → (s .mode ≡ 2 → ⊥) → s .mode ≡ 3 → r ≡ said.refusal 22 0 0 (s .steps) → Finishes job w s o r o
+  overflow-end n a b m = limit-end 22 (λ c l. limit-number l .0 m) n a b
+
+  pub exceed-end : (s .mode ≡ 0 → ⊥) → (s .mode ≡ 1 → ⊥) → (s .mode ≡ 2 → ⊥) → (s .mode ≡ 3 → ⊥) → r ≡ said.refusal 40 0 0 (s .steps) → Finishes job w s o r o
+  exceed-end n a b m = limit-end 40 (λ c l. limit-number l .1 m) n a b
 
 -- the end of a run that succeeded
 module _ (job : List ℕ) (term : ℕ) (w : List ℕ) (s : State) (m : s .mode ≡ 1) (q : FinishGiven job term w s) where
   not-running : s .mode ≡ 0 → ⊥
   not-running z = omega (arith, m, z)
 
+  -- the hiproof is all that is held
+  hiproof-small : (table : List ℕ) (p : Term) (g : List Goal) → Proved table job w s p g [] → s .out ≤ 5 * mostHeld
+  unfolding FramesAt M.held
+  hiproof-small table p g a = omega (arith, a .out-is, a .frames .1, a .held-is, a .sizes .held-fits, size-most p)
+
   -- its numbers are small
-  pub finish-small : (term ≤ 515) × (term ≤ length job) × (s .out ≤ outputEnd) × (s .count ≤ 256) × (s .start + s .count * 2 ≤ s .arena) × (s .arena ≤ length w)
-  unfolding setAside
+  pub finish-small : (term ≤ 515) × (term ≤ length job) × (s .out ≤ 5 * mostHeld) × (s .count ≤ 256) × (s .start + s .count * 2 ≤ s .arena) × (s .arena ≤ length w)
   finish-small =
       let place = place-small job (q .the-job) (q .job-stands) term (q .term-is) in
       if-stopped (q .table) job w s (λ x. Small) not-running
       (λ e i. if-proved (q .table) job w s [] (λ y. Small) m (λ p g a. (
         place .0,
         place .1,
-        omega (arith, q .few-steps, a .sizes .output-fits),
+        hiproof-small (q .table) p g a,
         a .goals .few,
         a .goals .high,
-        omega (arith, q .few-steps, a .sizes .goals-fit, q .space),
+        omega (arith, a .sizes .goals-fit, a .sizes .held-fits, q .space),
       )) e i) (q .control) (q .shows)
     where
       Small : Type 0
-      Small = (term ≤ 515) × (term ≤ length job) × (s .out ≤ outputEnd) × (s .count ≤ 256) × (s .start + s .count * 2 ≤ s .arena) × (s .arena ≤ length w)
+      Small = (term ≤ 515) × (term ≤ length job) × (s .out ≤ 5 * mostHeld) × (s .count ≤ 256) × (s .start + s .count * 2 ≤ s .arena) × (s .arena ≤ length w)
 
   module _ (o : List ℕ) (r : Answer) where
     -- what is said of every last state that the code may stand for

@@ -18,7 +18,7 @@ fn run_budget(table: &[u8], job: &[u8], budget: u32, work: &mut [u8], out: &mut 
     requires { ⌜ spaceEnd ≤ length (now work) ⌝ }
     ensures { λ r. ⌜ kept r (now (out .exit)) ≡ leftIn (now (out .entry)) (runOutcome (now (table .entry)) (now (job .entry)) budget) ⌝ }
 {
-    if 4096 < budget {
+    if 16384 < budget {
         return refusal(25, 0, 0, 0);
     }
     let last = run_files(table, job, budget as usize, work);

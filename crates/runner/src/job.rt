@@ -11,6 +11,7 @@ use arities::layout::OUTPUT_END;
 use arities::rounds::fill_arities;
 use files::jobs::JobParts;
 use machine::state::FAILED;
+use machine::state::OVERFLOWED;
 use machine::state::PROVED;
 use machine::state::RUNNING;
 use machine::state::State;
@@ -32,6 +33,7 @@ fn start(job: &[u8], parts: JobParts, work: &mut [u8]) -> State
         top: FRAMES_END,
         arena: OUTPUT_END + parts.goals * 2,
         out: 0,
+        held: 0,
         steps: 0,
     }
 }
@@ -63,7 +65,10 @@ pub fn finish(s: State, job: &[u8], term: usize, work: &[u8], out: &mut [u8]) ->
     if s.mode == FAILED {
         return refusal(23, 0, 0, s.steps);
     }
-    refusal(22, 0, 0, s.steps)
+    if s.mode == OVERFLOWED {
+        return refusal(22, 0, 0, s.steps);
+    }
+    refusal(40, 0, 0, s.steps)
 }
 
 // A job that was read, in a table that was read: its last state.

@@ -81,8 +81,8 @@ start-small w bytes at f e = let z : f .start ≡ word w (at + 8) * 65536 + word
 pub record GatherTurn (w : List ℕ) (fs₀ : List LentFrame) (top inside : ℕ) (fs : List LentFrame) (n at x : ℕ) : Type 0 where
   pub total : ℕ
   pub left : ℕ
-  pub ends : top + 14 * total ≡ framesEnd
-  pub ends-here : at + 14 * left ≡ framesEnd
+  pub ends : top + 22 * total ≡ framesEnd
+  pub ends-here : at + 22 * left ≡ framesEnd
   pub counted : n + left ≡ total
   pub room : total ≤ length fs
   pub space : framesEnd ≤ length w
@@ -111,18 +111,18 @@ module _ (w : List ℕ) (fs₀ : List LentFrame) (top inside : ℕ) (fs : List L
       go zero e = absurd (omega (arith, h, q .ends-here, e))
       go (suc k) e = (k, e)
 
-  first-fits : (k : ℕ) → q .left ≡ suc k → FrameFits (frameAt w at) x × AllFit w (at + 14) (heldAfter (frameAt w at .kind) (frameAt w at .count) x) k
+  first-fits : (k : ℕ) → q .left ≡ suc k → FrameFits (frameAt w at) x × AllFit w (at + 22) (heldAfter (frameAt w at .kind) (frameAt w at .count) x) k
   unfolding AllFit
   first-fits k e = subst (λ (m : ℕ). AllFit w at x m) e (q .fit)
 
-  pub gather-at-given : at < framesEnd → (at + 13 < length w) × FrameFits (frameAt w at) x
+  pub gather-at-given : at < framesEnd → (at + 21 < length w) × FrameFits (frameAt w at) x
   gather-at-given h = let o = one-left h in (omega (arith, q .ends-here, o .1, q .space), first-fits (o .0) (o .1) .0)
 
   pub gather-push-given : at < framesEnd → n < length fs
   gather-push-given h = let o = one-left h in omega (arith, q .counted, q .room, o .1)
 
   pub gather-next : at < framesEnd → (g : Gathered) → g ≡ gatheredOf (frameAt w at) x → (n′ : ℕ) → n′ ≡ n + 1 → (fs′ : List LentFrame) → fs′ ≡ set fs n (g .frame)
-      → GatherTurn w fs₀ top inside fs′ n′ (at + 14) (g .inside)
+      → GatherTurn w fs₀ top inside fs′ n′ (at + 22) (g .inside)
   unfolding gathered gatheredOf
   gather-next h g e n′ en fs′ ef =
       let o = one-left h in
@@ -135,9 +135,9 @@ module _ (w : List ℕ) (fs₀ : List LentFrame) (top inside : ℕ) (fs : List L
       let one-more : suc n ≡ n′ = omega (arith, en) in
       let front : take n′ fs′ ≡ take n fs ++ (f ∷ []) = ap₂ take (sym one-more) set-is ∙ take-suc-set fs n f inner in
       let rest : drop (q .total) fs′ ≡ drop (q .total) fs = ap (drop (q .total)) set-is ∙ drop-set-lt (q .total) fs n f (omega (arith, q .counted, o .1)) in
-      let same : take n′ fs′ ++ gathered w (at + 14) y k ++ drop (q .total) fs′ ≡ gathered w top inside (q .total) ++ drop (q .total) fs₀ =
-      ap₂ (λ (a b : List LentFrame). a ++ gathered w (at + 14) y k ++ b) front rest
-      ∙ ap (λ (a : List LentFrame). a ++ drop (q .total) fs) (append-assoc (take n fs) (f ∷ []) (gathered w (at + 14) y k))
+      let same : take n′ fs′ ++ gathered w (at + 22) y k ++ drop (q .total) fs′ ≡ gathered w top inside (q .total) ++ drop (q .total) fs₀ =
+      ap₂ (λ (a b : List LentFrame). a ++ gathered w (at + 22) y k ++ b) front rest
+      ∙ ap (λ (a : List LentFrame). a ++ drop (q .total) fs) (append-assoc (take n fs) (f ∷ []) (gathered w (at + 22) y k))
       ∙ sym (ap (λ (m : ℕ). take n fs ++ gathered w at x m ++ drop (q .total) fs) (o .1))
       ∙ q .same in
       record {
@@ -148,8 +148,8 @@ module _ (w : List ℕ) (fs₀ : List LentFrame) (top inside : ℕ) (fs : List L
         counted = omega (arith, q .counted, o .1, en);
         room = omega (arith, q .room, len);
         space = q .space;
-        fit = subst (λ (z : Gathered). AllFit w (at + 14) (z .inside) k) (sym e) (first-fits k (o .1) .1);
-        same = subst (λ (z : Gathered). take n′ fs′ ++ gathered w (at + 14) (z .inside) k ++ drop (q .total) fs′ ≡ gathered w top inside (q .total) ++ drop (q .total) fs₀) (sym e) same;
+        fit = subst (λ (z : Gathered). AllFit w (at + 22) (z .inside) k) (sym e) (first-fits k (o .1) .1);
+        same = subst (λ (z : Gathered). take n′ fs′ ++ gathered w (at + 22) (z .inside) k ++ drop (q .total) fs′ ≡ gathered w top inside (q .total) ++ drop (q .total) fs₀) (sym e) same;
       }
 
   pub gather-all : framesEnd ≤ at → Gathers w fs₀ top inside n fs

@@ -15,6 +15,8 @@ use Rattle.format.specs.Terms.{Term, size}
 use Rattle.format.proofs.Encoded.{length-termBytes, term-bytes}
 use Rattle.evaluation.specs.Machine as M
 use Rattle.evaluation.specs.Machine.{labelled, sequenceLeft, sequenceRight, tensorLeft, tensorRight, alternationLeft}
+use Rattle.evaluation.specs.Halts.{keptSize, keptBytes}
+use Rattle.evaluation.proofs.HaltBounds.{kept-bytes}
 use Rattle.entries.specs.SavedState.{finishedField, finishedFields}
 use Rattle.arities.specs.Layout.{framesEnd, spaceEnd}
 use Rattle.frames.specs.declared.Frame.{Frame}
@@ -65,51 +67,67 @@ module _ (table job w : List ℕ) (arena : ℕ) (f : Frame) (o : ℕ) where
   begins (alternationLeft π u g) h k = absurd (false≢true (sym (none-kept (f .kind) (λ e. omega (arith, e, h .0)) (λ e. omega (arith, e, h .0))) ∙ k))
 
 -- a field is no longer than what lies between its mark and where the output inside begins
-field-most : (w : List ℕ) (f : Frame) (o : ℕ) → f .mark ≤ o → f .mark + length (leftField w f o) ≤ o
-field-most w f o h = go (keepsField (f .kind)) refl
+field-most : (w : List ℕ) (f : Frame) (o : ℕ) → length (leftField w f o) ≤ o - (f .mark + 3)
+field-most w f o = go (keepsField (f .kind)) refl
   where
-    go : (b : Bool) → keepsField (f .kind) ≡ b → f .mark + length (leftField w f o) ≤ o
-    go false q = omega (arith, ap length (field-none w f o q), h)
-    go true q = omega (arith, ap length (field-some w f o q), length-take (o - (f .mark + 3)) (drop (f .mark + 3) w), h)
+    go : (b : Bool) → keepsField (f .kind) ≡ b → length (leftField w f o) ≤ o - (f .mark + 3)
+    go false q = omega (arith, ap length (field-none w f o q))
+    go true q = omega (arith, ap length (field-some w f o q), length-take (o - (f .mark + 3)) (drop (f .mark + 3) w))
 
-module _ (table job w : List ℕ) (arena : ℕ) where
-  pub fields-are : Bytes w → (k : List M.Frame) (top o : ℕ) → FramesAt table job w arena k top o → leftFields w top o (length k) ≡ finishedFields k
+-- so it has no more bytes than the term that the frame keeps
+kept-most : (table job w : List ℕ) (arena : ℕ) (f : Frame) (o : ℕ) (y : M.Frame) → FrameIs table job w arena f o y → length (leftField w f o) ≤ keptSize y
+unfolding FrameIs
+kept-most table job w arena f o (labelled π l) h = omega (arith, ap length (field-none w f o (none-kept (f .kind) (λ e. omega (arith, e, h .0)) (λ e. omega (arith, e, h .0)))))
+kept-most table job w arena f o (sequenceLeft π u) h = omega (arith, ap length (field-none w f o (none-kept (f .kind) (λ e. omega (arith, e, h .0)) (λ e. omega (arith, e, h .0)))))
+kept-most table job w arena f o (sequenceRight π s) h = omega (arith, field-most w f o, h .1)
+kept-most table job w arena f o (tensorLeft π u g) h = omega (arith, ap length (field-none w f o (none-kept (f .kind) (λ e. omega (arith, e, h .0)) (λ e. omega (arith, e, h .0)))))
+kept-most table job w arena f o (tensorRight π s g) h = omega (arith, field-most w f o, h .1)
+kept-most table job w arena f o (alternationLeft π u g) h = omega (arith, ap length (field-none w f o (none-kept (f .kind) (λ e. omega (arith, e, h .0)) (λ e. omega (arith, e, h .0)))))
+
+module _ (table job w : List ℕ) where
+  pub fields-are : (arena : ℕ) → Bytes w → (k : List M.Frame) (top o : ℕ) → FramesAt table job w arena k top o → leftFields w top o (length k) ≡ finishedFields k
   unfolding FramesAt leftFields finishedFields
-  fields-are bytes [] top o h = refl
-  fields-are bytes (y ∷ k) top o h =
-      ap₂ (λ (a b : List ℕ). a ++ b) (fields-are bytes k (top + 14) (frameAt w top .mark) (h .1)) (left-is table job w arena (frameAt w top) o bytes y (h .0))
+  fields-are arena bytes [] top o h = refl
+  fields-are arena bytes (y ∷ k) top o h =
+      ap₂ (λ (a b : List ℕ). a ++ b) (fields-are (frameAt w top .arena) bytes k (top + 22) (frameAt w top .mark) (h .1)) (left-is table job w arena (frameAt w top) o bytes y (h .0))
 
-  all-marked : (k : List M.Frame) (top o : ℕ) → o ≤ spaceEnd → FramesAt table job w arena k top o → AllMarked w top o (length k)
+  all-marked : (arena : ℕ) (k : List M.Frame) (top o : ℕ) → o ≤ spaceEnd → FramesAt table job w arena k top o → AllMarked w top o (length k)
   unfolding FramesAt AllMarked
-  all-marked [] top o b h = tt
-  all-marked (y ∷ k) top o b h = (
+  all-marked arena [] top o b h = tt
+  all-marked arena (y ∷ k) top o b h = (
     record { begins = begins table job w arena (frameAt w top) o y (h .0); low = b },
-    all-marked k (top + 14) (frameAt w top .mark) (omega (arith, frame-mark table job w arena y k top o h)) (h .1),
+    all-marked (frameAt w top .arena) k (top + 22) (frameAt w top .mark) (omega (arith, frame-mark table job w arena y k top o h)) (h .1),
   )
 
-  fields-most : (k : List M.Frame) (top o : ℕ) → FramesAt table job w arena k top o → length (leftFields w top o (length k)) ≤ o
-  unfolding FramesAt leftFields
-  fields-most [] top o h = omega arith
-  fields-most (y ∷ k) top o h =
-      let m = frame-mark table job w arena y k top o h in
-      omega (
-        arith,
-        fields-most k (top + 14) (frameAt w top .mark) (h .1),
-        field-most w (frameAt w top) o m,
-        length-append (leftFields w (top + 14) (frameAt w top .mark) (length k)) (leftField w (frameAt w top) o),
-      )
+  -- the fields have no more bytes than the terms that are kept
+  fields-most : (arena : ℕ) (k : List M.Frame) (top o : ℕ) → FramesAt table job w arena k top o → length (leftFields w top o (length k)) ≤ keptBytes k
+  unfolding FramesAt leftFields keptBytes
+  fields-most arena [] top o h = omega arith
+  fields-most arena (y ∷ k) top o h = omega (
+    arith,
+    fields-most (frameAt w top .arena) k (top + 22) (frameAt w top .mark) (h .1),
+    kept-most table job w arena (frameAt w top) o y (h .0),
+    length-append (leftFields w (top + 22) (frameAt w top .mark) (length k)) (leftField w (frameAt w top) o),
+  )
 
 module _ (w : List ℕ) (s : State) (n : ℕ) (h : HeadGiven w s n) where
   abbrev fields : List ℕ
   fields = leftFields w (s .top) (s .out) (length (h .frames))
 
-  out-low : s .out ≤ 20480
+  out-low : s .out ≤ 81920
   out-low = omega (arith, h .runs .sizes .output-fits, h .few-steps)
 
+  -- at most five bytes for each of the fields held, so that their length is a number of 16 bits
   few-bytes : length fields ≤ 20480
-  few-bytes = omega (arith, fields-most (h .table) (h .job) w (s .arena) (h .frames) (s .top) (s .out) (h .runs .frames), out-low)
+  few-bytes = omega (
+    arith,
+    fields-most (h .table) (h .job) w (s .arena) (h .frames) (s .top) (s .out) (h .runs .frames),
+    kept-bytes (h .frames),
+    h .runs .held-is,
+    h .runs .sizes .held-fits,
+  )
 
-  ends : s .top + 14 * length (h .frames) ≡ framesEnd
+  ends : s .top + 22 * length (h .frames) ≡ framesEnd
   ends = frames-end (h .table) (h .job) w (s .arena) (h .frames) (s .top) (s .out) (h .runs .frames)
 
   pub finished-given : FinishedGiven w (s .top) (s .out) (spaceEnd + 4)

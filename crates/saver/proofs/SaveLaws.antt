@@ -15,7 +15,7 @@ use Rattle.format.proofs.StandsLaws.{known}
 use Rattle.evaluation.specs.Machine as M
 use Rattle.lent_frames.specs.declared.LentFrame.{LentFrame}
 use Rattle.entries.specs.SavedState.{savedSize, waitingTerm, waitingTerms, savedContents, zerosTo}
-use Rattle.entries.proofs.SavedStateLaws.{term-length, contents-length, zeros-length}
+use Rattle.entries.proofs.SavedStateLaws.{term-length, zeros-length}
 use Rattle.entries.specs.Halting.{haltingWork}
 use Rattle.arities.specs.Layout.{framesEnd, spaceEnd}
 use Rattle.tactics.specs.Source.{source}
@@ -36,7 +36,7 @@ use Rattle.saver.proofs.SavedLaws.{counted, frames-end, all-fit, frames
 length-gathered : (w : List ℕ) (at x n : ℕ) → length (gathered w at x n) ≡ n
 unfolding gathered
 length-gathered w at x zero = refl
-length-gathered w at x (suc n) = ap suc (length-gathered w (at + 14) _ n)
+length-gathered w at x (suc n) = ap suc (length-gathered w (at + 22) _ n)
 
 -- the contents are the head, the waiting terms and the term to begin
 contents-parts : (n : ℕ) (π : M.Place) (g : List Goal) (k : List M.Frame) → savedContents n π g k ≡ headBytes n k (length k) ++ waitingTerms (length g) k ++ waitingTerm 0 π g
@@ -58,47 +58,45 @@ module _ (w : List ℕ) (fs : List LentFrame) (s : State) (q : SaveGiven w fs s)
   h = q .halts m
 
   arena-low : s .arena ≤ spaceEnd
-  arena-low = omega (arith, h .runs .sizes .goals-fit, h .few-steps)
+  arena-low = omega (arith, h .runs .sizes .goals-fit, h .runs .sizes .held-fits)
 
   count-is : (table job : List ℕ) (π : M.Place) (t : Term) (g : List Goal) (k : List M.Frame) → Runs table job w s π t g k → length g ≡ s .count
   count-is table job π t g k r = counted w (s .arena) (s .start) (s .count) g (r .goals)
 
-  ends-at : (table job : List ℕ) (π : M.Place) (t : Term) (g : List Goal) (k : List M.Frame) → Runs table job w s π t g k → s .top + 14 * length k ≡ framesEnd
+  ends-at : (table job : List ℕ) (π : M.Place) (t : Term) (g : List Goal) (k : List M.Frame) → Runs table job w s π t g k → s .top + 22 * length k ≡ framesEnd
   ends-at table job π t g k r = frames-end table job w (s .arena) k (s .top) (s .out) (r .frames)
 
-  ends : s .top + 14 * length (h .frames) ≡ framesEnd
+  ends : s .top + 22 * length (h .frames) ≡ framesEnd
   ends = ends-at (h .table) (h .job) (h .place) (h .term) (h .goals) (h .frames) (h .runs)
 
   few-frames : length (h .frames) ≤ mostSteps
   few-frames = omega (arith, ends, h .runs .sizes .frames-fit, h .few-steps)
 
   pub gather-given : GatherGiven w fs (s .top) (s .count)
-  gather-given =
-      let c = contents-length (s .steps) (h .place) (h .goals) (h .frames) in
-      record {
-        count = length (h .frames);
-        ends = ends;
-        room = omega (arith, few-frames, q .lent);
-        fit = subst (λ (x : ℕ). AllFit w (s .top) x (length (h .frames))) (count-is (h .table) (h .job) (h .place) (h .term) (h .goals) (h .frames) (h .runs))
-            (all-fit (h .table) (h .job) w (s .arena) (h .frames) (s .top) (s .out) (h .goals) (omega (arith, c, h .fits)) (h .shared) (h .runs .frames));
-        space = omega (arith, q .space);
-      }
+  gather-given = record {
+    count = length (h .frames);
+    ends = ends;
+    room = omega (arith, few-frames, q .lent);
+    fit = subst (λ (x : ℕ). AllFit w (s .top) x (length (h .frames))) (count-is (h .table) (h .job) (h .place) (h .term) (h .goals) (h .frames) (h .runs))
+        (all-fit (h .table) (h .job) w (s .arena) (h .frames) (s .top) (s .out) (h .goals) (h .goals-counted) (h .shared) (h .runs .frames));
+    space = omega (arith, q .space);
+  }
 
   module _ (n : ℕ) (fs′ : List LentFrame) (a : Gathers w fs (s .top) (s .count) n fs′) where
-    n-is : (k : List M.Frame) → s .top + 14 * length k ≡ framesEnd → n ≡ length k
+    n-is : (k : List M.Frame) → s .top + 22 * length k ≡ framesEnd → n ≡ length k
     n-is k e = a (length k) e .0
 
     -- the frames that were gathered
     front : take n fs′ ≡ gathered w (s .top) (s .count) n
     front =
         let i = n-is (h .frames) ends in
-        let t : s .top + 14 * n ≡ framesEnd = omega (arith, ends, i) in
+        let t : s .top + 22 * n ≡ framesEnd = omega (arith, ends, i) in
         ap (take n) (a n t .1) ∙ take-at (gathered w (s .top) (s .count) n) (drop n fs) n (length-gathered w (s .top) (s .count) n)
 
     long-enough : n ≤ length fs′
     long-enough =
         let i = n-is (h .frames) ends in
-        let t : s .top + 14 * n ≡ framesEnd = omega (arith, ends, i) in
+        let t : s .top + 22 * n ≡ framesEnd = omega (arith, ends, i) in
         let l : length fs′ ≡ length (gathered w (s .top) (s .count) n) + length (drop n fs) = ap length (a n t .1) ∙ length-append (gathered w (s .top) (s .count) n) (drop n fs) in
         omega (arith, l, length-gathered w (s .top) (s .count) n)
 

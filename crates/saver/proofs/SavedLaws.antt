@@ -77,7 +77,7 @@ module _ (table job w : List ℕ) (arena : ℕ) (f : Frame) (o x : ℕ) where
   held-is (sequenceRight π s) h = rw (h .0) refl
   held-is (tensorLeft π u g) h = rw (h .0) (omega (arith, counted w arena (f .start) (f .count) g (h .4)))
   held-is (tensorRight π s g) h = rw (h .0) refl
-  held-is (alternationLeft π u g) h = rw (h .0) (sym (counted w arena (f .start) (f .count) g (h .3)))
+  held-is (alternationLeft π u g) h = rw (h .0) (sym (counted w (f .arena) (f .start) (f .count) g (h .3)))
 
   -- its own goals, where the frame says that they are
   own-is : (y : M.Frame) → FrameIs table job w arena f o y → goalsAt w (f .start) (ownCountOf (f .kind) (f .count) x) ≡ ownGoals x y
@@ -88,19 +88,19 @@ module _ (table job w : List ℕ) (arena : ℕ) (f : Frame) (o x : ℕ) where
   own-is (tensorLeft π u g) h = rw (h .0) (h .4 .are)
   own-is (tensorRight π s g) h = rw (h .0) (h .4 .are)
   own-is (alternationLeft π u g) h =
-      let n = counted w arena (f .start) (f .count) g (h .3) in
+      let n = counted w (f .arena) (f .start) (f .count) g (h .3) in
       let c : f .count - x ≤ f .count = omega arith in
       rw (h .0) (sym (take-goals w (f .start) (f .count - x) (f .count) c) ∙ ap (λ (k : List Goal). take (f .count - x) k) (h .3 .are) ∙ ap (λ (m : ℕ). take (m - x) g) (sym n))
 
-  -- its goals lie below the goals' end
-  own-low : (y : M.Frame) → FrameIs table job w arena f o y → ownStart (ownCountOf (f .kind) (f .count) x) (f .start) + ownCountOf (f .kind) (f .count) x * 2 ≤ arena
+  -- its goals lie below the goals' end, those of an alternation below the end when it began
+  own-low : (y : M.Frame) → f .arena ≤ arena → FrameIs table job w arena f o y → ownStart (ownCountOf (f .kind) (f .count) x) (f .start) + ownCountOf (f .kind) (f .count) x * 2 ≤ arena
   unfolding FrameIs ownCountOf ownStart
-  own-low (labelled π l) h = rw (h .0) (omega arith)
-  own-low (sequenceLeft π u) h = rw (h .0) (omega arith)
-  own-low (sequenceRight π s) h = rw (h .0) (omega arith)
-  own-low (tensorLeft π u g) h = rw (h .0) (goals-low w arena (f .start) (f .count) g (h .4) (f .count) (omega arith))
-  own-low (tensorRight π s g) h = rw (h .0) (goals-low w arena (f .start) (f .count) g (h .4) (f .count) (omega arith))
-  own-low (alternationLeft π u g) h = rw (h .0) (goals-low w arena (f .start) (f .count) g (h .3) (f .count - x) (omega arith))
+  own-low (labelled π l) b h = rw (h .0) (omega arith)
+  own-low (sequenceLeft π u) b h = rw (h .0) (omega arith)
+  own-low (sequenceRight π s) b h = rw (h .0) (omega arith)
+  own-low (tensorLeft π u g) b h = rw (h .0) (goals-low w arena (f .start) (f .count) g (h .4) (f .count) (omega arith))
+  own-low (tensorRight π s g) b h = rw (h .0) (goals-low w arena (f .start) (f .count) g (h .4) (f .count) (omega arith))
+  own-low (alternationLeft π u g) b h = rw (h .0) (omega (arith, b, goals-low w (f .arena) (f .start) (f .count) g (h .3) (f .count - x) (omega arith)))
 
   -- so what is gathered of it is its waiting term
   pub frame-is : (y : M.Frame) → f .at < 65536 → FrameIs table job w arena f o y → frameBytes w (lentFrame f x) ≡ waitingTerm (stage y) (lastPlace y) (ownGoals x y)
@@ -120,10 +120,10 @@ module _ (table job w : List ℕ) (arena : ℕ) (f : Frame) (o x : ℕ) where
   stage-small (tensorRight π s g) = omega arith
   stage-small (alternationLeft π u g) = omega arith
 
-  pub frame-low : (y : M.Frame) → f .at < 65536 → lastPlace y .file ≤ 1 → arena ≤ spaceEnd → FrameIs table job w arena f o y → Low (lentFrame f x)
+  pub frame-low : (y : M.Frame) → f .at < 65536 → lastPlace y .file ≤ 1 → f .arena ≤ arena → arena ≤ spaceEnd → FrameIs table job w arena f o y → Low (lentFrame f x)
   unfolding lentFrame
-  frame-low y small file high h = record {
-    goals-low = omega (arith, own-low y h, high);
+  frame-low y small file began high h = record {
+    goals-low = omega (arith, own-low y began h, high);
     stage-small = omega (arith, stage-is y h, stage-small y);
     term-small = omega (arith, ap (λ (π : M.Place). π .file) (place-is y h), file, small);
   }
@@ -138,7 +138,7 @@ frame-fits table job w arena f o y (tensorLeft π u g) b r h = record { few = b;
 frame-fits table job w arena f o y (tensorRight π s g) b r h = record { few = b; shared = λ e. absurd (omega (arith, e, h .0)) }
 frame-fits table job w arena f o y (alternationLeft π u g) b r h = record {
   few = b;
-  shared = λ e. omega (arith, inside-most y π u g r, counted w arena (f .start) (f .count) g (h .3));
+  shared = λ e. omega (arith, inside-most y π u g r, counted w (f .arena) (f .start) (f .count) g (h .3));
 }
 
 -- the goals that are held outwards are no more than those inside and its own
@@ -150,45 +150,46 @@ held-most y (tensorLeft π u g) r = omega arith
 held-most y (tensorRight π s g) r = omega arith
 held-most y (alternationLeft π u g) r = omega (arith, inside-most y π u g r, length-take (length g - length y) g)
 
--- all waiting terms
-module _ (table job w : List ℕ) (arena : ℕ) where
-  pub frames-end : (k : List M.Frame) (top o : ℕ) → FramesAt table job w arena k top o → top + 14 * length k ≡ framesEnd
+-- all waiting terms; the goals of those outside one end where its frame says
+module _ (table job w : List ℕ) where
+  pub frames-end : (arena : ℕ) (k : List M.Frame) (top o : ℕ) → FramesAt table job w arena k top o → top + 22 * length k ≡ framesEnd
   unfolding FramesAt
-  frames-end [] top o h = omega (arith, h .0)
-  frames-end (y ∷ k) top o h = omega (arith, frames-end k (top + 14) _ (h .1))
+  frames-end arena [] top o h = omega (arith, h .0)
+  frames-end arena (y ∷ k) top o h = omega (arith, frames-end (frameAt w top .arena) k (top + 22) _ (h .1))
 
-  pub all-fit : (k : List M.Frame) (top o : ℕ) (y : List Goal) → length y + ownCount (length y) k ≤ 65535 → Shared y k → FramesAt table job w arena k top o → AllFit w top (length y) (length k)
+  pub all-fit : (arena : ℕ) (k : List M.Frame) (top o : ℕ) (y : List Goal) → length y + ownCount (length y) k ≤ 65535 → Shared y k → FramesAt table job w arena k top o → AllFit w top (length y) (length k)
   unfolding FramesAt AllFit Shared ownCount
-  all-fit [] top o y b s h = tt
-  all-fit (v ∷ k) top o y b s h =
+  all-fit arena [] top o y b s h = tt
+  all-fit arena (v ∷ k) top o y b s h =
       let f = frameAt w top in
       let e : heldAfter (f .kind) (f .count) (length y) ≡ length (heldGoals y v) = held-is table job w arena f o (length y) v (h .0) ∙ held-length y v (s .0) in
       let m = held-length y v (s .0) in
       let less : length (heldGoals y v) + ownCount (length (heldGoals y v)) k ≤ 65535 =
       subst (λ (n : ℕ). n + ownCount n k ≤ 65535) m (omega (arith, held-most y v (s .0), b)) in (
         frame-fits table job w arena f o y v (omega arith) (s .0) (h .0),
-        subst (λ (n : ℕ). AllFit w (top + 14) n (length k)) (sym e) (all-fit k (top + 14) _ (heldGoals y v) less (s .1) (h .1)),
+        subst (λ (n : ℕ). AllFit w (top + 22) n (length k)) (sym e) (all-fit (frameAt w top .arena) k (top + 22) _ (heldGoals y v) less (s .1) (h .1)),
       )
 
-  module _ (bytes : Bytes w) where
-    at-small : (top : ℕ) → frameAt w top .at < 65536
-    unfolding frameAt
-    at-small top = word-value w bytes (top + 4)
+  at-small : Bytes w → (top : ℕ) → frameAt w top .at < 65536
+  unfolding frameAt
+  at-small bytes top = word-value w bytes (top + 4)
 
-    -- what is gathered of them is what the saved state says of them
-    pub frames-are : (k : List M.Frame) (top o x : ℕ) → FramesAt table job w arena k top o → framesBytes w (gathered w top x (length k)) ≡ waitingTerms x k
-    unfolding FramesAt gathered framesBytes waitingTerms
-    frames-are [] top o x h = refl
-    frames-are (v ∷ k) top o x h =
-        let f = frameAt w top in
-        let e = held-is table job w arena f o x v (h .0) in
-        ap₂ (λ (a b : List ℕ). a ++ b)
-        (frames-are k (top + 14) _ (heldAfter (f .kind) (f .count) x) (h .1) ∙ ap (λ (n : ℕ). waitingTerms n k) e)
-        (frame-is table job w arena f o x v (at-small top) (h .0))
+  -- what is gathered of them is what the saved state says of them
+  pub frames-are : (arena : ℕ) → Bytes w → (k : List M.Frame) (top o x : ℕ) → FramesAt table job w arena k top o → framesBytes w (gathered w top x (length k)) ≡ waitingTerms x k
+  unfolding FramesAt gathered framesBytes waitingTerms
+  frames-are arena bytes [] top o x h = refl
+  frames-are arena bytes (v ∷ k) top o x h =
+      let f = frameAt w top in
+      let e = held-is table job w arena f o x v (h .0) in
+      ap₂ (λ (a b : List ℕ). a ++ b)
+      (frames-are (frameAt w top .arena) bytes k (top + 22) _ (heldAfter (f .kind) (f .count) x) (h .1) ∙ ap (λ (n : ℕ). waitingTerms n k) e)
+      (frame-is table job w arena f o x v (at-small bytes top) (h .0))
 
-    pub frames-low : (k : List M.Frame) (top o x : ℕ) → arena ≤ spaceEnd → InFiles k → FramesAt table job w arena k top o → AllLow (gathered w top x (length k))
-    unfolding FramesAt gathered AllLow InFiles
-    frames-low [] top o x l i h = tt
-    frames-low (v ∷ k) top o x l i h =
-        let f = frameAt w top in
-        (frame-low table job w arena f o x v (at-small top) (i .0) l (h .0), frames-low k (top + 14) _ (heldAfter (f .kind) (f .count) x) l (i .1) (h .1))
+  pub frames-low : (arena : ℕ) → Bytes w → (k : List M.Frame) (top o x : ℕ) → arena ≤ spaceEnd → InFiles k → FramesAt table job w arena k top o → AllLow (gathered w top x (length k))
+  unfolding FramesAt gathered AllLow InFiles
+  frames-low arena bytes [] top o x l i h = tt
+  frames-low arena bytes (v ∷ k) top o x l i h =
+      let f = frameAt w top in (
+        frame-low table job w arena f o x v (at-small bytes top) (i .0) (h .2 .goals-before) l (h .0),
+        frames-low (frameAt w top .arena) bytes k (top + 22) _ (heldAfter (f .kind) (f .count) x) (omega (arith, h .2 .goals-before, l)) (i .1) (h .1),
+      )

@@ -1,5 +1,5 @@
 -- Document 02, P1: the saved state of a run that halts, written behind what a run uses of the work space.
-use Prim.Native.Nat.{ℕ, _≤_, _<_}
+use Prim.Native.Nat.{ℕ, _+_, _≤_, _<_}
 use mathlib.Core.Path.{_≡_}
 use mathlib.Core.List.{List, [], _∷_}
 use lib.ListN.{length}
@@ -7,7 +7,7 @@ use Rattle.format.specs.declared.values.Goal.{Goal}
 use Rattle.format.specs.Limits.{mostSteps}
 use Rattle.format.specs.Terms.{Term}
 use Rattle.evaluation.specs.Machine as M
-use Rattle.evaluation.specs.Halts.{lastPlace, Shared}
+use Rattle.evaluation.specs.Halts.{lastPlace, Shared, ownCount}
 use Rattle.lent_frames.specs.declared.LentFrame.{LentFrame}
 use Rattle.entries.specs.SavedState.{savedSize, savedContents, zerosTo}
 use Rattle.entries.specs.Halting.{haltingWork, mostFrames}
@@ -21,7 +21,7 @@ unfoldable pub InFiles : List M.Frame → Type 0
 InFiles [] = Unit {0}
 InFiles (f ∷ k) = (lastPlace f .file ≤ 1) × InFiles k
 
--- a run that halts: a term is to begin, and the saved state has room for all that is held
+-- a run that halts: a term is to begin, the goals of all terms are counted in 16 bits, and the saved state has room for all that is held
 pub record Halts (w : List ℕ) (s : State) : Type 0 where
   pub table : List ℕ
   pub job : List ℕ
@@ -36,6 +36,7 @@ pub record Halts (w : List ℕ) (s : State) : Type 0 where
   pub file-known : place .file ≤ 1
   pub in-files : InFiles frames
   pub shared : Shared goals frames
+  pub goals-counted : length goals + ownCount (length goals) frames ≤ 65535
   pub fits : length (savedContents (s .steps) place goals frames) ≤ savedSize
 
 -- what saving is given and does

@@ -23,14 +23,14 @@ fn keeps_field(kind: u16) -> bool
 
 // Where the output inside the frame at a place begins: at the mark of the next frame inside, or at the output's end.
 fn inside_of(work: &[u8], at: usize, top: usize, out: usize) -> usize
-    requires { ⌜ ((at ≡ top → ⊥) → 14 ≤ at) × (at ≤ length (now work)) ⌝ }
+    requires { ⌜ ((at ≡ top → ⊥) → 22 ≤ at) × (at ≤ length (now work)) ⌝ }
     ensures { λ r. ⌜ r ≡ insideOf (now (work .entry)) at top out ⌝ }
 {
     if at == top {
         return out;
     }
-    let f = load_frame(work, at - 14);
-    f.mark as usize
+    let f = load_frame(work, at - 22);
+    f.mark
 }
 
 // The field that the frame at a place keeps, copied; it lies behind the header of the waiting term's own field.
@@ -41,7 +41,7 @@ fn write_field(work: &mut [u8], at: usize, end: usize, to: usize) -> usize
     let f = load_frame(work, at);
     let keeps = keeps_field(f.kind);
     if keeps {
-        let from = (f.mark as usize) + 3;
+        let from = f.mark + 3;
         let size = end - from;
         move_up(work, from, to, size);
         return to + size;
@@ -57,7 +57,7 @@ pub fn write_finished(work: &mut [u8], top: usize, out: usize, to: usize) -> usi
     let mut at = FRAMES_END;
     let mut next = to;
     while top < at {
-        at -= 14;
+        at -= 22;
         let end = inside_of(work, at, top, out);
         next = write_field(work, at, end, next);
     }

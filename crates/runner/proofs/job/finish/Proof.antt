@@ -1,7 +1,7 @@
 -- `job::finish` meets its contract: by the mode of the last state.
 -- Assumes nothing.
 use native.Mathlib.Omega.{arith}
-use Rattle.runner.proofs.JobLaws.{spent-end, failed-end, ended-end}
+use Rattle.runner.proofs.JobLaws.{spent-end, failed-end, overflow-end, exceed-end}
 use borrow.Author.Needs.{needs}
 use Rattle.runner.proofs.job.finish.Statement.{statement}
 use Rattle.runner.proofs.job.finish.Tie as tie
@@ -42,9 +42,16 @@ refusal-requires-3 c κs = search needs
 
 returns-4 : tie.Need-returns-4
 returns-4 c =
-    let a = c .before .before .before .before .before .before .before .before .before .before .args in
-    let p = c .before .before .before .before .before .before .before .before .before .before .pre in
-    ended-end (a .job .now) (a .work .now) (a .s) (a .out .now) _ (c .before .before .before .if2 .left) (c .before .before .before .before .before .if1 .left) (c .before .if3 .left) (c .refusal3 .ensures)
+    let a = c .before .before .before .before .before .before .before .before .before .before .before .before .args in
+    overflow-end (a .job .now) (a .work .now) (a .s) (a .out .now) _ (c .before .before .before .before .before .if2 .left) (c .before .before .before .before .before .before .before .if1 .left) (c .before .before .before .if3 .left) (c .before .if4 .taken) (c .refusal3 .ensures)
+
+refusal-requires-4 : tie.Need-refusal-requires-4
+refusal-requires-4 c κs = search needs
+
+returns-5 : tie.Need-returns-5
+returns-5 c =
+    let a = c .before .before .before .before .before .before .before .before .before .before .before .before .args in
+    exceed-end (a .job .now) (a .work .now) (a .s) (a .out .now) _ (c .before .before .before .before .before .if2 .left) (c .before .before .before .before .before .before .before .if1 .left) (c .before .before .before .if3 .left) (c .before .if4 .left) (c .refusal4 .ensures)
 
 pub finish-spec : {M : Type 1} → statement M
 finish-spec =
@@ -58,4 +65,6 @@ finish-spec =
     refusal-requires-2
     returns-3
     refusal-requires-3
-    returns-4)
+    returns-4
+    refusal-requires-4
+    returns-5)

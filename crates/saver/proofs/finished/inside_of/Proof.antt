@@ -1,6 +1,5 @@
 -- `finished::inside_of` meets its contract: a law for each return. Assumes nothing.
 use native.Mathlib.Omega.{arith}
-use borrow.Author.Needs.{needs}
 use Rattle.saver.proofs.FinishedLaws.{inside-out, inside-mark}
 use Rattle.saver.proofs.finished.inside_of.Statement.{statement}
 use Rattle.saver.proofs.finished.inside_of.Tie as tie
@@ -14,12 +13,9 @@ sub-load-frame c = c .before .before .pre .0 (c .if1 .left)
 load-frame-requires : tie.Need-load-frame-requires
 load-frame-requires c κs = omega (arith, c .before .before .pre .0 (c .if1 .left))
 
-cast-result : tie.Need-cast-result
-cast-result c = search needs
-
 returns-2 : tie.Need-returns-2
-returns-2 c = let a = c .before .before .before .before .args in inside-mark (a .work .now) (a .at) (a .top) (a .out) (c .before .before .if1 .left) _ (c .before .load-frame .ensures)
+returns-2 c = let a = c .before .before .before .args in inside-mark (a .work .now) (a .at) (a .top) (a .out) (c .before .if1 .left) _ (c .load-frame .ensures)
 
 pub inside-of-spec : {M : Type 1} → statement M
 inside-of-spec =
-    tie.close (tie.spec returns sub-load-frame load-frame-requires cast-result returns-2)
+    tie.close (tie.spec returns sub-load-frame load-frame-requires returns-2)

@@ -11,11 +11,13 @@ load-frame-requires c κs = search needs
 keeps-field-requires : tie.Need-keeps-field-requires
 keeps-field-requires c κs = search needs
 
-cast-from : tie.Need-cast-from
-cast-from c = search needs
-
+-- the field ends in the part that a run uses, so that it begins below that
 add-from : tie.Need-add-from
-add-from c = search needs
+add-from c =
+    let i = c .before .before .before .before .before .before in
+    let a = i .args in
+    let z = field-begins (a .work .now) (a .at) (a .end) (a .to) (i .pre) _ (c .before .before .before .load-frame .ensures) _ (c .before .before .keeps-field .ensures) (c .before .if1 .taken) in
+    record { fits = omega (arith, z, i .pre .marked .low) }
 
 sub-size : tie.Need-sub-size
 sub-size c =
@@ -52,4 +54,4 @@ returns-2 c =
     none-written (a .work .now) (a .at) (a .end) (a .to) (i .pre) _ (c .before .before .load-frame .ensures) _ (c .before .keeps-field .ensures) (c .if1 .left)
 
 pub write-field-spec : {M : Type 1} → statement M
-write-field-spec = tie.close (tie.spec load-frame-requires keeps-field-requires cast-from add-from sub-size move-up-requires add-result same-length returns same-length-2 returns-2)
+write-field-spec = tie.close (tie.spec load-frame-requires keeps-field-requires add-from sub-size move-up-requires add-result same-length returns same-length-2 returns-2)

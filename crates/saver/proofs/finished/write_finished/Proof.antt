@@ -14,7 +14,7 @@ loop-holds : tie.Need-loop-holds Inv-loop μ-loop
 loop-holds c = let a = c .before .args in finished-start (a .work .now) (a .top) (a .out) (a .to) (c .before .pre)
 
 sub-at : tie.Need-sub-at Inv-loop μ-loop
-sub-at c = frame-room _ _ _ _ _ _ _ (c .before .loop .inv) (c .loop-test .taken)
+sub-at c = omega (arith, frame-room _ _ _ _ _ _ _ (c .before .loop .inv) (c .loop-test .taken))
 
 inside-of-requires : tie.Need-inside-of-requires Inv-loop μ-loop
 inside-of-requires c κs = finished-inside-given _ _ _ _ _ _ _ (c .before .before .loop .inv) (c .before .loop-test .taken)
