@@ -10,20 +10,25 @@ extern "C" {
 #endif
 
 /*
- * The version of this header. The minor number goes up with each new call: 1.0 had the first five, 1.1 brought hitac_read_text,
- * 1.2 hitac_write_text, 1.3 hitac_search, 2.1 hitac_run_halting, 2.2 hitac_resume. The major number goes up when a program has to
- * be compiled anew. 2.0 brought no call: its answer has twelve numbers, where that of version 1 has eight.
+ * The version of this header. The minor number goes up with each new call, and with new sizes of one: 1.0 had the first five,
+ * 1.1 brought hitac_read_text, 1.2 hitac_write_text, 1.3 hitac_search, 2.1 hitac_run_halting, 2.2 hitac_resume. The major number
+ * goes up when every program has to be compiled anew. 2.0 brought no call: its answer has twelve numbers, where that of version 1
+ * has eight. 2.3 brought none either: its runs go up to 16,384 steps and may end with HITAC_FIELDS_TOO_MANY, and
+ * hitac_run_halting and hitac_resume need more frames and a longer state. A program of 2.2 that calls one of these two must be
+ * compiled anew: with the spaces of 2.2 they answer HITAC_WORK_TOO_SHORT, and such a program does not start with the shared
+ * library. Every other call works with programs of 2.0 on as they are. A state that was saved by 2.2 is HITAC_STATE_NOT_GENUINE.
  * A program that was built against version 1 must be built again, because a call of version 2 writes a longer answer. The names
  * of the shared libraries, libhitac.so.1 and libhitac.so.2, keep the two apart. Nothing keeps an old object file from being
  * linked with the archive of version 2, so compile all of them.
  */
 #define HITAC_VERSION_MAJOR 2
-#define HITAC_VERSION_MINOR 2
+#define HITAC_VERSION_MINOR 3
 #define HITAC_VERSION (HITAC_VERSION_MAJOR * 65536 + HITAC_VERSION_MINOR) /* as hitac_version answers it */
 
 /*
  * The version of the library: that of the header that it was built with. A program can go on with a library of the same
- * major number and of its own or a larger minor number.
+ * major number and of its own or a larger minor number, but one of 2.2 that calls hitac_run_halting or hitac_resume only
+ * with 2.2, because their sizes changed with 2.3.
  */
 uint32_t hitac_version(void);
 
@@ -153,20 +158,20 @@ struct hitac_answer hitac_resume(const uint8_t *table, size_t table_length,
                                  uint8_t *state, size_t state_length);
 
 /* Work space that each call needs, in bytes. */
-#define HITAC_CHECK_WORK 65536         /* for hitac_check */
-#define HITAC_RUN_WORK 1290752         /* for hitac_run */
-#define HITAC_FLATTEN_WORK 200704      /* for hitac_flatten */
-#define HITAC_CHECK_FLAT_WORK 65536    /* for hitac_check_flat */
-#define HITAC_WRITE_PROOF_WORK 65536   /* for hitac_write_proof */
-#define HITAC_READ_TEXT_WORK 196608    /* for hitac_read_text */
-#define HITAC_WRITE_TEXT_WORK 36864    /* for hitac_write_text */
-#define HITAC_SEARCH_WORK 2496256      /* for hitac_search */
-#define HITAC_RUN_HALTING_WORK 1377292 /* for hitac_run_halting */
-#define HITAC_RESUME_WORK 1377292      /* for hitac_resume */
+#define HITAC_CHECK_WORK 65536        /* for hitac_check */
+#define HITAC_RUN_WORK 640000         /* for hitac_run */
+#define HITAC_FLATTEN_WORK 200704     /* for hitac_flatten */
+#define HITAC_CHECK_FLAT_WORK 65536   /* for hitac_check_flat */
+#define HITAC_WRITE_PROOF_WORK 65536  /* for hitac_write_proof */
+#define HITAC_READ_TEXT_WORK 196608   /* for hitac_read_text */
+#define HITAC_WRITE_TEXT_WORK 36864   /* for hitac_write_text */
+#define HITAC_SEARCH_WORK 2496256     /* for hitac_search */
+#define HITAC_RUN_HALTING_WORK 800268 /* for hitac_run_halting */
+#define HITAC_RESUME_WORK 800268      /* for hitac_resume */
 
 /* What hitac_run_halting and hitac_resume need besides. */
-#define HITAC_FRAMES 4096 /* frames */
-#define HITAC_STATE 86540 /* bytes of a saved state, and so of the space for it */
+#define HITAC_FRAMES 16384 /* frames */
+#define HITAC_STATE 160268 /* bytes of a saved state, and so of the space for it */
 
 /*
  * Machine stack that each call needs, in bytes, whatever the files: from the arguments and the return address that the
@@ -193,7 +198,8 @@ struct hitac_answer hitac_resume(const uint8_t *table, size_t table_length,
 
 /* Limits. */
 #define HITAC_LONGEST_FILE 65535     /* bytes in a file, a text among them */
-#define HITAC_MOST_STEPS 4096        /* largest budget of a run; of hitac_resume with the steps before it */
+#define HITAC_MOST_STEPS 16384       /* largest budget of a run; of hitac_resume with the steps before it */
+#define HITAC_MOST_HELD_FIELDS 4096  /* fields that the finished terms of a run may have at a time */
 #define HITAC_MOST_SEARCH_STEPS 4096 /* largest budget of hitac_search */
 #define HITAC_MOST_HEIGHT 64         /* largest height of hitac_search; 1 is the smallest */
 #define HITAC_MOST_RULES 4096        /* rules in a table */
@@ -231,7 +237,7 @@ struct hitac_answer hitac_resume(const uint8_t *table, size_t table_length,
 #define HITAC_JOINED_TOO_LONG 22  /* a tensor joins more than 256 goals */
 #define HITAC_TACTIC_FAILED 23    /* the tactic failed */
 #define HITAC_BUDGET_SPENT 24     /* a term was to begin when the budget was used up */
-#define HITAC_BUDGET_TOO_LARGE 25 /* the budget is over 4,096; of hitac_resume, with the steps of the saved state */
+#define HITAC_BUDGET_TOO_LARGE 25 /* the budget is over 16,384, of a search 4,096; of hitac_resume, with the steps of saved */
 #define HITAC_OUTPUT_TOO_SHORT 26 /* the output space is shorter than the result */
 #define HITAC_FLAT_WRONG 27       /* an entry of the flat file does not apply, or goals are pending at its end */
 #define HITAC_ENTRIES_TOO_MANY 28 /* the flat file has more than 2,048 entries and cannot be written as a proof */
@@ -254,6 +260,9 @@ struct hitac_answer hitac_resume(const uint8_t *table, size_t table_length,
 
 /* Refusal of a saved state. */
 #define HITAC_STATE_NOT_GENUINE 30 /* the table and job, run for its step count, do not halt with just these bytes */
+
+/* Refusal of a run. */
+#define HITAC_FIELDS_TOO_MANY 40 /* a finished term makes more than 4,096 held fields */
 
 /* Refusals of a search. */
 #define HITAC_NO_EVALUATION 41  /* the tactic has no evaluation on the goals that is at most so high */

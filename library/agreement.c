@@ -719,6 +719,59 @@ static void halts(void)
     not_genuine();
 }
 
+/* Tactics from 0 on: 0 is id, and each of the others has the one before it twice. Tactic n leaves 2^(n + 1) - 1 fields. */
+static void doubled(size_t tactics)
+{
+    table.length = 0;
+    definition(&table, 0);
+    for (size_t tactic = 1; tactic < tactics; tactic++) {
+        size_t place = begin(&table, 2);
+        put16(&table, tactic);
+        size_t pair = begin(&table, 19);
+        field(&table, 24, 1, tactic - 1);
+        field(&table, 24, 1, tactic - 1);
+        finish(&table, pair);
+        finish(&table, place);
+    }
+}
+
+/* A job of so many labels around tactic 11: as many fields more than 4,095, and as many steps more than 8,190. */
+static void labels_around_tactic_11(size_t count)
+{
+    other.length = 0;
+    field(&other, 3, 1, 10);
+    for (size_t i = 0; i < count; i++) {
+        header(&other, 18, 2 + 5 * (count - i - 1) + 5);
+        put16(&other, i);
+    }
+    field(&other, 24, 1, 11);
+}
+
+/* Runs of more than 4,096 steps: 4,096 fields are held, one more is 40, with the budget just spent and once taken up. */
+static void longer_runs(void)
+{
+    doubled(12);
+    labels_around_tactic_11(1);
+    struct hitac_answer got = answer(RUN);
+    is("4,096 fields held", got, HITAC_SUCCESS, HITAC_NO_FILE, 0);
+    expect("in 8,191 steps", got.steps == 8191);
+    labels_around_tactic_11(2);
+    memset(out, POISON, sizeof out);
+    for (int i = 0; i < 2; i++) {
+        enum call call = i == 0 ? RUN : RUN_HALTING;
+        got = answer(call);
+        is("40", got, HITAC_FIELDS_TOO_MANY, HITAC_NO_FILE, 0);
+        expect("with the steps", got.steps == 8192);
+        is("40 before 24", answer_in(call, work_of(call), 0, 8192), HITAC_FIELDS_TOO_MANY, HITAC_NO_FILE, 0);
+        is("24 before 40", answer_in(call, work_of(call), 0, 8191), HITAC_BUDGET_SPENT, HITAC_NO_FILE, 0);
+    }
+    halt_at(8191);
+    got = answer(RESUME);
+    is("40 of a run that is taken up", got, HITAC_FIELDS_TOO_MANY, HITAC_NO_FILE, 0);
+    expect("with all steps", got.steps == 8192);
+    expect("40 leaves the output space", all(out, sizeof out, POISON));
+}
+
 /* Whether a call leaves just these bytes, and says so. */
 static int leaves(enum call call, const void *bytes, size_t length)
 {
@@ -871,6 +924,7 @@ int main(void)
     longest_term_and_text();
     searches();
     halts();
+    longer_runs();
     printf("agreement: %u tests, %u wrong\n", tests, failures);
     return failures != 0;
 }

@@ -11,22 +11,22 @@ from typing import NamedTuple
 
 # The version of the header that this module follows.
 VERSION_MAJOR = 2
-VERSION_MINOR = 2
+VERSION_MINOR = 3
 
 CHECK_WORK = 65536
-RUN_WORK = 1290752
+RUN_WORK = 640000
 FLATTEN_WORK = 200704
 CHECK_FLAT_WORK = 65536
 WRITE_PROOF_WORK = 65536
 READ_TEXT_WORK = 196608
 WRITE_TEXT_WORK = 36864
 SEARCH_WORK = 2496256
-RUN_HALTING_WORK = 1377292
-RESUME_WORK = 1377292
+RUN_HALTING_WORK = 800268
+RESUME_WORK = 800268
 
 # What the runs that may halt are lent besides: frames, and bytes for the saved state.
-FRAMES = 4096
-STATE = 86540
+FRAMES = 16384
+STATE = 160268
 
 # Machine stack that each call needs, in bytes, besides what Python takes: for threads with small stacks.
 CHECK_STACK = 1536
@@ -73,6 +73,7 @@ class Cause(enum.IntEnum):
     GOALS_TOO_FEW = 35
     TEXT_WRONG = 36
     VALUE_TOO_LARGE = 37
+    FIELDS_TOO_MANY = 40
     NO_EVALUATION = 41
     HEIGHT_OUTSIDE = 42
 
@@ -218,7 +219,7 @@ class Engine:
         return Accepted(answer.fields, answer.uses, answer.remaining, answer.rules)
 
     def run(self, table, job, budget):
-        """Runs the tactic of the job in at most so many steps, of which 4,096 are the most."""
+        """Runs the tactic of the job in at most so many steps, of which 16,384 are the most."""
         _need_32_bits("a budget", budget)
         answer = self._writes("hitac_run", RUN_WORK, table, job, budget)
         return Ran(self._result(answer), answer.steps)
@@ -229,7 +230,7 @@ class Engine:
         return self._steps("hitac_run_halting", RUN_HALTING_WORK, (table, job), budget)
 
     def resume(self, table, job, saved, budget):
-        """Goes on with a halted run of the same table and job for so many more steps, all together 4,096 at most; comes to what
+        """Goes on with a halted run of the same table and job for so many more steps, all together 16,384 at most; comes to what
         run_halting comes to with all of them."""
         _need_32_bits("a budget", budget)
         return self._steps("hitac_resume", RESUME_WORK, (table, job, saved), budget)

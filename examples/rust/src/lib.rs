@@ -116,7 +116,7 @@ impl Engine {
         Ok(Accepted { fields: answer.fields, uses: answer.uses, open: answer.remaining, rules: answer.rules })
     }
 
-    /// Runs the tactic of the job in at most `budget` steps, of which 4,096 are the most.
+    /// Runs the tactic of the job in at most `budget` steps, of which 16,384 are the most.
     pub fn run(&mut self, table: &[u8], job: &[u8], budget: u32) -> Result<Ran, Refusal> {
         let work = &mut self.work[..raw::RUN_WORK];
         let answer = succeeded(raw::run(table, job, budget, work, &mut self.out))?;
@@ -129,7 +129,7 @@ impl Engine {
         self.stepped(answer)
     }
 
-    /// Goes on with a halted run of the same table and job for so many more steps, all together 4,096 at most; comes to what
+    /// Goes on with a halted run of the same table and job for so many more steps, all together 16,384 at most; comes to what
     /// `run_halting` comes to with all of them.
     pub fn resume(&mut self, table: &[u8], job: &[u8], saved: &[u8], budget: u32) -> Result<Stepped, Refusal> {
         let answer = raw::resume(table, job, saved, budget, self.lent(raw::RESUME_WORK));

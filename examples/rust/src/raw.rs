@@ -2,7 +2,7 @@
 
 /// The version of the header that this file follows.
 pub const VERSION_MAJOR: u32 = 2;
-pub const VERSION_MINOR: u32 = 2;
+pub const VERSION_MINOR: u32 = 3;
 
 /// The answer of every call.
 #[repr(C)]
@@ -34,18 +34,18 @@ pub struct Frame {
 }
 
 pub const CHECK_WORK: usize = 65536;
-pub const RUN_WORK: usize = 1290752;
+pub const RUN_WORK: usize = 640000;
 pub const FLATTEN_WORK: usize = 200704;
 pub const CHECK_FLAT_WORK: usize = 65536;
 pub const WRITE_PROOF_WORK: usize = 65536;
 pub const READ_TEXT_WORK: usize = 196608;
 pub const WRITE_TEXT_WORK: usize = 36864;
 pub const SEARCH_WORK: usize = 2496256;
-pub const RUN_HALTING_WORK: usize = 1377292;
-pub const RESUME_WORK: usize = 1377292;
+pub const RUN_HALTING_WORK: usize = 800268;
+pub const RESUME_WORK: usize = 800268;
 
-pub const FRAMES: usize = 4096;
-pub const STATE: usize = 86540;
+pub const FRAMES: usize = 16384;
+pub const STATE: usize = 160268;
 
 // Machine stack that each call needs, in bytes; include/hitac.h says what is counted.
 pub const CHECK_STACK: usize = 1536;

@@ -29,11 +29,12 @@ pub enum Cause {
     GoalsTooFew = 35,
     TextWrong = 36,
     ValueTooLarge = 37,
+    FieldsTooMany = 40,
     NoEvaluation = 41,
     HeightOutside = 42,
 }
 
-const CAUSES: [Cause; 26] = [
+const CAUSES: [Cause; 27] = [
     Cause::InputTooLong,
     Cause::FieldTorn,
     Cause::TagNotAllowed,
@@ -58,6 +59,7 @@ const CAUSES: [Cause; 26] = [
     Cause::GoalsTooFew,
     Cause::TextWrong,
     Cause::ValueTooLarge,
+    Cause::FieldsTooMany,
     Cause::NoEvaluation,
     Cause::HeightOutside,
 ];
