@@ -41,7 +41,8 @@ pub struct Family {
     pub unit: &'static str,
     /// The largest size.
     pub most: usize,
-    /// What the calls answer: 0, but for searches that find nothing, proofs that are refused late, and runs that halt.
+    /// What the calls answer: 0, but for searches that find nothing, proofs that are refused late, and runs that halt or hold
+    /// too many fields.
     pub number: u32,
     make: Box<dyn Fn(usize) -> Case>,
 }
@@ -141,9 +142,7 @@ pub fn all() -> Vec<Family> {
                 list.extend(sets.into_iter().flatten())
             }
             Entry::WriteProof => list.extend([of_rules(entry), of_write_proof()].into_iter().flatten()),
-            Entry::Run => list.extend(of_run(entry)),
-            Entry::RunHalting => list.extend(of_run(entry).into_iter().chain(of_run_halting())),
-            Entry::Resume => list.extend(of_run(entry).into_iter().chain(of_resume())),
+            Entry::Run | Entry::RunHalting | Entry::Resume => list.extend(of_every_run(entry)),
             Entry::Search => list.extend(of_search()),
             Entry::ReadText => list.extend([of_chains(entry), of_labels(entry), of_read_text()].into_iter().flatten()),
             Entry::WriteText => list.extend([of_chains(entry), of_labels(entry)].into_iter().flatten()),
@@ -285,12 +284,36 @@ fn of_read_text() -> Vec<Family> {
     ]
 }
 
+/// Short runs, those of the entry alone, and long ones.
+fn of_every_run(entry: Entry) -> Vec<Family> {
+    let own = match entry {
+        Entry::RunHalting => of_run_halting(),
+        Entry::Resume => of_resume(),
+        _ => Vec::new(),
+    };
+    [of_run(entry), own, of_long_runs(entry)].into_iter().flatten().collect()
+}
+
 /// Runs that end by themselves; a run that is taken up, half way.
 fn of_run(entry: Entry) -> Vec<Family> {
     vec![
         family(entry, "definitions", "definitions in reverse", "definitions", 256, files::definitions_in_reverse),
         family(entry, "alternatives", "failing alternatives", "steps", 4_096, files::failing_alternatives),
         family(entry, "labels", "nested labels", "steps", 4_096, files::job_of_labels),
+    ]
+}
+
+/// Runs of up to 16,384 steps, and one that ends with 40 (document 02, P12); a run that is taken up, half way.
+fn of_long_runs(entry: Entry) -> Vec<Family> {
+    let steps = ("steps", 16_384);
+    let (uses, rules, labels) =
+        ("uses in sequence, late alternatives", "the same with as many rules", "labels in one another, by a name");
+    vec![
+        family(entry, "long-alternatives", "failing alternatives, by names", "steps", 16_384, files::long_alternatives),
+        halting(entry, "long-sequence", uses, steps, 24, move |steps| halts::long_sequence(entry, steps)),
+        family(entry, "long-rules", rules, "steps", 16_384, files::long_rules),
+        halting(entry, "long-labels", labels, steps, 24, move |steps| halts::deep_labels(entry, steps)),
+        halting(entry, "held", "4,097 fields finished", ("run", 1), 40, move |_| halts::too_many_fields(entry)),
     ]
 }
 
@@ -365,7 +388,8 @@ mod tests {
     #[test]
     fn every_call_is_answered_as_its_family_says() {
         for family in &all() {
-            let may_refuse = [Entry::Check, Entry::Search, Entry::RunHalting, Entry::Resume].map(Called::Entry);
+            let may_refuse =
+                [Entry::Check, Entry::Search, Entry::Run, Entry::RunHalting, Entry::Resume].map(Called::Entry);
             assert!(family.number == 0 || may_refuse.contains(&family.called), "{}", family.key);
             for size in family.sizes() {
                 let outcome = family.case(size).outcome();
@@ -414,12 +438,43 @@ mod tests {
         assert_eq!(largest("resume-all-labels").0.steps, 4_096);
         assert_eq!(largest("resume-eights").0.steps, 4_085);
         // The families that a run has, too, are of the same files.
-        for word in ["small", "definitions", "alternatives", "labels"] {
+        for word in [
+            "small",
+            "definitions",
+            "alternatives",
+            "labels",
+            "long-alternatives",
+            "long-sequence",
+            "long-rules",
+            "long-labels",
+            "held",
+        ] {
             let [run, halting, resume] =
                 ["run", "run_halting", "resume"].map(|name| largest(&format!("{name}-{word}")).1);
             assert_eq!((&run.table, &run.other), (&halting.table, &halting.other));
             assert_eq!((&run.table, &run.other), (&resume.table, &resume.other));
         }
+    }
+
+    /// Steps of the long runs, and fields of the proofs that they give; where they halt, the terms that wait.
+    #[test]
+    fn long_runs_have_16_384_steps() {
+        for name in ["run", "run_halting", "resume"] {
+            let steps = |word: &str| largest(&format!("{name}-{word}")).0.steps;
+            assert_eq!(steps("long-alternatives"), 16_382);
+            assert_eq!(steps("long-sequence"), 16_384);
+            assert_eq!(steps("long-rules"), 16_377);
+            assert_eq!(steps("long-labels"), 16_384);
+            assert_eq!(steps("held"), 3 * 4_097);
+        }
+        let fields = |key: &str| {
+            let case = largest(key).1;
+            Case::new(Entry::Check, &case.table, &case.result().unwrap()).outcome().answer.fields
+        };
+        assert_eq!(fields("run-long-alternatives"), 4_095);
+        assert_eq!(fields("run-long-rules"), 4_093);
+        let state = largest("run_halting-long-labels").1.outcome().state;
+        assert_eq!(u16::from_be_bytes([state[4], state[5]]), 63 * 256 + 1);
     }
 
     /// Labels round an id, and ids with one sequence fewer. Here the second engine counts and checks; before a count is

@@ -199,6 +199,26 @@ pub fn failing_alternatives(steps: usize) -> Files {
     (table, job(&[1], &sequence_of(&vec![defined(1); steps / 7])))
 }
 
+/// The same T1 in more steps than a job has room for: T2 is T1 ; T1, T3 is T2 ; T2, and so on. T1 takes six steps, and each of
+/// the others two more than twice as many as the one before, so that a power of two of steps is two more than all of them.
+pub fn long_alternatives(steps: usize) -> Files {
+    let (mut table, _) = failing_alternatives(0);
+    let last = (steps / 4).ilog2() as u16;
+    for tactic in 2..=last {
+        table.extend(definition(tactic, &sequence(&defined(tactic - 1), &defined(tactic - 1))));
+    }
+    (table, job(&[1], &defined(last)))
+}
+
+/// T1 is ((T2 | T2 | 1) ; T1) | id, where T2 has no definition: uses of rule 1 on one goal after the other, eight steps for each.
+pub fn long_rules(steps: usize) -> Files {
+    let uses = (steps / 8 - 2) as u16;
+    let rules = (0..uses).flat_map(|goal| rule(1, goal, &[goal + 1]));
+    let late = alternation(&defined(2), &alternation(&defined(2), &atomic(1)));
+    let body = alternation(&sequence(&late, &defined(1)), &id());
+    (rules.chain(definition(1, &body)).collect(), job(&[0], &defined(1)))
+}
+
 pub fn job_of_labels(fields: usize) -> Files {
     (examples::table_a(), job(&[10], &labels_around(fields - 1, &id())))
 }

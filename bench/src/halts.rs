@@ -57,6 +57,11 @@ fn used_up() -> Files {
     endless(alternation(&sequence(&id(), &defined(1)), &empty()), &[1])
 }
 
+/// 63 labels round T1: all but one in 64 of the steps begin a label that waits.
+fn ever_deeper() -> Files {
+    endless(labels_around(63, &defined(1)), &[1])
+}
+
 /// Labels round an id.
 fn labels(fields: usize) -> Files {
     (Vec::new(), job(&[1], &labels_around(fields - 1, &id())))
@@ -72,6 +77,36 @@ fn ids(count: usize) -> Files {
 fn eights(goals: usize) -> Files {
     let sixty_four = sequence(&atomic(4), &tensor_of(&vec![atomic(4); 8]));
     (examples::table_of_eight(), job(&vec![40; goals], &tensor_of(&vec![sixty_four; goals])))
+}
+
+/// T1 is (T2 | T2 | 1) ; T1, where T2 has no definition and rule 1 gives its goal back: a sequence that only grows.
+fn ever_longer() -> Files {
+    let late = alternation(&defined(2), &alternation(&defined(2), &atomic(1)));
+    let (definition, job) = endless(sequence(&late, &defined(1)), &[1]);
+    ([rule(1, 1, &[1]), definition].concat(), job)
+}
+
+/// A run of that budget that only goes deeper; taken up half way, if it is one that is.
+pub fn deep_labels(entry: Entry, steps: usize) -> Case {
+    of_budget(entry, ever_deeper(), steps)
+}
+
+/// The same with a sequence that only grows.
+pub fn long_sequence(entry: Entry, steps: usize) -> Case {
+    of_budget(entry, ever_longer(), steps)
+}
+
+fn of_budget(entry: Entry, (table, job): Files, steps: usize) -> Case {
+    match entry {
+        Entry::Resume => resumed((table, job), steps),
+        _ => Case::new(entry, &table, &job).with_budget(steps as u32),
+    }
+}
+
+/// Ids in sequence, one after the other, until more fields are held than may be: 40.
+pub fn too_many_fields(entry: Entry) -> Case {
+    let (table, job) = finished();
+    Case::new(entry, &table, &job)
 }
 
 pub fn deep_alternations(steps: usize) -> Case {

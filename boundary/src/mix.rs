@@ -4,6 +4,7 @@
 use second::generate::case::{Case, Entry};
 use second::generate::damage::damage;
 use second::generate::random::Random;
+use second::generate::random_longer::with_long_run;
 use second::generate::random_rules::with_many_uses;
 use second::generate::random_table::{RandomTable, Size};
 use second::generate::random_text::damage_text;
@@ -14,7 +15,7 @@ use second::generate::{other_file, vary_lent_spaces, vector_set};
 pub enum Kind {
     /// Files that fit each other, but for mistakes that the maker of random
     /// files makes on purpose. Of the calls that count rules one in ten uses some
-    /// of them again and again.
+    /// of them again and again, and of those that run a job one in five has a long run.
     Fitting,
     /// The same with thousands of fields.
     Large,
@@ -114,6 +115,7 @@ impl Mix {
         let case = vary_lent_spaces(random, case);
         let case = around_three_bytes(random, case);
         let case = if kind == Kind::Fitting { with_many_uses(random, case) } else { case };
+        let case = if kind == Kind::Fitting { with_long_run(random, case) } else { case };
         (kind, case)
     }
 }
@@ -357,10 +359,25 @@ mod tests {
         for entry in Entry::THAT_HALT {
             let of_entry = cases.iter().filter(|case| case.entry == entry);
             let answers: Vec<_> = of_entry.map(|case| case.outcome().answer).collect();
-            for number in [0, 23, 24, 25, 26, 29, 30] {
+            for number in [0, 23, 24, 25, 26, 29, 30, 40] {
                 let count = answers.iter().filter(|answer| answer.number == number).count();
                 let never = number == 30 && entry == Entry::RunHalting;
                 assert!(if never { count == 0 } else { count > 9 }, "{entry:?}, {number}: {count}");
+            }
+        }
+    }
+
+    /// Runs go past 4,096 steps, and end there in every way.
+    #[test]
+    fn long_runs_come_for_every_entry_that_runs() {
+        let mix = Mix::new(9);
+        let cases: Vec<Case> = (0..16_000).map(|number| mix.case(number).1).collect();
+        for entry in [Entry::Run, Entry::RunHalting, Entry::Resume] {
+            let answers: Vec<Answer> =
+                cases.iter().filter(|case| case.entry == entry).map(|case| case.outcome().answer).collect();
+            for number in [0, 23, 24, 40] {
+                let count = answers.iter().filter(|answer| answer.number == number && answer.steps > 4_096).count();
+                assert!(count > 0, "{entry:?}, {number}: {count}");
             }
         }
     }

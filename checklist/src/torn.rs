@@ -159,7 +159,7 @@ fn lent_spaces(inspector: &mut Inspector, entry: Entry, other: &[u8]) {
             inspector.call(&good.clone().with_output(output));
         }
     }
-    let budgets = [0, 1, 2, 4_095, 4_096, 4_097, 65_536, u32::MAX];
+    let budgets = [0, 1, 2, 4_095, 4_096, 4_097, 16_383, 16_384, 16_385, 65_536, u32::MAX];
     for budget in budgets.into_iter().filter(|_| entry.most_budget() > 0) {
         inspector.call(&good.clone().with_budget(budget));
         for height in [0, 1, 2, 63, 64, 65, 256 + 10, 65_536, u32::MAX].into_iter().filter(|_| entry == Entry::Search) {
