@@ -33,4 +33,4 @@ halted = refl & refl & refl & refl & refl & refl & refl & refl & refl & refl & r
 
 pub resumed : AllHold resumeLines
 unfolding word termBytes goalBytes goalsAt goalsOf readGoals headerAt leaf pair closed contents termOf readTerm number andThen rows findRow rowOf kindOf leastOf mostOf innerOf lengthFits size fields findRuleIn findRule findBodyIn findBody matches bodyPlaceIn bodyPlace fullTable lowest ruleOf definitionOf fieldOf readField withRule withDefinition fieldsOf readFields readTable ruleSize definitionSize rulesSize placedRules placedTactics placedLabels labelsOf clashesAny firstClash repeatsRule recountsRule repeatsTactic repeatsLabel refuseAt wholeTable searchedTag stepAt besides clashAt places clashTold jobTermPlace lastTermOf readLastTerm jobOf readJob proofBytes held unwind begin stepFrom step run start arityIn arityAfter tacticArity Holds runEnd runResult finishedFields waitingTerms savedContents savedIn savedState ranFor withJob withFiles withinLimit haltingOutcome stepsOf sameBytes isSaved genuine goingOn resumeOutcome resumeLines
-resumed = refl & refl & refl & refl & refl & refl & refl & refl & refl & refl & refl & refl & refl & refl & refl & refl & refl & refl & refl & no-more
+resumed = refl & refl & refl & refl & refl & refl & refl & refl & refl & refl & refl & refl & refl & refl & refl & no-more

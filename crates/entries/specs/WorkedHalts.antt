@@ -1,4 +1,5 @@
--- Document 02, P1: halted runs with all bytes of what they save, and going on. `proofs/WorkedHalts.antt` proves the lines.
+-- Document 02, P1: halted runs with all bytes of what they save, and going on, but for the lines with states of full size, which stand in crate worked_runs.
+-- `proofs/WorkedHalts.antt` proves the lines.
 use Prim.Native.Nat.{ℕ}
 use mathlib.Core.List.{List, [], _∷_, _++_}
 use mathlib.Core.Option.{none, some}
@@ -7,7 +8,6 @@ use Rattle.format.specs.Refusals.{fieldTorn, budgetTooLarge, stateNotGenuine}
 use Rattle.answers.specs.Answers as answer
 use Rattle.lent_frames.specs.declared.LentFrame.{LentFrame}
 use Rattle.entries.specs.Outcomes.{success, refusal, tableFile, otherFile, noFile}
-use Rattle.entries.specs.SavedState.{savedSize, zerosTo}
 use Rattle.entries.specs.Halting.{unbegun}
 use Rattle.entries.specs.Lines.{Line, haltedWith, halts, endsUnhalted, saves, haltsWith, stepsIn, resumes}
 use Rattle.entries.specs.Worked.{tableA}
@@ -90,11 +90,4 @@ resumeLines =
     ∷ resumes [] jobEmpty [] 0 (unbegun (refusal stateNotGenuine noFile 0 0))
     ∷ resumes [] jobEmpty (0 ∷ 0 ∷ 0 ∷ 0 ∷ 0 ∷ 1 ∷ 0 ∷ 1 ∷ 0 ∷ 3 ∷ 0 ∷ 0 ∷ []) 0 (unbegun (refusal stateNotGenuine noFile 0 0))
     ∷ resumes [] jobEmpty (0 ∷ 1 ∷ 0 ∷ 0 ∷ 0 ∷ 1 ∷ 0 ∷ 1 ∷ 0 ∷ 3 ∷ 0 ∷ 0 ∷ []) 4095 (unbegun (refusal stateNotGenuine noFile 0 0))
-    -- 30: one byte changed in a state of the right size
-    ∷ resumes [] jobEmpty (zerosTo savedSize (0 ∷ 0 ∷ 0 ∷ 0 ∷ 0 ∷ 1 ∷ 0 ∷ 1 ∷ 0 ∷ 4 ∷ 0 ∷ 0 ∷ [])) 0 (unbegun (refusal stateNotGenuine noFile 0 0))
-    -- going on with 0 gives the same bytes, and with 1 those of 3 steps
-    ∷ resumes tableA jobShares (zerosTo savedSize (0 ∷ 2 ∷ 0 ∷ 0 ∷ 0 ∷ 3 ∷ 6 ∷ 1 ∷ 0 ∷ 21 ∷ 0 ∷ 0 ∷ 4 ∷ 1 ∷ 0 ∷ 18 ∷ 0 ∷ 1 ∷ 0 ∷ 30 ∷ 0 ∷ 1 ∷ 0 ∷ 13 ∷ 0 ∷ 1 ∷ 0 ∷ 20 ∷ [])) 0 (haltedWith 2 (0 ∷ 2 ∷ 0 ∷ 0 ∷ 0 ∷ 3 ∷ 6 ∷ 1 ∷ 0 ∷ 21 ∷ 0 ∷ 0 ∷ 4 ∷ 1 ∷ 0 ∷ 18 ∷ 0 ∷ 1 ∷ 0 ∷ 30 ∷ 0 ∷ 1 ∷ 0 ∷ 13 ∷ 0 ∷ 1 ∷ 0 ∷ 20 ∷ []))
-    ∷ resumes tableA jobShares (zerosTo savedSize (0 ∷ 2 ∷ 0 ∷ 0 ∷ 0 ∷ 3 ∷ 6 ∷ 1 ∷ 0 ∷ 21 ∷ 0 ∷ 0 ∷ 4 ∷ 1 ∷ 0 ∷ 18 ∷ 0 ∷ 1 ∷ 0 ∷ 30 ∷ 0 ∷ 1 ∷ 0 ∷ 13 ∷ 0 ∷ 1 ∷ 0 ∷ 20 ∷ [])) 1 (haltedWith 3 (0 ∷ 3 ∷ 0 ∷ 5 ∷ 16 ∷ 0 ∷ 2 ∷ 0 ∷ 2 ∷ 0 ∷ 3 ∷ 6 ∷ 1 ∷ 0 ∷ 21 ∷ 0 ∷ 1 ∷ 0 ∷ 20 ∷ 5 ∷ 1 ∷ 0 ∷ 18 ∷ 0 ∷ 0 ∷ 0 ∷ 1 ∷ 0 ∷ 18 ∷ 0 ∷ 1 ∷ 0 ∷ 30 ∷ []))
-    -- and the steps of an ending are those from the start
-    ∷ resumes tableA jobShares (zerosTo savedSize (0 ∷ 3 ∷ 0 ∷ 5 ∷ 16 ∷ 0 ∷ 2 ∷ 0 ∷ 2 ∷ 0 ∷ 3 ∷ 6 ∷ 1 ∷ 0 ∷ 21 ∷ 0 ∷ 1 ∷ 0 ∷ 20 ∷ 5 ∷ 1 ∷ 0 ∷ 18 ∷ 0 ∷ 0 ∷ 0 ∷ 1 ∷ 0 ∷ 18 ∷ 0 ∷ 1 ∷ 0 ∷ 30 ∷ [])) 9 (unbegun (success (3 ∷ 0 ∷ 4 ∷ 0 ∷ 20 ∷ 0 ∷ 30 ∷ 20 ∷ 0 ∷ 8 ∷ 16 ∷ 0 ∷ 2 ∷ 0 ∷ 2 ∷ 17 ∷ 0 ∷ 0 ∷ 3 ∷ 0 ∷ 2 ∷ 0 ∷ 30 ∷ []) 4))
     ∷ []
