@@ -1,4 +1,4 @@
--- A value of 32 bits is read back where it was stored, a header's tag and length likewise: each half is behind the one stored before it.
+-- A value of 24 or of 32 bits is read back where it was stored, a header's tag and length likewise: each part is apart from the one stored before it.
 -- Assumes nothing.
 use Prim.Native.Nat.{ℕ, _+_, _*_, _/_, _%_, _≤_, _<_}
 use mathlib.Core.Path.{_≡_, ap₂, _∙_}
@@ -12,7 +12,7 @@ use Rattle.words.specs.Word.{word, putWord}
 use Rattle.words.proofs.WordLaws.{length-putWord, word-same, word-other}
 use Rattle.format.specs.Standing.{Head}
 use Rattle.tactics.specs.Memory.{Same, Only}
-use Rattle.tactics.specs.Numbers.{long, putLong, putHeader}
+use Rattle.tactics.specs.Numbers.{triple, putTriple, long, putLong, putHeader}
 use Rattle.tactics.proofs.MemoryLaws.{only-set, only-then, only-wider, only-word, same-word}
 
 pub same-long : (w v : List ℕ) (x y at : ℕ) → Same x y w v → x ≤ at → at + 3 < y → long v at ≡ long w at
@@ -60,3 +60,18 @@ header-length w at tag len h =
 pub header-head : (w : List ℕ) (at tag len : ℕ) → at + 3 + len ≤ length w → Head (putHeader w at tag len) at tag len
 header-head w at tag len h =
     record { tag-is = header-tag w at tag len (omega arith); length-is = header-length w at tag len (omega arith); inside = omega (arith, only-header w at tag len .same-length) }
+
+-- a value of 24 bits is stored as a header is, its high byte in the place of the tag
+pub same-triple : (w v : List ℕ) (x y at : ℕ) → Same x y w v → x ≤ at → at + 2 < y → triple v at ≡ triple w at
+unfolding triple
+same-triple w v x y at h l r = ap₂ (λ (a b : ℕ). a * 65536 + b) (h at l (omega arith)) (same-word w v x y (at + 1) h (omega arith) (omega arith))
+
+pub only-triple : (w : List ℕ) (at v : ℕ) → Only at (at + 3) w (putTriple w at v)
+unfolding putTriple putHeader
+only-triple w at v = only-header w at (v / 65536) (v % 65536)
+
+pub triple-same : (w : List ℕ) (at v : ℕ) → at + 2 < length w → triple (putTriple w at v) at ≡ v
+unfolding triple putTriple putHeader
+triple-same w at v h =
+    ap₂ (λ (a b : ℕ). a * 65536 + b) (header-tag w at (v / 65536) (v % 65536) (omega arith)) (header-length w at (v / 65536) (v % 65536) h)
+    ∙ div-add-mod' v 65536

@@ -1,8 +1,16 @@
--- Values of 32 bits and headers of fields in work space.
+-- Values of 24 and of 32 bits and headers of fields in work space.
 use Prim.Native.Nat.{ℕ, _+_, _*_, _/_, _%_}
 use mathlib.Core.List.{List}
-use lib.ListN.{set}
+use lib.ListN.{getD, set}
 use Rattle.words.specs.Word.{word, putWord}
+
+-- a value of 24 bits, high byte first
+unfoldable pub triple : List ℕ → (at : ℕ) → ℕ
+triple w at = getD w at 0 * 65536 + word w (at + 1)
+
+-- the same stored
+unfoldable pub putTriple : List ℕ → (at value : ℕ) → List ℕ
+putTriple w at v = set (putWord w (at + 1) (v % 65536)) at (v / 65536)
 
 -- a value of 32 bits, high byte first
 unfoldable pub long : List ℕ → (at : ℕ) → ℕ

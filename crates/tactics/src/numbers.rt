@@ -1,10 +1,27 @@
-// Values of 32 bits and headers of fields in work space.
+// Values of 24 and of 32 bits and headers of fields in work space.
 ghost use mathlib.Core.Path.{_≡_};
 ghost use Prim.Native.Nat.{_+_, _<_};
 ghost use lib.ListN.{length};
-ghost use Rattle.tactics.specs.Numbers.{long, putLong, putHeader};
+ghost use Rattle.tactics.specs.Numbers.{triple, putTriple, long, putLong, putHeader};
 use words::load16;
 use words::store16;
+
+// A value of 24 bits, high byte first.
+pub fn load24(s: &[u8], at: usize) -> usize
+    requires { ⌜ at + 2 < length (now s) ⌝ }
+    ensures { λ r. ⌜ r ≡ triple (now (s .entry)) at ⌝ }
+{
+    (s[at] as usize) * 65536 + (load16(s, at + 1) as usize)
+}
+
+// The same stored.
+pub fn store24(s: &mut [u8], at: usize, v: usize)
+    requires { ⌜ (at + 2 < length (now s)) × (v < 16777216) ⌝ }
+    ensures { λ _. ⌜ now (s .exit) ≡ putTriple (now (s .entry)) at v ⌝ }
+{
+    store16(s, at + 1, (v % 65536) as u16);
+    s[at] = (v / 65536) as u8;
+}
 
 // A value of 32 bits, high byte first.
 pub fn load32(s: &[u8], at: usize) -> usize
