@@ -13,7 +13,7 @@ goalsEnd = outputEnd + 512 + 16 * mostHeld + 512
 
 -- every term begun leaves at most one frame
 abbrev pub framesEnd : ℕ
-framesEnd = goalsEnd + 22 * mostSteps
+framesEnd = goalsEnd + 19 * mostSteps
 
 -- two bytes for each tactic number
 abbrev pub spaceEnd : ℕ

@@ -2,6 +2,6 @@
 // specs/Layout says how each follows from the most steps of a run and the most fields that it holds.
 pub const OUTPUT_END: usize = 81920;
 
-pub const FRAMES_END: usize = 508928;
+pub const FRAMES_END: usize = 459776;
 
-pub const SPACE_END: usize = 640000;
+pub const SPACE_END: usize = 590848;

@@ -40,7 +40,7 @@ runOutcome table job budget =
 
 -- the size of the work space that docs/ENTRIES.md names: all that a run of the most steps can use
 abbrev pub runWork : ℕ
-runWork = 640000
+runWork = 590848
 
 unfoldable pub runTactic : (table job : List ℕ) → (budget : ℕ) → (work out : List ℕ) → Written
 runTactic table job budget work out = writeIn runWork work out (runOutcome table job budget)

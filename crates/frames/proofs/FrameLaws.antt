@@ -8,13 +8,13 @@ use lib.ListN.{length}
 use Rattle.words.specs.Word.{word, putWord}
 use Rattle.words.proofs.WordLaws.{word-same}
 use Rattle.tactics.specs.Memory.{Same, Only}
-use Rattle.tactics.specs.Numbers.{long, putLong}
+use Rattle.tactics.specs.Numbers.{triple, putTriple}
 use Rattle.tactics.proofs.MemoryLaws.{only-then, only-wider, only-word, same-word}
-use Rattle.tactics.proofs.NumberLaws.{same-long, only-long, long-same}
+use Rattle.tactics.proofs.NumberLaws.{same-triple, only-triple, triple-same}
 use Rattle.frames.specs.declared.Frame.{Frame}
 use Rattle.frames.specs.Frames.{frameAt, putFrame}
 
-module _ (w : List ℕ) (at : ℕ) (f : Frame) (room : at + 21 < length w) where
+module _ (w : List ℕ) (at : ℕ) (f : Frame) (room : at + 18 < length w) where
   abbrev w₁ : List ℕ
   w₁ = putWord w at (f .kind)
 
@@ -28,16 +28,16 @@ module _ (w : List ℕ) (at : ℕ) (f : Frame) (room : at + 21 < length w) where
   w₄ = putWord w₃ (at + 6) (f .count)
 
   abbrev w₅ : List ℕ
-  w₅ = putLong w₄ (at + 8) (f .start)
+  w₅ = putTriple w₄ (at + 8) (f .start)
 
   abbrev w₆ : List ℕ
-  w₆ = putLong w₅ (at + 12) (f .mark)
+  w₆ = putTriple w₅ (at + 11) (f .mark)
 
   abbrev w₇ : List ℕ
-  w₇ = putWord w₆ (at + 16) (f .held)
+  w₇ = putWord w₆ (at + 14) (f .held)
 
   abbrev w₈ : List ℕ
-  w₈ = putLong w₇ (at + 18) (f .arena)
+  w₈ = putTriple w₇ (at + 16) (f .arena)
 
   o₁ : Only at (at + 2) w w₁
   o₁ = only-word w at (f .kind)
@@ -51,37 +51,37 @@ module _ (w : List ℕ) (at : ℕ) (f : Frame) (room : at + 21 < length w) where
   o₄ : Only (at + 6) (at + 8) w₃ w₄
   o₄ = only-wider (at + 6) (at + 6 + 2) _ _ w₃ w₄ (only-word w₃ (at + 6) (f .count)) (omega arith) (omega arith)
 
-  o₅ : Only (at + 8) (at + 12) w₄ w₅
-  o₅ = only-wider (at + 8) (at + 8 + 4) _ _ w₄ w₅ (only-long w₄ (at + 8) (f .start)) (omega arith) (omega arith)
+  o₅ : Only (at + 8) (at + 11) w₄ w₅
+  o₅ = only-wider (at + 8) (at + 8 + 3) _ _ w₄ w₅ (only-triple w₄ (at + 8) (f .start)) (omega arith) (omega arith)
 
-  o₆ : Only (at + 12) (at + 16) w₅ w₆
-  o₆ = only-wider (at + 12) (at + 12 + 4) _ _ w₅ w₆ (only-long w₅ (at + 12) (f .mark)) (omega arith) (omega arith)
+  o₆ : Only (at + 11) (at + 14) w₅ w₆
+  o₆ = only-wider (at + 11) (at + 11 + 3) _ _ w₅ w₆ (only-triple w₅ (at + 11) (f .mark)) (omega arith) (omega arith)
 
-  o₇ : Only (at + 16) (at + 18) w₆ w₇
-  o₇ = only-wider (at + 16) (at + 16 + 2) _ _ w₆ w₇ (only-word w₆ (at + 16) (f .held)) (omega arith) (omega arith)
+  o₇ : Only (at + 14) (at + 16) w₆ w₇
+  o₇ = only-wider (at + 14) (at + 14 + 2) _ _ w₆ w₇ (only-word w₆ (at + 14) (f .held)) (omega arith) (omega arith)
 
-  o₈ : Only (at + 18) (at + 22) w₇ w₈
-  o₈ = only-wider (at + 18) (at + 18 + 4) _ _ w₇ w₈ (only-long w₇ (at + 18) (f .arena)) (omega arith) (omega arith)
+  o₈ : Only (at + 16) (at + 19) w₇ w₈
+  o₈ = only-wider (at + 16) (at + 16 + 3) _ _ w₇ w₈ (only-triple w₇ (at + 16) (f .arena)) (omega arith) (omega arith)
 
-  pub only-frame : Only at (at + 22) w (putFrame w at f)
+  pub only-frame : Only at (at + 19) w (putFrame w at f)
   unfolding putFrame
   only-frame =
-      only-then at (at + 22) w w₁ _ (only-wider at (at + 2) at (at + 22) w w₁ o₁ (omega arith) (omega arith))
-      (only-then at (at + 22) w₁ w₂ _ (only-wider (at + 2) (at + 4) at (at + 22) w₁ w₂ o₂ (omega arith) (omega arith))
-      (only-then at (at + 22) w₂ w₃ _ (only-wider (at + 4) (at + 6) at (at + 22) w₂ w₃ o₃ (omega arith) (omega arith))
-      (only-then at (at + 22) w₃ w₄ _ (only-wider (at + 6) (at + 8) at (at + 22) w₃ w₄ o₄ (omega arith) (omega arith))
-      (only-then at (at + 22) w₄ w₅ _ (only-wider (at + 8) (at + 12) at (at + 22) w₄ w₅ o₅ (omega arith) (omega arith))
-      (only-then at (at + 22) w₅ w₆ _ (only-wider (at + 12) (at + 16) at (at + 22) w₅ w₆ o₆ (omega arith) (omega arith))
-      (only-then at (at + 22) w₆ w₇ _ (only-wider (at + 16) (at + 18) at (at + 22) w₆ w₇ o₇ (omega arith) (omega arith))
-      (only-wider (at + 18) (at + 22) at (at + 22) w₇ w₈ o₈ (omega arith) (omega arith))))))))
+      only-then at (at + 19) w w₁ _ (only-wider at (at + 2) at (at + 19) w w₁ o₁ (omega arith) (omega arith))
+      (only-then at (at + 19) w₁ w₂ _ (only-wider (at + 2) (at + 4) at (at + 19) w₁ w₂ o₂ (omega arith) (omega arith))
+      (only-then at (at + 19) w₂ w₃ _ (only-wider (at + 4) (at + 6) at (at + 19) w₂ w₃ o₃ (omega arith) (omega arith))
+      (only-then at (at + 19) w₃ w₄ _ (only-wider (at + 6) (at + 8) at (at + 19) w₃ w₄ o₄ (omega arith) (omega arith))
+      (only-then at (at + 19) w₄ w₅ _ (only-wider (at + 8) (at + 11) at (at + 19) w₄ w₅ o₅ (omega arith) (omega arith))
+      (only-then at (at + 19) w₅ w₆ _ (only-wider (at + 11) (at + 14) at (at + 19) w₅ w₆ o₆ (omega arith) (omega arith))
+      (only-then at (at + 19) w₆ w₇ _ (only-wider (at + 14) (at + 16) at (at + 19) w₆ w₇ o₇ (omega arith) (omega arith))
+      (only-wider (at + 16) (at + 19) at (at + 19) w₇ w₈ o₈ (omega arith) (omega arith))))))))
 
-  late₇ : Same 0 (at + 18) w₇ w₈
+  late₇ : Same 0 (at + 16) w₇ w₈
   late₇ = λ i l h. o₈ .kept .below i h
 
-  late₆ : Same 0 (at + 16) w₆ w₈
+  late₆ : Same 0 (at + 14) w₆ w₈
   late₆ = λ i l h. late₇ i l (omega arith) ∙ o₇ .kept .below i h
 
-  late₅ : Same 0 (at + 12) w₅ w₈
+  late₅ : Same 0 (at + 11) w₅ w₈
   late₅ = λ i l h. late₆ i l (omega arith) ∙ o₆ .kept .below i h
 
   late₄ : Same 0 (at + 8) w₄ w₈
@@ -125,8 +125,8 @@ module _ (w : List ℕ) (at : ℕ) (f : Frame) (room : at + 21 < length w) where
       let e₂ : word w₈ (at + 2) ≡ f .file = same-word w₂ w₈ 0 (at + 4) (at + 2) late₂ (omega arith) (omega arith) ∙ word-same w₁ (at + 2) (f .file) (omega (arith, n₁)) in
       let e₃ : word w₈ (at + 4) ≡ f .at = same-word w₃ w₈ 0 (at + 6) (at + 4) late₃ (omega arith) (omega arith) ∙ word-same w₂ (at + 4) (f .at) (omega (arith, n₂)) in
       let e₄ : word w₈ (at + 6) ≡ f .count = same-word w₄ w₈ 0 (at + 8) (at + 6) late₄ (omega arith) (omega arith) ∙ word-same w₃ (at + 6) (f .count) (omega (arith, n₃)) in
-      let e₅ : long w₈ (at + 8) ≡ f .start = same-long w₅ w₈ 0 (at + 12) (at + 8) late₅ (omega arith) (omega arith) ∙ long-same w₄ (at + 8) (f .start) (omega (arith, n₄)) in
-      let e₆ : long w₈ (at + 12) ≡ f .mark = same-long w₆ w₈ 0 (at + 16) (at + 12) late₆ (omega arith) (omega arith) ∙ long-same w₅ (at + 12) (f .mark) (omega (arith, n₅)) in
-      let e₇ : word w₈ (at + 16) ≡ f .held = same-word w₇ w₈ 0 (at + 18) (at + 16) late₇ (omega arith) (omega arith) ∙ word-same w₆ (at + 16) (f .held) (omega (arith, n₆)) in
-      let e₈ : long w₈ (at + 18) ≡ f .arena = long-same w₇ (at + 18) (f .arena) (omega (arith, n₇)) in
+      let e₅ : triple w₈ (at + 8) ≡ f .start = same-triple w₅ w₈ 0 (at + 11) (at + 8) late₅ (omega arith) (omega arith) ∙ triple-same w₄ (at + 8) (f .start) (omega (arith, n₄)) in
+      let e₆ : triple w₈ (at + 11) ≡ f .mark = same-triple w₆ w₈ 0 (at + 14) (at + 11) late₆ (omega arith) (omega arith) ∙ triple-same w₅ (at + 11) (f .mark) (omega (arith, n₅)) in
+      let e₇ : word w₈ (at + 14) ≡ f .held = same-word w₇ w₈ 0 (at + 16) (at + 14) late₇ (omega arith) (omega arith) ∙ word-same w₆ (at + 14) (f .held) (omega (arith, n₆)) in
+      let e₈ : triple w₈ (at + 16) ≡ f .arena = triple-same w₇ (at + 16) (f .arena) (omega (arith, n₇)) in
       λ i. record { kind = e₁ i; file = e₂ i; at = e₃ i; count = e₄ i; start = e₅ i; mark = e₆ i; held = e₇ i; arena = e₈ i }

@@ -1,11 +1,11 @@
-// The terms that wait, as frames of 22 bytes in work space.
+// The terms that wait, as frames of 19 bytes in work space.
 // Document 01, "Running a tactic": what waits while a term is run.
 ghost use mathlib.Core.Path.{_≡_};
 ghost use Prim.Native.Nat.{_+_, _<_};
 ghost use lib.ListN.{length};
 ghost use Rattle.frames.specs.Frames.{frameAt, putFrame};
-use tactics::numbers::load32;
-use tactics::numbers::store32;
+use tactics::numbers::load24;
+use tactics::numbers::store24;
 use words::load16;
 use words::store16;
 
@@ -36,7 +36,7 @@ pub struct Frame {
 }
 
 pub fn load_frame(work: &[u8], at: usize) -> Frame
-    requires { ⌜ at + 21 < length (now work) ⌝ }
+    requires { ⌜ at + 18 < length (now work) ⌝ }
     ensures { λ r. ⌜ r ≡ frameAt (now (work .entry)) at ⌝ }
 {
     Frame {
@@ -44,23 +44,23 @@ pub fn load_frame(work: &[u8], at: usize) -> Frame
         file: load16(work, at + 2),
         at: load16(work, at + 4),
         count: load16(work, at + 6),
-        start: load32(work, at + 8),
-        mark: load32(work, at + 12),
-        held: load16(work, at + 16),
-        arena: load32(work, at + 18),
+        start: load24(work, at + 8),
+        mark: load24(work, at + 11),
+        held: load16(work, at + 14),
+        arena: load24(work, at + 16),
     }
 }
 
 pub fn store_frame(work: &mut [u8], at: usize, f: Frame)
-    requires { ⌜ (at + 21 < length (now work)) × (f .start < 4294967296) × (f .mark < 4294967296) × (f .arena < 4294967296) ⌝ }
+    requires { ⌜ (at + 18 < length (now work)) × (f .start < 16777216) × (f .mark < 16777216) × (f .arena < 16777216) ⌝ }
     ensures { λ _. ⌜ now (work .exit) ≡ putFrame (now (work .entry)) at f ⌝ }
 {
     store16(work, at, f.kind);
     store16(work, at + 2, f.file);
     store16(work, at + 4, f.at);
     store16(work, at + 6, f.count);
-    store32(work, at + 8, f.start);
-    store32(work, at + 12, f.mark);
-    store16(work, at + 16, f.held);
-    store32(work, at + 18, f.arena);
+    store24(work, at + 8, f.start);
+    store24(work, at + 11, f.mark);
+    store16(work, at + 14, f.held);
+    store24(work, at + 16, f.arena);
 }

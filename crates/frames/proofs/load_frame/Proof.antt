@@ -1,6 +1,6 @@
 -- `load_frame` meets its contract: each value is loaded from its place.
 -- Assumes nothing.
-use Rattle.tactics.proofs.numbers.load32.Reads as load32-reads
+use Rattle.tactics.proofs.numbers.load24.Reads as load24-reads
 use Rattle.frames.specs.Frames.{frameAt}
 use native.Mathlib.Omega.{arith}
 use borrow.Author.Needs.{needs}
@@ -31,17 +31,17 @@ add-load16-3 c = omega (arith, c .before .before .before .before .pre)
 load16-requires-4 : tie.Need-load16-requires-4
 load16-requires-4 c κs = search needs
 
-add-load32 : tie.Need-add-load32
-add-load32 c = omega (arith, c .before .before .before .before .before .pre)
+add-load24 : tie.Need-add-load24
+add-load24 c = omega (arith, c .before .before .before .before .before .pre)
 
-load32-requires : tie.Need-load32-requires
-load32-requires c κs = search needs
+load24-requires : tie.Need-load24-requires
+load24-requires c κs = search needs
 
-add-load32-2 : tie.Need-add-load32-2
-add-load32-2 c = omega (arith, c .before .before .before .before .before .before .pre)
+add-load24-2 : tie.Need-add-load24-2
+add-load24-2 c = omega (arith, c .before .before .before .before .before .before .pre)
 
-load32-requires-2 : tie.Need-load32-requires-2
-load32-requires-2 c κs = search needs
+load24-requires-2 : tie.Need-load24-requires-2
+load24-requires-2 c κs = search needs
 
 add-load16-4 : tie.Need-add-load16-4
 add-load16-4 c = omega (arith, c .before .before .before .before .before .before .before .pre)
@@ -49,11 +49,11 @@ add-load16-4 c = omega (arith, c .before .before .before .before .before .before
 load16-requires-5 : tie.Need-load16-requires-5
 load16-requires-5 c κs = search needs
 
-add-load32-3 : tie.Need-add-load32-3
-add-load32-3 c = omega (arith, c .before .before .before .before .before .before .before .before .pre)
+add-load24-3 : tie.Need-add-load24-3
+add-load24-3 c = omega (arith, c .before .before .before .before .before .before .before .before .pre)
 
-load32-requires-3 : tie.Need-load32-requires-3
-load32-requires-3 c κs = search needs
+load24-requires-3 : tie.Need-load24-requires-3
+load24-requires-3 c κs = search needs
 
 returns : tie.Need-returns
 unfolding frameAt
@@ -70,12 +70,12 @@ load-frame-spec =
     load16-requires-3
     add-load16-3
     load16-requires-4
-    add-load32
-    load32-requires
-    add-load32-2
-    load32-requires-2
+    add-load24
+    load24-requires
+    add-load24-2
+    load24-requires-2
     add-load16-4
     load16-requires-5
-    add-load32-3
-    load32-requires-3
+    add-load24-3
+    load24-requires-3
     returns)

@@ -1,6 +1,6 @@
 -- `store_frame` meets its contract: each value is stored at its place.
 -- Assumes nothing.
-use Rattle.tactics.proofs.numbers.store32.Reads as store32-reads
+use Rattle.tactics.proofs.numbers.store24.Reads as store24-reads
 use Rattle.frames.specs.Frames.{putFrame}
 use native.Mathlib.Omega.{arith}
 use borrow.Author.Needs.{needs}
@@ -31,17 +31,17 @@ add-store16-3 c = omega (arith, c .before .before .before .before .before .befor
 store16-requires-4 : tie.Need-store16-requires-4
 store16-requires-4 c κs = search needs
 
-add-store32 : tie.Need-add-store32
-add-store32 c = omega (arith, c .before .before .before .before .before .before .before .before .before .before .before .before .before .before .before .before .before .before .pre)
+add-store24 : tie.Need-add-store24
+add-store24 c = omega (arith, c .before .before .before .before .before .before .before .before .before .before .before .before .before .before .before .before .before .before .pre)
 
-store32-requires : tie.Need-store32-requires
-store32-requires c κs = search needs
+store24-requires : tie.Need-store24-requires
+store24-requires c κs = search needs
 
-add-store32-2 : tie.Need-add-store32-2
-add-store32-2 c = omega (arith, c .before .before .before .before .before .before .before .before .before .before .before .before .before .before .before .before .before .before .before .before .before .before .pre)
+add-store24-2 : tie.Need-add-store24-2
+add-store24-2 c = omega (arith, c .before .before .before .before .before .before .before .before .before .before .before .before .before .before .before .before .before .before .before .before .before .before .pre)
 
-store32-requires-2 : tie.Need-store32-requires-2
-store32-requires-2 c κs = search needs
+store24-requires-2 : tie.Need-store24-requires-2
+store24-requires-2 c κs = search needs
 
 add-store16-4 : tie.Need-add-store16-4
 add-store16-4 c = omega (arith, c .before .before .before .before .before .before .before .before .before .before .before .before .before .before .before .before .before .before .before .before .before .before .before .before .before .before .pre)
@@ -49,11 +49,11 @@ add-store16-4 c = omega (arith, c .before .before .before .before .before .befor
 store16-requires-5 : tie.Need-store16-requires-5
 store16-requires-5 c κs = search needs
 
-add-store32-3 : tie.Need-add-store32-3
-add-store32-3 c = omega (arith, c .before .before .before .before .before .before .before .before .before .before .before .before .before .before .before .before .before .before .before .before .before .before .before .before .before .before .before .before .before .before .pre)
+add-store24-3 : tie.Need-add-store24-3
+add-store24-3 c = omega (arith, c .before .before .before .before .before .before .before .before .before .before .before .before .before .before .before .before .before .before .before .before .before .before .before .before .before .before .before .before .before .before .pre)
 
-store32-requires-3 : tie.Need-store32-requires-3
-store32-requires-3 c κs = search needs
+store24-requires-3 : tie.Need-store24-requires-3
+store24-requires-3 c κs = search needs
 
 same-length : tie.Need-same-length
 same-length c = search needs
@@ -73,13 +73,13 @@ store-frame-spec =
     store16-requires-3
     add-store16-3
     store16-requires-4
-    add-store32
-    store32-requires
-    add-store32-2
-    store32-requires-2
+    add-store24
+    store24-requires
+    add-store24-2
+    store24-requires-2
     add-store16-4
     store16-requires-5
-    add-store32-3
-    store32-requires-3
+    add-store24-3
+    store24-requires-3
     same-length
     returns)
