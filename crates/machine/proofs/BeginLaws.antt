@@ -44,21 +44,21 @@ place-on s π n m q e = (λ i. record { file = s .file; at = e i }) ∙ ap (λ (
 
 -- a frame laid on the others
 pushed : (table job w : List ℕ) (arena top o o′ : ℕ) (f : Frame) (x : M.Frame) (k : List M.Frame)
-    → arena + 22 ≤ top → o + 22 ≤ top → top ≤ length w → f .mark ≡ o → f .arena ≡ arena → Began f arena k
-    → FramesAt table job w arena k top o → FrameIs table job (putFrame w (top - 22) f) arena f o′ x → FramesAt table job (putFrame w (top - 22) f) arena (x ∷ k) (top - 22) o′
+    → arena + 19 ≤ top → o + 19 ≤ top → top ≤ length w → f .mark ≡ o → f .arena ≡ arena → Began f arena k
+    → FramesAt table job w arena k top o → FrameIs table job (putFrame w (top - 19) f) arena f o′ x → FramesAt table job (putFrame w (top - 19) f) arena (x ∷ k) (top - 19) o′
 unfolding FramesAt
 pushed table job w arena top o o′ f x k a b n e d bg h i =
-    let v = putFrame w (top - 22) f in
-    let only : Only (top - 22) (top - 22 + 22) w v = only-frame w (top - 22) f (omega arith) in
-    let back : frameAt v (top - 22) ≡ f = frame-same w (top - 22) f (omega arith) in
-    let up : top ≡ top - 22 + 22 = omega arith in
+    let v = putFrame w (top - 19) f in
+    let only : Only (top - 19) (top - 19 + 19) w v = only-frame w (top - 19) f (omega arith) in
+    let back : frameAt v (top - 19) ≡ f = frame-same w (top - 19) f (omega arith) in
+    let up : top ≡ top - 19 + 19 = omega arith in
     let rest : FramesAt table job v arena k top o = frames-kept w v arena arena (omega arith) table job k top o
-    (kept-behind (top - 22) (top - 22 + 22) o arena top w v only (omega arith) (omega arith) (omega arith)) h in
-    let rest′ : FramesAt table job v (f .arena) k (top - 22 + 22) (f .mark) =
-    subst (λ (z : ℕ). FramesAt table job v z k (top - 22 + 22) (f .mark)) (sym d)
-    (subst (λ (y : ℕ). FramesAt table job v arena k (top - 22 + 22) y) (sym e) (subst (λ (y : ℕ). FramesAt table job v arena k y o) up rest)) in (
+    (kept-behind (top - 19) (top - 19 + 19) o arena top w v only (omega arith) (omega arith) (omega arith)) h in
+    let rest′ : FramesAt table job v (f .arena) k (top - 19 + 19) (f .mark) =
+    subst (λ (z : ℕ). FramesAt table job v z k (top - 19 + 19) (f .mark)) (sym d)
+    (subst (λ (y : ℕ). FramesAt table job v arena k (top - 19 + 19) y) (sym e) (subst (λ (y : ℕ). FramesAt table job v arena k y o) up rest)) in (
       subst (λ (y : Frame). FrameIs table job v arena y o′ x) (sym back) i,
-      subst (λ (y : Frame). FramesAt table job v (y .arena) k (top - 22 + 22) (y .mark)) (sym back) rest′,
+      subst (λ (y : Frame). FramesAt table job v (y .arena) k (top - 19 + 19) (y .mark)) (sym back) rest′,
       subst (λ (y : Frame). Began y arena k) (sym back) bg,
     )
 
@@ -245,17 +245,17 @@ module _ (w : List ℕ) (s : State) (room : Room w s) where
   -- a frame laid on the others: what lies before it stays
   module _ (y : List ℕ) (len : length y ≡ length w) (f : Frame) where
     abbrev v : List ℕ
-    v = putFrame y (s .top - 22) f
+    v = putFrame y (s .top - 19) f
 
-    pub only-push : Only (s .top - 22) (s .top - 22 + 22) y v
-    only-push = only-frame y (s .top - 22) f (omega (arith, len, room .space, room .frames-high, room .frames-low))
+    pub only-push : Only (s .top - 19) (s .top - 19 + 19) y v
+    only-push = only-frame y (s .top - 19) f (omega (arith, len, room .space, room .frames-high, room .frames-low))
 
     pub goals-under : (start count : ℕ) (g : List Goal) → GoalsIs y (s .arena) start count g → GoalsIs v (s .arena) start count g
     goals-under start count g h =
         goals-kept y v (s .arena) (s .arena) (omega arith) start count g (λ i l r. only-push .kept .below i (omega (arith, room .goals-fit, room .frames-low))) h
 
     pub push-here : (table job : List ℕ) (o′ : ℕ) (x : M.Frame) (k : List M.Frame) → f .mark ≡ s .out → f .held ≡ s .held → f .arena ≡ s .arena → s .held ≡ held k → Sizes s
-        → FramesAt table job y (s .arena) k (s .top) (s .out) → FrameIs table job v (s .arena) f o′ x → FramesAt table job v (s .arena) (x ∷ k) (s .top - 22) o′
+        → FramesAt table job y (s .arena) k (s .top) (s .out) → FrameIs table job v (s .arena) f o′ x → FramesAt table job v (s .arena) (x ∷ k) (s .top - 19) o′
     push-here table job o′ x k e a b c z h i =
         pushed table job y (s .arena) (s .top) (s .out) o′ f x k
         (omega (arith, room .goals-fit, room .frames-low)) (omega (arith, room .output-fits, room .frames-low)) (omega (arith, len, room .space, room .frames-high)) e b
@@ -284,13 +284,13 @@ module _ (w : List ℕ) (s : State) (room : Room w s) where
     frames-fit = omega (arith, h .frames-fit, room .frames-low);
   }
 
-  pub sequence-end : (right : ℕ) (v : List ℕ) → v ≡ putFrame (putHeader w (s .out) 19 0) (s .top - 22) (sequenceFrame s right)
+  pub sequence-end : (right : ℕ) (v : List ℕ) → v ≡ putFrame (putHeader w (s .out) 19 0) (s .top - 19) (sequenceFrame s right)
       → ((t u : Term) → right ≡ s .at + 3 + size t → Begins w s v (entered s 3 (s .count) (s .out + 3)) (sequence t u) (sequenceNext t u)) × Grown w s v (entered s 3 (s .count) (s .out + 3))
   unfolding Holds FrameIs Stands
   sequence-end right v q =
       let y = putHeader w (s .out) 19 0 in
       let f = sequenceFrame s right in
-      let z = putFrame y (s .top - 22) f in
+      let z = putFrame y (s .top - 19) f in
       let r = entered s 3 (s .count) (s .out + 3) in
       let only = only-header w (s .out) 19 0 in
       let push = only-push y (only .same-length) f in
@@ -309,12 +309,12 @@ module _ (w : List ℕ) (s : State) (room : Room w s) where
         enter-grown y (only .same-length) f (beyond-output y 3 only (omega arith)) 3 (s .count) (s .out + 3),
       )
 
-  pub alternation-end : (right : ℕ) (v : List ℕ) → v ≡ putFrame w (s .top - 22) (alternationFrame s right)
+  pub alternation-end : (right : ℕ) (v : List ℕ) → v ≡ putFrame w (s .top - 19) (alternationFrame s right)
       → ((t u : Term) → right ≡ s .at + 3 + size t → Begins w s v (entered s 3 (s .count) (s .out)) (alternation t u) (alternationNext t u)) × Grown w s v (entered s 3 (s .count) (s .out))
   unfolding Holds FrameIs Stands
   alternation-end right v q =
       let f = alternationFrame s right in
-      let z = putFrame w (s .top - 22) f in
+      let z = putFrame w (s .top - 19) f in
       let r = entered s 3 (s .count) (s .out) in
       subst (λ (x : List ℕ). ((t u : Term) → right ≡ s .at + 3 + size t → Begins w s x r (alternation t u) (alternationNext t u)) × Grown w s x r) (sym q) (
         λ t u e table job π g k h.
@@ -342,14 +342,14 @@ module _ (w : List ℕ) (s : State) (room : Room w s) where
     fail-grown r q,
   )
 
-  pub label-end : (value : ℕ) (v : List ℕ) → s .count ≡ 1 → v ≡ putFrame (putWord (putHeader w (s .out) 18 0) (s .out + 3) value) (s .top - 22) (labelFrame s)
+  pub label-end : (value : ℕ) (v : List ℕ) → s .count ≡ 1 → v ≡ putFrame (putWord (putHeader w (s .out) 18 0) (s .out + 3) value) (s .top - 19) (labelFrame s)
       → Labels value v (entered s 5 (s .count) (s .out + 5))
   unfolding Holds FrameIs Stands
   label-end value v n q =
       let y₁ = putHeader w (s .out) 18 0 in
       let y = putWord y₁ (s .out + 3) value in
       let f = labelFrame s in
-      let z = putFrame y (s .top - 22) f in
+      let z = putFrame y (s .top - 19) f in
       let r = entered s 5 (s .count) (s .out + 5) in
       let only₁ = only-header w (s .out) 18 0 in
       let only₂ = only-word y₁ (s .out + 3) value in

@@ -84,13 +84,13 @@ module _ (w : List ℕ) (s : State) (room : Room w s) where
       → ((t u : Term) → right ≡ s .at + 3 + size t → Begins w s v r (tensor t u) (tensorNext (some (n - 1)) t u)) → Grown w s v r → Tensors right n v r
   tensor-split right n v r z b gr = (λ o t u e a. subst (λ (x : Option ℕ). Begins w s v r (tensor t u) (tensorNext x t u)) (sym (code-some o n a z)) (b t u e), gr)
 
-  pub split-end : (right n : ℕ) (v : List ℕ) → n ≤ s .count → v ≡ putFrame (putHeader w (s .out) 20 0) (s .top - 22) (tensorFrame s right n)
+  pub split-end : (right n : ℕ) (v : List ℕ) → n ≤ s .count → v ≡ putFrame (putHeader w (s .out) 20 0) (s .top - 19) (tensorFrame s right n)
       → ((t u : Term) → right ≡ s .at + 3 + size t → Begins w s v (entered s 3 n (s .out + 3)) (tensor t u) (tensorNext (some n) t u)) × Grown w s v (entered s 3 n (s .out + 3))
   unfolding Holds FrameIs Stands
   split-end right n v c q =
       let y = putHeader w (s .out) 20 0 in
       let f = tensorFrame s right n in
-      let z = putFrame y (s .top - 22) f in
+      let z = putFrame y (s .top - 19) f in
       let r = entered s 3 n (s .out + 3) in
       let only = only-header w (s .out) 20 0 in
       let push = only-push w s room y (only .same-length) f in

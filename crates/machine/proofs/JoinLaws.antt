@@ -60,7 +60,7 @@ module _ (w : List ℕ) (s : State) (wait : Waiting w s) (m : s .mode ≡ 1) (f 
     pub gave : GoalsIs w (s .arena) (f .start) (f .count) i
     pub left-goals : f .count ≤ 8 * fields q
     pub right-goals : s .count ≤ 8 * fields p
-    pub frames : FramesAt table job w (f .arena) k (s .top + 22) (f .mark)
+    pub frames : FramesAt table job w (f .arena) k (s .top + 19) (f .mark)
     pub began : Began f (s .arena) k
     pub held-is : s .held ≡ fields q + held k + fields p
     pub sizes : Sizes s
@@ -184,12 +184,12 @@ module _ (w : List ℕ) (s : State) (wait : Waiting w s) (m : s .mode ≡ 1) (f 
           ∙ jo .goals ∙ ap₂ (λ (x z : List Goal). x ++ z) (a .are) (b .are);
     }
 
-    frames-there : (table job : List ℕ) (k : List M.Frame) → FramesAt table job w (f .arena) k (s .top + 22) (f .mark) → FramesAt table job v arena′ k (s .top + 22) (f .mark)
+    frames-there : (table job : List ℕ) (k : List M.Frame) → FramesAt table job w (f .arena) k (s .top + 19) (f .mark) → FramesAt table job v arena′ k (s .top + 19) (f .mark)
     frames-there table job k h =
-        frames-kept y v (f .arena) arena′ (omega arith) table job k (s .top + 22) (f .mark)
-        (kept-output (f .mark + 1) (f .mark + 1 + 2) (f .mark) (f .arena) (s .top + 22) y v o₂ (omega arith) (omega (arith, joins .closes, fits .output-fits)) (omega (arith, fits .frames-low)))
-        (frames-kept w y (f .arena) (f .arena) (omega arith) table job k (s .top + 22) (f .mark)
-        (kept-behind (f .arena) (s .arena + (f .count + s .count) * 2) (f .mark) (f .arena) (s .top + 22) w y o₁
+        frames-kept y v (f .arena) arena′ (omega arith) table job k (s .top + 19) (f .mark)
+        (kept-output (f .mark + 1) (f .mark + 1 + 2) (f .mark) (f .arena) (s .top + 19) y v o₂ (omega arith) (omega (arith, joins .closes, fits .output-fits)) (omega (arith, fits .frames-low)))
+        (frames-kept w y (f .arena) (f .arena) (omega arith) table job k (s .top + 19) (f .mark)
+        (kept-behind (f .arena) (s .arena + (f .count + s .count) * 2) (f .mark) (f .arena) (s .top + 19) w y o₁
         (omega (arith, joins .closes, fits .output-fits, joins .low)) (omega arith) (omega (arith, joins .room, c, fits .frames-low))) h)
 
     join-popped : Popped w s v (joined s f)

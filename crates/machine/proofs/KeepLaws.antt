@@ -13,9 +13,9 @@ use Rattle.evaluation.specs.Machine as M
 use Rattle.evaluation.specs.Machine.{labelled, sequenceLeft, sequenceRight, tensorLeft, tensorRight, alternationLeft}
 use Rattle.arities.specs.Layout.{outputEnd, framesEnd, spaceEnd}
 use Rattle.tactics.specs.Memory.{Same, Only}
-use Rattle.tactics.specs.Numbers.{long}
+use Rattle.tactics.specs.Numbers.{triple}
 use Rattle.tactics.proofs.MemoryLaws.{same-word, same-goals, same-term}
-use Rattle.tactics.proofs.NumberLaws.{same-long}
+use Rattle.tactics.proofs.NumberLaws.{same-triple}
 use Rattle.frames.specs.declared.Frame.{Frame}
 use Rattle.frames.specs.Frames.{frameAt}
 use Rattle.machine.specs.declared.state.State.{State}
@@ -62,20 +62,20 @@ kept-behind a b o arena top w v p h l t = record {
 pub frames-top : (table job w : List ℕ) (arena : ℕ) (k : List M.Frame) (top o : ℕ) → FramesAt table job w arena k top o → top ≤ framesEnd
 unfolding FramesAt
 frames-top table job w arena [] top o h = omega (arith, h .0)
-frames-top table job w arena (x ∷ k) top o h = omega (arith, frames-top table job w (frameAt w top .arena) k (top + 22) _ (h .1))
+frames-top table job w arena (x ∷ k) top o h = omega (arith, frames-top table job w (frameAt w top .arena) k (top + 19) _ (h .1))
 
 module _ (w v : List ℕ) where
-  pub frame-kept : (at : ℕ) → Same at (at + 22) w v → frameAt v at ≡ frameAt w at
+  pub frame-kept : (at : ℕ) → Same at (at + 19) w v → frameAt v at ≡ frameAt w at
   unfolding frameAt
   frame-kept at s =
-      let e₁ : word v at ≡ word w at = same-word w v at (at + 22) at s (omega arith) (omega arith) in
-      let e₂ : word v (at + 2) ≡ word w (at + 2) = same-word w v at (at + 22) (at + 2) s (omega arith) (omega arith) in
-      let e₃ : word v (at + 4) ≡ word w (at + 4) = same-word w v at (at + 22) (at + 4) s (omega arith) (omega arith) in
-      let e₄ : word v (at + 6) ≡ word w (at + 6) = same-word w v at (at + 22) (at + 6) s (omega arith) (omega arith) in
-      let e₅ : long v (at + 8) ≡ long w (at + 8) = same-long w v at (at + 22) (at + 8) s (omega arith) (omega arith) in
-      let e₆ : long v (at + 12) ≡ long w (at + 12) = same-long w v at (at + 22) (at + 12) s (omega arith) (omega arith) in
-      let e₇ : word v (at + 16) ≡ word w (at + 16) = same-word w v at (at + 22) (at + 16) s (omega arith) (omega arith) in
-      let e₈ : long v (at + 18) ≡ long w (at + 18) = same-long w v at (at + 22) (at + 18) s (omega arith) (omega arith) in
+      let e₁ : word v at ≡ word w at = same-word w v at (at + 19) at s (omega arith) (omega arith) in
+      let e₂ : word v (at + 2) ≡ word w (at + 2) = same-word w v at (at + 19) (at + 2) s (omega arith) (omega arith) in
+      let e₃ : word v (at + 4) ≡ word w (at + 4) = same-word w v at (at + 19) (at + 4) s (omega arith) (omega arith) in
+      let e₄ : word v (at + 6) ≡ word w (at + 6) = same-word w v at (at + 19) (at + 6) s (omega arith) (omega arith) in
+      let e₅ : triple v (at + 8) ≡ triple w (at + 8) = same-triple w v at (at + 19) (at + 8) s (omega arith) (omega arith) in
+      let e₆ : triple v (at + 11) ≡ triple w (at + 11) = same-triple w v at (at + 19) (at + 11) s (omega arith) (omega arith) in
+      let e₇ : word v (at + 14) ≡ word w (at + 14) = same-word w v at (at + 19) (at + 14) s (omega arith) (omega arith) in
+      let e₈ : triple v (at + 16) ≡ triple w (at + 16) = same-triple w v at (at + 19) (at + 16) s (omega arith) (omega arith) in
       λ i. record { kind = e₁ i; file = e₂ i; at = e₃ i; count = e₄ i; start = e₅ i; mark = e₆ i; held = e₇ i; arena = e₈ i }
 
   pub goals-kept : (arena arena′ : ℕ) → arena ≤ arena′ → (start count : ℕ) (g : List Goal) → ((i : ℕ) → outputEnd ≤ i → i < arena → getD v i 0 ≡ getD w i 0)
@@ -135,13 +135,13 @@ pub frames-kept : (w v : List ℕ) (arena arena′ : ℕ) → arena ≤ arena′
 unfolding FramesAt
 frames-kept w v arena arena′ more table job [] top o p h = h
 frames-kept w v arena arena′ more table job (x ∷ k) top o p h =
-    let below : top + 22 ≤ framesEnd = frames-top table job w (frameAt w top .arena) k (top + 22) _ (h .1) in
+    let below : top + 19 ≤ framesEnd = frames-top table job w (frameAt w top .arena) k (top + 19) _ (h .1) in
     let before : frameAt w top .arena ≤ arena = h .2 .goals-before in
     let e : frameAt v top ≡ frameAt w top = frame-kept w v top (λ i l r. p .frames i l (omega arith)) in
     let one : FrameIs table job v arena′ (frameAt w top) o x = frame-is-kept w v arena arena′ more table job x (frameAt w top) o top before p (h .0) in
     let m : frameAt w top .mark ≤ o = mark-below table job w arena x (frameAt w top) o (h .0) in
-    let rest : FramesAt table job v (frameAt w top .arena) k (top + 22) (frameAt w top .mark) =
-    frames-kept w v (frameAt w top .arena) (frameAt w top .arena) (omega arith) table job k (top + 22) (frameAt w top .mark)
+    let rest : FramesAt table job v (frameAt w top .arena) k (top + 19) (frameAt w top .mark) =
+    frames-kept w v (frameAt w top .arena) (frameAt w top .arena) (omega arith) table job k (top + 19) (frameAt w top .mark)
     (kept-less o arena top _ _ _ w v p m before (omega arith)) (h .1) in
     let began : Began (frameAt w top) arena′ k = record {
       held-is = h .2 .held-is;
@@ -151,7 +151,7 @@ frames-kept w v arena arena′ more table job (x ∷ k) top o p h =
       goals-before = omega (arith, more, before);
     } in (
       subst (λ (y : Frame). FrameIs table job v arena′ y o x) (sym e) one,
-      subst (λ (y : Frame). FramesAt table job v (y .arena) k (top + 22) (y .mark)) (sym e) rest,
+      subst (λ (y : Frame). FramesAt table job v (y .arena) k (top + 19) (y .mark)) (sym e) rest,
       subst (λ (y : Frame). Began y arena′ k) (sym e) began,
     )
 
@@ -161,9 +161,9 @@ frames-weaken table job w arena arena′ more k top o h = frames-kept w w arena 
 
 -- what is known of the frames
 module _ (table job w : List ℕ) (arena : ℕ) where
-  pub frame-top : (x : M.Frame) (k : List M.Frame) (top o : ℕ) → FramesAt table job w arena (x ∷ k) top o → top + 22 ≤ framesEnd
+  pub frame-top : (x : M.Frame) (k : List M.Frame) (top o : ℕ) → FramesAt table job w arena (x ∷ k) top o → top + 19 ≤ framesEnd
   unfolding FramesAt
-  frame-top x k top o h = frames-top table job w (frameAt w top .arena) k (top + 22) _ (h .1)
+  frame-top x k top o h = frames-top table job w (frameAt w top .arena) k (top + 19) _ (h .1)
 
   pub frame-mark : (x : M.Frame) (k : List M.Frame) (top o : ℕ) → FramesAt table job w arena (x ∷ k) top o → frameAt w top .mark ≤ o
   unfolding FramesAt

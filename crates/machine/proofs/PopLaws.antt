@@ -82,7 +82,7 @@ module _ (w : List ℕ) (s : State) where
         mode-is = refl;
         from = frameAt w (s .top) .mark;
         below = omega (arith, m, h .below);
-        frames = frames-weaken table job w (frameAt w (s .top) .arena) (s .arena) (h .frames .2 .goals-before) k (s .top + 22) (frameAt w (s .top) .mark) (h .frames .1);
+        frames = frames-weaken table job w (frameAt w (s .top) .arena) (s .arena) (h .frames .2 .goals-before) k (s .top + 19) (frameAt w (s .top) .mark) (h .frames .1);
         sizes = record { output-fits = z .output-fits; held-fits = z .held-fits; goals-low = z .goals-low; goals-fit = z .goals-fit; frames-fit = z .frames-fit };
       }
 
@@ -149,8 +149,8 @@ module _ (w : List ℕ) (s : State) where
           out-is = a .out-is;
           goals = a .goals;
           few-goals = a .few-goals;
-          frames = subst (λ (o : ℕ). FramesAt table job w (s .arena) k (s .top + 22) o) (sym (t .1))
-              (frames-weaken table job w (f .arena) (s .arena) (i .began .goals-before) k (s .top + 22) (f .mark) (i .rest));
+          frames = subst (λ (o : ℕ). FramesAt table job w (s .arena) k (s .top + 19) o) (sym (t .1))
+              (frames-weaken table job w (f .arena) (s .arena) (i .began .goals-before) k (s .top + 19) (f .mark) (i .rest));
           held-is = omega (arith, b .held-is);
           sizes = sizes-leave (b .sizes);
         }) x (sym n ∙ i .kind) a (i .frame)) z h)
@@ -211,11 +211,11 @@ module _ (w : List ℕ) (s : State) where
       goals-stay : (g : List Goal) → GoalsIs w (s .arena) (s .start) (s .count) g → GoalsIs v (s .arena) (s .start) (s .count) g
       goals-stay g h = goals-kept w v (s .arena) (s .arena) (omega arith) (s .start) (s .count) g (λ i l r. only .kept .above i (omega (arith, closes .room, fits .output-fits))) h
 
-      frames-stay : (table job : List ℕ) (k : List M.Frame) → f .arena ≤ s .arena → FramesAt table job w (f .arena) k (s .top + 22) (f .mark)
-          → FramesAt table job v (s .arena) k (s .top + 22) (f .mark)
+      frames-stay : (table job : List ℕ) (k : List M.Frame) → f .arena ≤ s .arena → FramesAt table job w (f .arena) k (s .top + 19) (f .mark)
+          → FramesAt table job v (s .arena) k (s .top + 19) (f .mark)
       frames-stay table job k b h =
-          frames-kept w v (f .arena) (s .arena) b table job k (s .top + 22) (f .mark)
-          (kept-output (f .mark + 1) (f .mark + 1 + 2) (f .mark) (f .arena) (s .top + 22) w v only (omega arith) (omega (arith, closes .room, fits .output-fits)) (omega (arith, fits .frames-low))) h
+          frames-kept w v (f .arena) (s .arena) b table job k (s .top + 19) (f .mark)
+          (kept-output (f .mark + 1) (f .mark + 1 + 2) (f .mark) (f .arena) (s .top + 19) w v only (omega arith) (omega (arith, closes .room, fits .output-fits)) (omega (arith, fits .frames-low))) h
 
       head-stays : (tag len : ℕ) → getD w (f .mark) 0 ≡ tag → f .mark + 3 + len ≡ s .out → Head v (f .mark) tag len
       head-stays tag len t o =

@@ -34,13 +34,13 @@ module _ (w : List ℕ) (s : State) (wait : Waiting w s) (m : s .mode ≡ 1) whe
       (λ p g a. (a .goals .few, omega (arith, a .goals .high, fits .goals-fit))) (wait .ending) (wait .ends)
 
   -- what is stored with the frame is small
-  pub stored-small : (f : Frame) → f ≡ frameAt w (s .top) → (s .start < 4294967296) × (f .mark < 4294967296) × (f .arena < 4294967296)
+  pub stored-small : (f : Frame) → f ≡ frameAt w (s .top) → (s .start < 16777216) × (f .mark < 16777216) × (f .arena < 16777216)
   stored-small f e =
-      let small : (frameAt w (s .top) .mark < 4294967296) × (frameAt w (s .top) .arena < 4294967296) = (
+      let small : (frameAt w (s .top) .mark < 16777216) × (frameAt w (s .top) .arena < 16777216) = (
         omega (arith, waiting-mark w s wait, fits .output-fits),
         omega (arith, waiting-began w s wait .goals-before, fits .goals-fit),
       ) in
-      let both = subst (λ (y : Frame). (y .mark < 4294967296) × (y .arena < 4294967296)) (sym e) small in
+      let both = subst (λ (y : Frame). (y .mark < 16777216) × (y .arena < 16777216)) (sym e) small in
       (omega (arith, given-small), both .0, both .1)
 
   -- the numbers stay
@@ -54,7 +54,7 @@ module _ (w : List ℕ) (s : State) (wait : Waiting w s) (m : s .mode ≡ 1) whe
     abbrev v : List ℕ
     v = putFrame w (s .top) (turned kind s f)
 
-    only : Only (s .top) (s .top + 22) w v
+    only : Only (s .top) (s .top + 19) w v
     only = only-frame w (s .top) (turned kind s f) (omega (arith, waiting-top w s wait, fits .space))
 
     back : frameAt v (s .top) ≡ turned kind s f
@@ -70,14 +70,14 @@ module _ (w : List ℕ) (s : State) (wait : Waiting w s) (m : s .mode ≡ 1) whe
     tag-stays : (tag : ℕ) → f .mark ≤ s .out → getD w (f .mark) 0 ≡ tag → getD v (f .mark) 0 ≡ tag
     tag-stays tag b t = only .kept .below (f .mark) (omega (arith, b, fits .output-fits, fits .frames-low)) ∙ t
 
-    frames-stay : (table job : List ℕ) (x : M.Frame) (k : List M.Frame) → f .mark ≤ s .out → Began f (s .arena) k → FramesAt table job w (f .arena) k (s .top + 22) (f .mark)
+    frames-stay : (table job : List ℕ) (x : M.Frame) (k : List M.Frame) → f .mark ≤ s .out → Began f (s .arena) k → FramesAt table job w (f .arena) k (s .top + 19) (f .mark)
         → FrameIs table job v (s .arena) (turned kind s f) (s .out) x → FramesAt table job v (s .arena) (x ∷ k) (s .top) (s .out)
     unfolding FramesAt
     frames-stay table job x k b began h one =
         let before : f .arena ≤ s .arena = began .goals-before in
-        let rest : FramesAt table job v (f .arena) k (s .top + 22) (f .mark) =
-        frames-kept w v (f .arena) (f .arena) (omega arith) table job k (s .top + 22) (f .mark)
-        (kept-behind (s .top) (s .top + 22) (f .mark) (f .arena) (s .top + 22) w v only
+        let rest : FramesAt table job v (f .arena) k (s .top + 19) (f .mark) =
+        frames-kept w v (f .arena) (f .arena) (omega arith) table job k (s .top + 19) (f .mark)
+        (kept-behind (s .top) (s .top + 19) (f .mark) (f .arena) (s .top + 19) w v only
         (omega (arith, fits .frames-low, fits .output-fits, b)) (omega (arith, before, fits .goals-fit, fits .frames-low)) (omega arith)) h in
         let same : Began (turned kind s f) (s .arena) k = record {
           held-is = began .held-is;
@@ -87,7 +87,7 @@ module _ (w : List ℕ) (s : State) (wait : Waiting w s) (m : s .mode ≡ 1) whe
           goals-before = began .goals-before;
         } in (
           subst (λ (y : Frame). FrameIs table job v (s .arena) y (s .out) x) (sym back) one,
-          subst (λ (y : Frame). FramesAt table job v (y .arena) k (s .top + 22) (y .mark)) (sym back) rest,
+          subst (λ (y : Frame). FramesAt table job v (y .arena) k (s .top + 19) (y .mark)) (sym back) rest,
           subst (λ (y : Frame). Began y (s .arena) k) (sym back) same,
         )
 

@@ -125,7 +125,7 @@ module _ (w : List ℕ) (s : State) (h : Waiting w s) where
   pub waiting-fits : Fits w s
   waiting-fits = under-fits (h .table) (h .job) w s (h .frame ∷ h .frames) (h .few-steps) (h .space) waiting-under
 
-  pub waiting-top : s .top + 22 ≤ framesEnd
+  pub waiting-top : s .top + 19 ≤ framesEnd
   waiting-top = let u = waiting-under in frame-top (h .table) (h .job) w (s .arena) (h .frame) (h .frames) (s .top) (u .from) (u .frames)
 
   -- the goals that the innermost waiting term began with
@@ -142,7 +142,7 @@ module _ (w : List ℕ) (s : State) (h : Waiting w s) where
 -- the innermost waiting term, and the others, by the frame that the code loaded
 pub record Innermost (table job w : List ℕ) (s : State) (f : Frame) (o : ℕ) (x : M.Frame) (k : List M.Frame) : Type 0 where
   pub frame : FrameIs table job w (s .arena) f o x
-  pub rest : FramesAt table job w (f .arena) k (s .top + 22) (f .mark)
+  pub rest : FramesAt table job w (f .arena) k (s .top + 19) (f .mark)
   pub began : Began f (s .arena) k
   pub kind : f .kind ≡ kindOf x
 
@@ -153,7 +153,7 @@ innermost table job w s f o x k e h =
     let one : FrameIs table job w (s .arena) f o x = subst (λ (y : Frame). FrameIs table job w (s .arena) y o x) (sym e) (h .0) in
     record {
       frame = one;
-      rest = subst (λ (y : Frame). FramesAt table job w (y .arena) k (s .top + 22) (y .mark)) (sym e) (h .1);
+      rest = subst (λ (y : Frame). FramesAt table job w (y .arena) k (s .top + 19) (y .mark)) (sym e) (h .1);
       began = subst (λ (y : Frame). Began y (s .arena) k) (sym e) (h .2);
       kind = kind-is table job w (s .arena) f o x one;
     }

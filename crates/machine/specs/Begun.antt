@@ -77,7 +77,7 @@ pub record Room (w : List ℕ) (s : State) : Type 0 where
   pub goals-low : outputEnd ≤ s .arena
   pub goals-fit : s .arena + 512 ≤ goalsEnd
   pub held-fits : s .held ≤ mostHeld
-  pub frames-low : goalsEnd + 22 ≤ s .top
+  pub frames-low : goalsEnd + 19 ≤ s .top
   pub frames-high : s .top ≤ framesEnd
   pub space : spaceEnd ≤ length w
 
@@ -105,7 +105,7 @@ kept s = record { mode = 1; file = s .file; at = s .at; start = s .start; count 
 -- the inner term is next: so many bytes on in the file, on the first of the goals; the hiproof's new end
 abbrev pub entered : State → (on count out : ℕ) → State
 entered s on count out =
-    record { mode = 0; file = s .file; at = s .at + on; start = s .start; count = count; top = s .top - 22; arena = s .arena; out = out; held = s .held; steps = s .steps + 1 }
+    record { mode = 0; file = s .file; at = s .at + on; start = s .start; count = count; top = s .top - 19; arena = s .arena; out = out; held = s .held; steps = s .steps + 1 }
 
 -- a frame with what it keeps of the moment at which its term begins
 abbrev pub frameOf : State → (kind at count start : ℕ) → Frame

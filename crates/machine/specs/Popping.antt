@@ -87,11 +87,11 @@ Unwound w s v r = (table job : List ℕ) (e : Ending) (k : List M.Frame) → End
 
 -- the same state without its first frame
 abbrev pub leave : State → State
-leave s = record { mode = s .mode; file = s .file; at = s .at; start = s .start; count = s .count; top = s .top + 22; arena = s .arena; out = s .out; held = s .held; steps = s .steps }
+leave s = record { mode = s .mode; file = s .file; at = s .at; start = s .start; count = s .count; top = s .top + 19; arena = s .arena; out = s .out; held = s .held; steps = s .steps }
 
 -- go on with the term of a frame, on the goals of the frame: output, goals and fields held are what they were when the frame's term began
 abbrev pub alternative : State → Frame → State
-alternative s f = record { mode = 0; file = f .file; at = f .at; start = f .start; count = f .count; top = s .top + 22; arena = f .arena; out = f .mark; held = f .held; steps = s .steps }
+alternative s f = record { mode = 0; file = f .file; at = f .at; start = f .start; count = f .count; top = s .top + 19; arena = f .arena; out = f .mark; held = f .held; steps = s .steps }
 
 -- go on with the right term of a frame that stays, on the goals that its left term gave
 abbrev pub turn : State → Frame → State
@@ -107,7 +107,7 @@ turned kind s f = record { kind = kind; file = f .file; at = f .at; count = s .c
 
 -- the field of a label or of a sequence closed: it is held too
 abbrev pub closed : State → State
-closed s = record { mode = 1; file = s .file; at = s .at; start = s .start; count = s .count; top = s .top + 22; arena = s .arena; out = s .out; held = s .held + 1; steps = s .steps }
+closed s = record { mode = 1; file = s .file; at = s .at; start = s .start; count = s .count; top = s .top + 19; arena = s .arena; out = s .out; held = s .held + 1; steps = s .steps }
 
 -- the two lists joined, in the place of all goals since the tensor began
 abbrev pub joined : State → Frame → State
@@ -117,7 +117,7 @@ joined s f = record {
   at = s .at;
   start = f .arena;
   count = f .count + s .count;
-  top = s .top + 22;
+  top = s .top + 19;
   arena = f .arena + (f .count + s .count) * 2;
   out = s .out;
   held = s .held + 1;
@@ -126,4 +126,4 @@ joined s f = record {
 
 -- the run ended by a limit, when the term of a frame was to end
 abbrev pub endedBy : (mode : ℕ) → State → State
-endedBy mode s = record { mode = mode; file = s .file; at = s .at; start = s .start; count = s .count; top = s .top + 22; arena = s .arena; out = s .out; held = s .held; steps = s .steps }
+endedBy mode s = record { mode = mode; file = s .file; at = s .at; start = s .start; count = s .count; top = s .top + 19; arena = s .arena; out = s .out; held = s .held; steps = s .steps }

@@ -55,7 +55,7 @@ pub record Began (f : Frame) (arena : ℕ) (k : List M.Frame) : Type 0 where
 unfoldable pub FramesAt : (table job w : List ℕ) → (arena : ℕ) → List M.Frame → (top o : ℕ) → Type 0
 FramesAt table job w arena [] top o = (top ≡ framesEnd) × (o ≡ 0)
 FramesAt table job w arena (x ∷ k) top o =
-    FrameIs table job w arena (frameAt w top) o x × FramesAt table job w (frameAt w top .arena) k (top + 22) (frameAt w top .mark) × Began (frameAt w top) arena k
+    FrameIs table job w arena (frameAt w top) o x × FramesAt table job w (frameAt w top .arena) k (top + 19) (frameAt w top .mark) × Began (frameAt w top) arena k
 
 -- The numbers of a state: by the steps taken, and the goals by the fields held. A rule used gives at most eight goals, in 16 bytes; a joined list takes the place of
 -- those that were joined, and a failed alternative gives all of its own up.
@@ -64,7 +64,7 @@ pub record Sizes (s : State) : Type 0 where
   pub held-fits : s .held ≤ mostHeld
   pub goals-low : outputEnd ≤ s .arena
   pub goals-fit : s .arena ≤ outputEnd + 512 + 16 * s .held
-  pub frames-fit : framesEnd ≤ s .top + 22 * s .steps
+  pub frames-fit : framesEnd ≤ s .top + 19 * s .steps
 
 -- a term that is to begin
 pub record Runs (table job w : List ℕ) (s : State) (π : M.Place) (t : Term) (g : List Goal) (k : List M.Frame) : Type 0 where

@@ -148,7 +148,7 @@ impl State {
     {
         let file = self.file;
         let out = self.out;
-        let top = self.top - 22;
+        let top = self.top - 19;
         let arena = self.arena;
         let held = self.held;
         put_header(work, out, 19, 0);
@@ -185,7 +185,7 @@ impl State {
     {
         let file = self.file;
         let out = self.out;
-        let top = self.top - 22;
+        let top = self.top - 19;
         let arena = self.arena;
         let held = self.held;
         let start = self.start;
@@ -225,7 +225,7 @@ impl State {
         }
         let file = self.file;
         let out = self.out;
-        let top = self.top - 22;
+        let top = self.top - 19;
         let arena = self.arena;
         let held = self.held;
         let inner = self.at + 5;
@@ -281,7 +281,7 @@ impl State {
         let file = self.file;
         let out = self.out;
         let start = self.start;
-        let top = self.top - 22;
+        let top = self.top - 19;
         let arena = self.arena;
         let held = self.held;
         put_header(work, out, 20, 0);

@@ -65,7 +65,7 @@ returns-2 c =
     let a = c .before .before .before .before .before .before .before .before .before .before .before .before .before .before .before .before .before .before .args in
     let p = c .before .before .before .before .before .before .before .before .before .before .before .before .before .before .before .before .before .before .pre in
     label-end (a .work .now) (a .self) (p .0) (a .name .0) _ (c .before .before .before .before .before .before .before .before .before .before .before .before .before .before .before .if1 .left)
-    (c .before .before .before .store-frame .ensures ∙ ap (λ (x : List ℕ). putFrame x (a .self .top - 22) (labelFrame (a .self)))
+    (c .before .before .before .store-frame .ensures ∙ ap (λ (x : List ℕ). putFrame x (a .self .top - 19) (labelFrame (a .self)))
     (c .before .before .before .before .before .before .before .store16 .ensures ∙ ap (λ (x : List ℕ). putWord x (a .self .out + 3) (a .name .0)) (c .before .before .before .before .before .before .before .before .before .before .before .put-header .ensures)))
 
 pub begin-label-spec : {M : Type 1} → statement M

@@ -44,7 +44,7 @@ returns c =
     let a = c .before .before .before .before .before .before .before .before .before .before .before .before .args in
     let p = c .before .before .before .before .before .before .before .before .before .before .before .before .pre in
     sequence-end (a .work .now) (a .self) (p .0) (a .right) _
-    (c .before .before .before .before .store-frame .ensures ∙ ap (λ (x : List ℕ). putFrame x (a .self .top - 22) (sequenceFrame (a .self) (a .right))) (c .before .before .before .before .before .before .before .before .put-header .ensures))
+    (c .before .before .before .before .store-frame .ensures ∙ ap (λ (x : List ℕ). putFrame x (a .self .top - 19) (sequenceFrame (a .self) (a .right))) (c .before .before .before .before .before .before .before .before .put-header .ensures))
 
 pub begin-sequence-spec : {M : Type 1} → statement M
 begin-sequence-spec =

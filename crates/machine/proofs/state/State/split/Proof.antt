@@ -56,7 +56,7 @@ returns c =
     let a = c .before .before .before .before .before .before .before .before .before .before .before .before .before .args in
     let p = c .before .before .before .before .before .before .before .before .before .before .before .before .before .pre in
     split-end (a .work .now) (a .self) (p .0) (a .right) (a .left) _ (p .2)
-    (c .before .before .before .before .store-frame .ensures ∙ ap (λ (x : List ℕ). putFrame x (a .self .top - 22) (tensorFrame (a .self) (a .right) (a .left))) (c .before .before .before .before .before .before .before .before .before .put-header .ensures))
+    (c .before .before .before .before .store-frame .ensures ∙ ap (λ (x : List ℕ). putFrame x (a .self .top - 19) (tensorFrame (a .self) (a .right) (a .left))) (c .before .before .before .before .before .before .before .before .before .put-header .ensures))
 
 pub split-spec : {M : Type 1} → statement M
 split-spec =
