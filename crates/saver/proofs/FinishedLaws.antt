@@ -32,7 +32,7 @@ module _ (w : List ℕ) (at top out : ℕ) where
   unfolding insideOf
   inside-out e = rw (eq-eqb at top e) refl
 
-  pub inside-mark : (at ≡ top → ⊥) → (f : Frame) → f ≡ frameAt w (at - 22) → f .mark ≡ insideOf w at top out
+  pub inside-mark : (at ≡ top → ⊥) → (f : Frame) → f ≡ frameAt w (at - 19) → f .mark ≡ insideOf w at top out
   unfolding insideOf
   inside-mark n f e = rw (ne-eqb at top n) (ap (λ (x : Frame). x .mark) e)
 
@@ -77,19 +77,19 @@ module _ (w : List ℕ) (at end to : ℕ) (h : FieldGiven w at end to) (f : Fram
 
 -- the same in a work space that is the same below the saved state
 module _ (w v : List ℕ) (len : length v ≡ length w) (e : take spaceEnd v ≡ take spaceEnd w) (space : spaceEnd ≤ length w) where
-  frame-below : (at : ℕ) → at + 22 ≤ spaceEnd → frameAt v at ≡ frameAt w at
+  frame-below : (at : ℕ) → at + 19 ≤ spaceEnd → frameAt v at ≡ frameAt w at
   frame-below at h = frame-kept w v at (λ i l r. same-below w v spaceEnd e i (omega arith))
 
-  inside-same : (at top out : ℕ) → ((at ≡ top → ⊥) → 22 ≤ at) → at ≤ spaceEnd → insideOf v at top out ≡ insideOf w at top out
+  inside-same : (at top out : ℕ) → ((at ≡ top → ⊥) → 19 ≤ at) → at ≤ spaceEnd → insideOf v at top out ≡ insideOf w at top out
   inside-same at top out h l = go (eqb at top) refl
     where
       go : (b : Bool) → eqb at top ≡ b → insideOf v at top out ≡ insideOf w at top out
       go true b = let p = eqb-true at top b in sym (inside-out v at top out p) ∙ inside-out w at top out p
       go false b =
           let n = eqb-false at top b in
-          sym (inside-mark v at top out n (frameAt v (at - 22)) refl)
-          ∙ ap (λ (f : Frame). f .mark) (frame-below (at - 22) (omega (arith, h n)))
-          ∙ inside-mark w at top out n (frameAt w (at - 22)) refl
+          sym (inside-mark v at top out n (frameAt v (at - 19)) refl)
+          ∙ ap (λ (f : Frame). f .mark) (frame-below (at - 19) (omega (arith, h n)))
+          ∙ inside-mark w at top out n (frameAt w (at - 19)) refl
 
   field-same : (f : Frame) (o : ℕ) → Marked f o → leftField v f o ≡ leftField w f o
   field-same f o h = go (keepsField (f .kind)) refl
@@ -102,18 +102,18 @@ module _ (w v : List ℕ) (len : length v ≡ length w) (e : take spaceEnd v ≡
           ∙ sym (field-some w f o q)
 
 -- seen from the next frame, the output inside a frame further out begins at the same place
-inside-next : (w : List ℕ) (top out at l : ℕ) → top + 22 * suc l ≡ at → insideOf w at top out ≡ insideOf w at (top + 22) (frameAt w top .mark)
+inside-next : (w : List ℕ) (top out at l : ℕ) → top + 19 * suc l ≡ at → insideOf w at top out ≡ insideOf w at (top + 19) (frameAt w top .mark)
 inside-next w top out at zero h =
-    let a : at - 22 ≡ top = omega arith in
-    sym (inside-mark w at top out (λ q. omega (arith, q)) (frameAt w (at - 22)) refl)
+    let a : at - 19 ≡ top = omega arith in
+    sym (inside-mark w at top out (λ q. omega (arith, q)) (frameAt w (at - 19)) refl)
     ∙ ap (λ (j : ℕ). frameAt w j .mark) a
-    ∙ inside-out w at (top + 22) (frameAt w top .mark) (omega arith)
+    ∙ inside-out w at (top + 19) (frameAt w top .mark) (omega arith)
 inside-next w top out at (suc l) h =
-    sym (inside-mark w at top out (λ q. omega (arith, q)) (frameAt w (at - 22)) refl)
-    ∙ inside-mark w at (top + 22) (frameAt w top .mark) (λ q. omega (arith, q)) (frameAt w (at - 22)) refl
+    sym (inside-mark w at top out (λ q. omega (arith, q)) (frameAt w (at - 19)) refl)
+    ∙ inside-mark w at (top + 19) (frameAt w top .mark) (λ q. omega (arith, q)) (frameAt w (at - 19)) refl
 
 -- the outer fields are a part of all of them
-outer-most : (left n : ℕ) (w : List ℕ) (top out at d : ℕ) → left + d ≡ n → top + 22 * left ≡ at
+outer-most : (left n : ℕ) (w : List ℕ) (top out at d : ℕ) → left + d ≡ n → top + 19 * left ≡ at
     → length (leftFields w at (insideOf w at top out) d) ≤ length (leftFields w top out n)
 unfolding leftFields
 outer-most zero n w top out at d s h =
@@ -124,10 +124,10 @@ outer-most zero n w top out at d s h =
 outer-most (suc left) zero w top out at d s h = absurd (omega arith)
 outer-most (suc left) (suc n) w top out at d s h =
     let e = ap (λ (o : ℕ). length (leftFields w at o d)) (inside-next w top out at left h) in
-    let i = outer-most left n w (top + 22) (frameAt w top .mark) at d (omega arith) (omega arith) in
-    omega (arith, e, i, length-append (leftFields w (top + 22) (frameAt w top .mark) n) (leftField w (frameAt w top) out))
+    let i = outer-most left n w (top + 19) (frameAt w top .mark) at d (omega arith) (omega arith) in
+    omega (arith, e, i, length-append (leftFields w (top + 19) (frameAt w top .mark) n) (leftField w (frameAt w top) out))
 
-marked-at : (left n : ℕ) (w : List ℕ) (top out at : ℕ) → left < n → top + 22 * left ≡ at → AllMarked w top out n → Marked (frameAt w at) (insideOf w at top out)
+marked-at : (left n : ℕ) (w : List ℕ) (top out at : ℕ) → left < n → top + 19 * left ≡ at → AllMarked w top out n → Marked (frameAt w at) (insideOf w at top out)
 unfolding AllMarked
 marked-at zero zero w top out at s h m = absurd (omega arith)
 marked-at zero (suc n) w top out at s h m =
@@ -136,7 +136,7 @@ marked-at zero (suc n) w top out at s h m =
     subst (λ (j : ℕ). Marked (frameAt w at) j) o (subst (λ (j : ℕ). Marked (frameAt w j) out) (sym a) (m .0))
 marked-at (suc left) zero w top out at s h m = absurd (omega arith)
 marked-at (suc left) (suc n) w top out at s h m =
-    subst (λ (j : ℕ). Marked (frameAt w at) j) (sym (inside-next w top out at left h)) (marked-at left n w (top + 22) (frameAt w top .mark) at (omega arith) (omega arith) (m .1))
+    subst (λ (j : ℕ). Marked (frameAt w at) j) (sym (inside-next w top out at left h)) (marked-at left n w (top + 19) (frameAt w top .mark) at (omega arith) (omega arith) (m .1))
 
 -- what holds at every turn: the fields of the outer frames are written
 pub record FinishedTurn (w₀ : List ℕ) (top out to₀ : ℕ) (w : List ℕ) (at next : ℕ) : Type 0 where
@@ -144,7 +144,7 @@ pub record FinishedTurn (w₀ : List ℕ) (top out to₀ : ℕ) (w : List ℕ) (
   pub left : ℕ
   pub done : ℕ
   pub total : left + done ≡ given .count
-  pub place : top + 22 * left ≡ at
+  pub place : top + 19 * left ≡ at
   pub written : Writes w₀ to₀ (leftFields w₀ at (insideOf w₀ at top out) done) next w
 
 pub finished-start : (w : List ℕ) (top out to : ℕ) → FinishedGiven w top out to → FinishedTurn w top out to w framesEnd to
@@ -178,52 +178,52 @@ module _ (w₀ : List ℕ) (top out to₀ : ℕ) (w : List ℕ) (at next : ℕ) 
         go zero e = absurd (omega (arith, h, q .place, e))
         go (suc l) e = (l, e)
 
-    pub frame-room : 22 ≤ at
+    pub frame-room : 19 ≤ at
     frame-room = omega (arith, q .place, one-left .1)
 
-    apart : (at - 22 ≡ top → ⊥) → 22 ≤ at - 22
+    apart : (at - 19 ≡ top → ⊥) → 19 ≤ at - 19
     apart n = go (one-left .0) (one-left .1)
       where
-        go : (l : ℕ) → q .left ≡ suc l → 22 ≤ at - 22
+        go : (l : ℕ) → q .left ≡ suc l → 19 ≤ at - 19
         go zero e = absurd (n (omega (arith, q .place, e)))
         go (suc l) e = omega (arith, q .place, e)
 
-    pub finished-inside-given : ((at - 22 ≡ top → ⊥) → 22 ≤ at - 22) × (at - 22 ≤ length w)
+    pub finished-inside-given : ((at - 19 ≡ top → ⊥) → 19 ≤ at - 19) × (at - 19 ≤ length w)
     finished-inside-given = (apart, omega (arith, low, space, same-length))
 
-    module _ (end : ℕ) (is : end ≡ insideOf w (at - 22) top out) where
-      end-is : end ≡ insideOf w₀ (at - 22) top out
-      end-is = is ∙ inside-same w₀ w same-length before space (at - 22) top out apart (omega (arith, low))
+    module _ (end : ℕ) (is : end ≡ insideOf w (at - 19) top out) where
+      end-is : end ≡ insideOf w₀ (at - 19) top out
+      end-is = is ∙ inside-same w₀ w same-length before space (at - 19) top out apart (omega (arith, low))
 
-      frame-same : frameAt w (at - 22) ≡ frameAt w₀ (at - 22)
-      frame-same = frame-below w₀ w same-length before space (at - 22) (omega (arith, low, frame-room))
+      frame-same : frameAt w (at - 19) ≡ frameAt w₀ (at - 19)
+      frame-same = frame-below w₀ w same-length before space (at - 19) (omega (arith, low, frame-room))
 
-      marked : Marked (frameAt w₀ (at - 22)) end
+      marked : Marked (frameAt w₀ (at - 19)) end
       marked =
           let l = one-left .0 in
-          subst (λ (j : ℕ). Marked (frameAt w₀ (at - 22)) j) (sym end-is)
-          (marked-at l (q .given .count) w₀ top out (at - 22) (omega (arith, q .total, one-left .1)) (omega (arith, q .place, one-left .1)) (q .given .marked))
+          subst (λ (j : ℕ). Marked (frameAt w₀ (at - 19)) j) (sym end-is)
+          (marked-at l (q .given .count) w₀ top out (at - 19) (omega (arith, q .total, one-left .1)) (omega (arith, q .place, one-left .1)) (q .given .marked))
 
-      here : leftField w (frameAt w (at - 22)) end ≡ leftField w₀ (frameAt w₀ (at - 22)) end
-      here = ap (λ (f : Frame). leftField w f end) frame-same ∙ field-same w₀ w same-length before space (frameAt w₀ (at - 22)) end marked
+      here : leftField w (frameAt w (at - 19)) end ≡ leftField w₀ (frameAt w₀ (at - 19)) end
+      here = ap (λ (f : Frame). leftField w f end) frame-same ∙ field-same w₀ w same-length before space (frameAt w₀ (at - 19)) end marked
 
       -- the frame's field comes behind the outer ones
-      more : leftFields w₀ (at - 22) (insideOf w₀ (at - 22) top out) (suc (q .done)) ≡ outer ++ leftField w (frameAt w (at - 22)) end
+      more : leftFields w₀ (at - 19) (insideOf w₀ (at - 19) top out) (suc (q .done)) ≡ outer ++ leftField w (frameAt w (at - 19)) end
       unfolding leftFields
       more =
-          let a : at - 22 + 22 ≡ at = omega (arith, frame-room) in
-          let m : frameAt w₀ (at - 22) .mark ≡ insideOf w₀ at top out = inside-mark w₀ at top out (λ e. omega (arith, h, e)) (frameAt w₀ (at - 22)) refl in
+          let a : at - 19 + 19 ≡ at = omega (arith, frame-room) in
+          let m : frameAt w₀ (at - 19) .mark ≡ insideOf w₀ at top out = inside-mark w₀ at top out (λ e. omega (arith, h, e)) (frameAt w₀ (at - 19)) refl in
           ap₂ (λ (x y : List ℕ). x ++ y)
           (ap₂ (λ (i o : ℕ). leftFields w₀ i o (q .done)) a m)
-          (ap (leftField w₀ (frameAt w₀ (at - 22))) (sym end-is) ∙ sym here)
+          (ap (leftField w₀ (frameAt w₀ (at - 19))) (sym end-is) ∙ sym here)
 
-      sizes : to₀ + (length outer + length (leftField w (frameAt w (at - 22)) end)) ≤ length w₀
+      sizes : to₀ + (length outer + length (leftField w (frameAt w (at - 19)) end)) ≤ length w₀
       sizes =
           let l = one-left .0 in
-          let m = outer-most l (q .given .count) w₀ top out (at - 22) (suc (q .done)) (omega (arith, q .total, one-left .1)) (omega (arith, q .place, one-left .1)) in
-          omega (arith, m, ap length more, length-append outer (leftField w (frameAt w (at - 22)) end), q .given .room)
+          let m = outer-most l (q .given .count) w₀ top out (at - 19) (suc (q .done)) (omega (arith, q .total, one-left .1)) (omega (arith, q .place, one-left .1)) in
+          omega (arith, m, ap length more, length-append outer (leftField w (frameAt w (at - 19)) end), q .given .room)
 
-      pub finished-field-given : FieldGiven w (at - 22) end next
+      pub finished-field-given : FieldGiven w (at - 19) end next
       finished-field-given = record {
         frame-inside = omega (arith, low, space, same-length, frame-room);
         marked = subst (λ (f : Frame). Marked f end) (sym frame-same) marked;
@@ -231,9 +231,9 @@ module _ (w₀ : List ℕ) (top out to₀ : ℕ) (w : List ℕ) (at next : ℕ) 
         room = omega (arith, q .written .0, sizes, same-length);
       }
 
-      pub finished-next : (r : ℕ) (v : List ℕ) → Writes w next (leftField w (frameAt w (at - 22)) end) r v → FinishedTurn w₀ top out to₀ v (at - 22) r
+      pub finished-next : (r : ℕ) (v : List ℕ) → Writes w next (leftField w (frameAt w (at - 19)) end) r v → FinishedTurn w₀ top out to₀ v (at - 19) r
       finished-next r v p =
-          let b = leftField w (frameAt w (at - 22)) end in
+          let b = leftField w (frameAt w (at - 19)) end in
           record {
             given = q .given;
             left = one-left .0;

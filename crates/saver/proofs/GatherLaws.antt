@@ -4,7 +4,7 @@ use Prim.Native.Nat.{ℕ, zero, suc, _+_, _*_, _-_, _≤_, _<_}
 use mathlib.Core.Path.{_≡_, refl, sym, ap, ap₂, subst, _∙_}
 use mathlib.Core.List.{List, [], _∷_, _++_, append-assoc, append-nil}
 use native.Mathlib.Omega.{arith}
-use lib.ListN.{length, set, take, drop, length-set, take-append-drop}
+use lib.ListN.{length, getD, set, take, drop, length-set, take-append-drop}
 use lib.Seq.{take-suc-set, drop-set-lt}
 use borrow.Author.Tests.{eq-eqb, ne-eqb}
 use Rattle.words.specs.Word.{word}
@@ -12,7 +12,7 @@ use Rattle.format.specs.Encoding.{Bytes}
 use Rattle.format.proofs.GoalBytes.{word-value}
 use Rattle.lent_frames.specs.declared.LentFrame.{LentFrame}
 use Rattle.arities.specs.Layout.{framesEnd}
-use Rattle.tactics.specs.Numbers.{long}
+use Rattle.tactics.specs.Numbers.{triple}
 use Rattle.frames.specs.declared.Frame.{Frame}
 use Rattle.frames.specs.Frames.{frameAt}
 use Rattle.saver.specs.declared.gather.Gathered.{Gathered}
@@ -72,17 +72,17 @@ module _ (f g : Frame) (x : ℕ) (e : f ≡ g) where
       let u : s ≡ ownStart (ownCountOf (f .kind) (f .count) x) (f .start) = q ∙ ap (λ (y : ℕ). ownStart y (f .start)) p in
       (λ i. record { frame = record { term = f .file * 65536 + f .at; goals = u i; count = p i; stage = f .kind }; inside = r i }) ∙ ap (λ (y : Frame). gatheredOf y x) e
 
--- where its goals begin is a number of four bytes
+-- where its goals begin is a number of three bytes
 pub start-small : (w : List ℕ) → Bytes w → (at : ℕ) (f : Frame) → f ≡ frameAt w at → f .start < 4294967296
-unfolding frameAt long
-start-small w bytes at f e = let z : f .start ≡ word w (at + 8) * 65536 + word w (at + 8 + 2) = ap (λ (x : Frame). x .start) e in omega (arith, z, word-value w bytes (at + 8), word-value w bytes (at + 8 + 2))
+unfolding frameAt triple
+start-small w bytes at f e = let z : f .start ≡ getD w (at + 8) 0 * 65536 + word w (at + 8 + 1) = ap (λ (x : Frame). x .start) e in omega (arith, z, bytes (at + 8), word-value w bytes (at + 8 + 1))
 
 -- what holds at every turn: the frames gathered so far, with those still to come, are all of them
 pub record GatherTurn (w : List ℕ) (fs₀ : List LentFrame) (top inside : ℕ) (fs : List LentFrame) (n at x : ℕ) : Type 0 where
   pub total : ℕ
   pub left : ℕ
-  pub ends : top + 22 * total ≡ framesEnd
-  pub ends-here : at + 22 * left ≡ framesEnd
+  pub ends : top + 19 * total ≡ framesEnd
+  pub ends-here : at + 19 * left ≡ framesEnd
   pub counted : n + left ≡ total
   pub room : total ≤ length fs
   pub space : framesEnd ≤ length w
@@ -111,18 +111,18 @@ module _ (w : List ℕ) (fs₀ : List LentFrame) (top inside : ℕ) (fs : List L
       go zero e = absurd (omega (arith, h, q .ends-here, e))
       go (suc k) e = (k, e)
 
-  first-fits : (k : ℕ) → q .left ≡ suc k → FrameFits (frameAt w at) x × AllFit w (at + 22) (heldAfter (frameAt w at .kind) (frameAt w at .count) x) k
+  first-fits : (k : ℕ) → q .left ≡ suc k → FrameFits (frameAt w at) x × AllFit w (at + 19) (heldAfter (frameAt w at .kind) (frameAt w at .count) x) k
   unfolding AllFit
   first-fits k e = subst (λ (m : ℕ). AllFit w at x m) e (q .fit)
 
-  pub gather-at-given : at < framesEnd → (at + 21 < length w) × FrameFits (frameAt w at) x
+  pub gather-at-given : at < framesEnd → (at + 18 < length w) × FrameFits (frameAt w at) x
   gather-at-given h = let o = one-left h in (omega (arith, q .ends-here, o .1, q .space), first-fits (o .0) (o .1) .0)
 
   pub gather-push-given : at < framesEnd → n < length fs
   gather-push-given h = let o = one-left h in omega (arith, q .counted, q .room, o .1)
 
   pub gather-next : at < framesEnd → (g : Gathered) → g ≡ gatheredOf (frameAt w at) x → (n′ : ℕ) → n′ ≡ n + 1 → (fs′ : List LentFrame) → fs′ ≡ set fs n (g .frame)
-      → GatherTurn w fs₀ top inside fs′ n′ (at + 22) (g .inside)
+      → GatherTurn w fs₀ top inside fs′ n′ (at + 19) (g .inside)
   unfolding gathered gatheredOf
   gather-next h g e n′ en fs′ ef =
       let o = one-left h in
@@ -135,9 +135,9 @@ module _ (w : List ℕ) (fs₀ : List LentFrame) (top inside : ℕ) (fs : List L
       let one-more : suc n ≡ n′ = omega (arith, en) in
       let front : take n′ fs′ ≡ take n fs ++ (f ∷ []) = ap₂ take (sym one-more) set-is ∙ take-suc-set fs n f inner in
       let rest : drop (q .total) fs′ ≡ drop (q .total) fs = ap (drop (q .total)) set-is ∙ drop-set-lt (q .total) fs n f (omega (arith, q .counted, o .1)) in
-      let same : take n′ fs′ ++ gathered w (at + 22) y k ++ drop (q .total) fs′ ≡ gathered w top inside (q .total) ++ drop (q .total) fs₀ =
-      ap₂ (λ (a b : List LentFrame). a ++ gathered w (at + 22) y k ++ b) front rest
-      ∙ ap (λ (a : List LentFrame). a ++ drop (q .total) fs) (append-assoc (take n fs) (f ∷ []) (gathered w (at + 22) y k))
+      let same : take n′ fs′ ++ gathered w (at + 19) y k ++ drop (q .total) fs′ ≡ gathered w top inside (q .total) ++ drop (q .total) fs₀ =
+      ap₂ (λ (a b : List LentFrame). a ++ gathered w (at + 19) y k ++ b) front rest
+      ∙ ap (λ (a : List LentFrame). a ++ drop (q .total) fs) (append-assoc (take n fs) (f ∷ []) (gathered w (at + 19) y k))
       ∙ sym (ap (λ (m : ℕ). take n fs ++ gathered w at x m ++ drop (q .total) fs) (o .1))
       ∙ q .same in
       record {
@@ -148,8 +148,8 @@ module _ (w : List ℕ) (fs₀ : List LentFrame) (top inside : ℕ) (fs : List L
         counted = omega (arith, q .counted, o .1, en);
         room = omega (arith, q .room, len);
         space = q .space;
-        fit = subst (λ (z : Gathered). AllFit w (at + 22) (z .inside) k) (sym e) (first-fits k (o .1) .1);
-        same = subst (λ (z : Gathered). take n′ fs′ ++ gathered w (at + 22) (z .inside) k ++ drop (q .total) fs′ ≡ gathered w top inside (q .total) ++ drop (q .total) fs₀) (sym e) same;
+        fit = subst (λ (z : Gathered). AllFit w (at + 19) (z .inside) k) (sym e) (first-fits k (o .1) .1);
+        same = subst (λ (z : Gathered). take n′ fs′ ++ gathered w (at + 19) (z .inside) k ++ drop (q .total) fs′ ≡ gathered w top inside (q .total) ++ drop (q .total) fs₀) (sym e) same;
       }
 
   pub gather-all : framesEnd ≤ at → Gathers w fs₀ top inside n fs

@@ -89,14 +89,14 @@ module _ (table job w : List ℕ) where
   unfolding FramesAt leftFields finishedFields
   fields-are arena bytes [] top o h = refl
   fields-are arena bytes (y ∷ k) top o h =
-      ap₂ (λ (a b : List ℕ). a ++ b) (fields-are (frameAt w top .arena) bytes k (top + 22) (frameAt w top .mark) (h .1)) (left-is table job w arena (frameAt w top) o bytes y (h .0))
+      ap₂ (λ (a b : List ℕ). a ++ b) (fields-are (frameAt w top .arena) bytes k (top + 19) (frameAt w top .mark) (h .1)) (left-is table job w arena (frameAt w top) o bytes y (h .0))
 
   all-marked : (arena : ℕ) (k : List M.Frame) (top o : ℕ) → o ≤ spaceEnd → FramesAt table job w arena k top o → AllMarked w top o (length k)
   unfolding FramesAt AllMarked
   all-marked arena [] top o b h = tt
   all-marked arena (y ∷ k) top o b h = (
     record { begins = begins table job w arena (frameAt w top) o y (h .0); low = b },
-    all-marked (frameAt w top .arena) k (top + 22) (frameAt w top .mark) (omega (arith, frame-mark table job w arena y k top o h)) (h .1),
+    all-marked (frameAt w top .arena) k (top + 19) (frameAt w top .mark) (omega (arith, frame-mark table job w arena y k top o h)) (h .1),
   )
 
   -- the fields have no more bytes than the terms that are kept
@@ -105,9 +105,9 @@ module _ (table job w : List ℕ) where
   fields-most arena [] top o h = omega arith
   fields-most arena (y ∷ k) top o h = omega (
     arith,
-    fields-most (frameAt w top .arena) k (top + 22) (frameAt w top .mark) (h .1),
+    fields-most (frameAt w top .arena) k (top + 19) (frameAt w top .mark) (h .1),
     kept-most table job w arena (frameAt w top) o y (h .0),
-    length-append (leftFields w (top + 22) (frameAt w top .mark) (length k)) (leftField w (frameAt w top) o),
+    length-append (leftFields w (top + 19) (frameAt w top .mark) (length k)) (leftField w (frameAt w top) o),
   )
 
 module _ (w : List ℕ) (s : State) (n : ℕ) (h : HeadGiven w s n) where
@@ -127,7 +127,7 @@ module _ (w : List ℕ) (s : State) (n : ℕ) (h : HeadGiven w s n) where
     h .runs .sizes .held-fits,
   )
 
-  ends : s .top + 22 * length (h .frames) ≡ framesEnd
+  ends : s .top + 19 * length (h .frames) ≡ framesEnd
   ends = frames-end (h .table) (h .job) w (s .arena) (h .frames) (s .top) (s .out) (h .runs .frames)
 
   pub finished-given : FinishedGiven w (s .top) (s .out) (spaceEnd + 4)

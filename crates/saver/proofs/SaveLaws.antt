@@ -36,7 +36,7 @@ use Rattle.saver.proofs.SavedLaws.{counted, frames-end, all-fit, frames
 length-gathered : (w : List ℕ) (at x n : ℕ) → length (gathered w at x n) ≡ n
 unfolding gathered
 length-gathered w at x zero = refl
-length-gathered w at x (suc n) = ap suc (length-gathered w (at + 22) _ n)
+length-gathered w at x (suc n) = ap suc (length-gathered w (at + 19) _ n)
 
 -- the contents are the head, the waiting terms and the term to begin
 contents-parts : (n : ℕ) (π : M.Place) (g : List Goal) (k : List M.Frame) → savedContents n π g k ≡ headBytes n k (length k) ++ waitingTerms (length g) k ++ waitingTerm 0 π g
@@ -63,10 +63,10 @@ module _ (w : List ℕ) (fs : List LentFrame) (s : State) (q : SaveGiven w fs s)
   count-is : (table job : List ℕ) (π : M.Place) (t : Term) (g : List Goal) (k : List M.Frame) → Runs table job w s π t g k → length g ≡ s .count
   count-is table job π t g k r = counted w (s .arena) (s .start) (s .count) g (r .goals)
 
-  ends-at : (table job : List ℕ) (π : M.Place) (t : Term) (g : List Goal) (k : List M.Frame) → Runs table job w s π t g k → s .top + 22 * length k ≡ framesEnd
+  ends-at : (table job : List ℕ) (π : M.Place) (t : Term) (g : List Goal) (k : List M.Frame) → Runs table job w s π t g k → s .top + 19 * length k ≡ framesEnd
   ends-at table job π t g k r = frames-end table job w (s .arena) k (s .top) (s .out) (r .frames)
 
-  ends : s .top + 22 * length (h .frames) ≡ framesEnd
+  ends : s .top + 19 * length (h .frames) ≡ framesEnd
   ends = ends-at (h .table) (h .job) (h .place) (h .term) (h .goals) (h .frames) (h .runs)
 
   few-frames : length (h .frames) ≤ mostSteps
@@ -83,20 +83,20 @@ module _ (w : List ℕ) (fs : List LentFrame) (s : State) (q : SaveGiven w fs s)
   }
 
   module _ (n : ℕ) (fs′ : List LentFrame) (a : Gathers w fs (s .top) (s .count) n fs′) where
-    n-is : (k : List M.Frame) → s .top + 22 * length k ≡ framesEnd → n ≡ length k
+    n-is : (k : List M.Frame) → s .top + 19 * length k ≡ framesEnd → n ≡ length k
     n-is k e = a (length k) e .0
 
     -- the frames that were gathered
     front : take n fs′ ≡ gathered w (s .top) (s .count) n
     front =
         let i = n-is (h .frames) ends in
-        let t : s .top + 22 * n ≡ framesEnd = omega (arith, ends, i) in
+        let t : s .top + 19 * n ≡ framesEnd = omega (arith, ends, i) in
         ap (take n) (a n t .1) ∙ take-at (gathered w (s .top) (s .count) n) (drop n fs) n (length-gathered w (s .top) (s .count) n)
 
     long-enough : n ≤ length fs′
     long-enough =
         let i = n-is (h .frames) ends in
-        let t : s .top + 22 * n ≡ framesEnd = omega (arith, ends, i) in
+        let t : s .top + 19 * n ≡ framesEnd = omega (arith, ends, i) in
         let l : length fs′ ≡ length (gathered w (s .top) (s .count) n) + length (drop n fs) = ap length (a n t .1) ∙ length-append (gathered w (s .top) (s .count) n) (drop n fs) in
         omega (arith, l, length-gathered w (s .top) (s .count) n)
 

@@ -152,10 +152,10 @@ held-most y (alternationLeft π u g) r = omega (arith, inside-most y π u g r, l
 
 -- all waiting terms; the goals of those outside one end where its frame says
 module _ (table job w : List ℕ) where
-  pub frames-end : (arena : ℕ) (k : List M.Frame) (top o : ℕ) → FramesAt table job w arena k top o → top + 22 * length k ≡ framesEnd
+  pub frames-end : (arena : ℕ) (k : List M.Frame) (top o : ℕ) → FramesAt table job w arena k top o → top + 19 * length k ≡ framesEnd
   unfolding FramesAt
   frames-end arena [] top o h = omega (arith, h .0)
-  frames-end arena (y ∷ k) top o h = omega (arith, frames-end (frameAt w top .arena) k (top + 22) _ (h .1))
+  frames-end arena (y ∷ k) top o h = omega (arith, frames-end (frameAt w top .arena) k (top + 19) _ (h .1))
 
   pub all-fit : (arena : ℕ) (k : List M.Frame) (top o : ℕ) (y : List Goal) → length y + ownCount (length y) k ≤ 65535 → Shared y k → FramesAt table job w arena k top o → AllFit w top (length y) (length k)
   unfolding FramesAt AllFit Shared ownCount
@@ -167,7 +167,7 @@ module _ (table job w : List ℕ) where
       let less : length (heldGoals y v) + ownCount (length (heldGoals y v)) k ≤ 65535 =
       subst (λ (n : ℕ). n + ownCount n k ≤ 65535) m (omega (arith, held-most y v (s .0), b)) in (
         frame-fits table job w arena f o y v (omega arith) (s .0) (h .0),
-        subst (λ (n : ℕ). AllFit w (top + 22) n (length k)) (sym e) (all-fit (frameAt w top .arena) k (top + 22) _ (heldGoals y v) less (s .1) (h .1)),
+        subst (λ (n : ℕ). AllFit w (top + 19) n (length k)) (sym e) (all-fit (frameAt w top .arena) k (top + 19) _ (heldGoals y v) less (s .1) (h .1)),
       )
 
   at-small : Bytes w → (top : ℕ) → frameAt w top .at < 65536
@@ -182,7 +182,7 @@ module _ (table job w : List ℕ) where
       let f = frameAt w top in
       let e = held-is table job w arena f o x v (h .0) in
       ap₂ (λ (a b : List ℕ). a ++ b)
-      (frames-are (frameAt w top .arena) bytes k (top + 22) _ (heldAfter (f .kind) (f .count) x) (h .1) ∙ ap (λ (n : ℕ). waitingTerms n k) e)
+      (frames-are (frameAt w top .arena) bytes k (top + 19) _ (heldAfter (f .kind) (f .count) x) (h .1) ∙ ap (λ (n : ℕ). waitingTerms n k) e)
       (frame-is table job w arena f o x v (at-small bytes top) (h .0))
 
   pub frames-low : (arena : ℕ) → Bytes w → (k : List M.Frame) (top o x : ℕ) → arena ≤ spaceEnd → InFiles k → FramesAt table job w arena k top o → AllLow (gathered w top x (length k))
@@ -191,5 +191,5 @@ module _ (table job w : List ℕ) where
   frames-low arena bytes (v ∷ k) top o x l i h =
       let f = frameAt w top in (
         frame-low table job w arena f o x v (at-small bytes top) (i .0) (h .2 .goals-before) l (h .0),
-        frames-low (frameAt w top .arena) bytes k (top + 22) _ (heldAfter (f .kind) (f .count) x) (omega (arith, h .2 .goals-before, l)) (i .1) (h .1),
+        frames-low (frameAt w top .arena) bytes k (top + 19) _ (heldAfter (f .kind) (f .count) x) (omega (arith, h .2 .goals-before, l)) (i .1) (h .1),
       )

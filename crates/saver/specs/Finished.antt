@@ -24,12 +24,12 @@ leftField w f o = cond (keepsField (f .kind)) (block w (f .mark + 3) (o - (f .ma
 
 -- where the output inside the frame at a place begins: at the mark of the next frame inside, or at the output's end
 unfoldable pub insideOf : List ℕ → (at top out : ℕ) → ℕ
-insideOf w at top out = cond (eqb at top) out (frameAt w (at - 22) .mark)
+insideOf w at top out = cond (eqb at top) out (frameAt w (at - 19) .mark)
 
 -- the fields of so many frames from a place on, outermost first
 unfoldable pub leftFields : List ℕ → (at end count : ℕ) → List ℕ
 leftFields w at o zero = []
-leftFields w at o (suc k) = leftFields w (at + 22) (frameAt w at .mark) k ++ leftField w (frameAt w at) o
+leftFields w at o (suc k) = leftFields w (at + 19) (frameAt w at .mark) k ++ leftField w (frameAt w at) o
 
 -- the field of a left term that ended begins and ends in order, in the part that a run uses
 pub record Marked (f : Frame) (end : ℕ) : Type 0 where
@@ -38,11 +38,11 @@ pub record Marked (f : Frame) (end : ℕ) : Type 0 where
 
 unfoldable pub AllMarked : List ℕ → (at end count : ℕ) → Type 0
 AllMarked w at o zero = Unit {0}
-AllMarked w at o (suc k) = Marked (frameAt w at) o × AllMarked w (at + 22) (frameAt w at .mark) k
+AllMarked w at o (suc k) = Marked (frameAt w at) o × AllMarked w (at + 19) (frameAt w at .mark) k
 
 -- what writing the field of one frame is given
 pub record FieldGiven (w : List ℕ) (at end to : ℕ) : Type 0 where
-  pub frame-inside : at + 22 ≤ length w
+  pub frame-inside : at + 19 ≤ length w
   pub marked : Marked (frameAt w at) end
   pub above : spaceEnd ≤ to
   pub room : to + length (leftField w (frameAt w at) end) ≤ length w
@@ -50,10 +50,10 @@ pub record FieldGiven (w : List ℕ) (at end to : ℕ) : Type 0 where
 -- what writing the fields of all frames from a place on is given and does
 pub record FinishedGiven (w : List ℕ) (top out to : ℕ) : Type 0 where
   pub count : ℕ
-  pub ends : top + 22 * count ≡ framesEnd
+  pub ends : top + 19 * count ≡ framesEnd
   pub marked : AllMarked w top out count
   pub above : spaceEnd ≤ to
   pub room : to + length (leftFields w top out count) ≤ length w
 
 abbrev pub FinishedWritten : List ℕ → (top out to : ℕ) → (end : ℕ) → List ℕ → Type 0
-FinishedWritten w top out to r v = (n : ℕ) → top + 22 * n ≡ framesEnd → Writes w to (leftFields w top out n) r v
+FinishedWritten w top out to r v = (n : ℕ) → top + 19 * n ≡ framesEnd → Writes w to (leftFields w top out n) r v

@@ -43,20 +43,20 @@ pub record FrameFits (f : Frame) (inside : ℕ) : Type 0 where
 -- so many waiting terms from a place on, innermost first
 unfoldable pub gathered : List ℕ → (at inside count : ℕ) → List LentFrame
 gathered w at x zero = []
-gathered w at x (suc k) = lentFrame (frameAt w at) x ∷ gathered w (at + 22) (heldAfter (frameAt w at .kind) (frameAt w at .count) x) k
+gathered w at x (suc k) = lentFrame (frameAt w at) x ∷ gathered w (at + 19) (heldAfter (frameAt w at .kind) (frameAt w at .count) x) k
 
 unfoldable pub AllFit : List ℕ → (at inside count : ℕ) → Type 0
 AllFit w at x zero = Unit {0}
-AllFit w at x (suc k) = FrameFits (frameAt w at) x × AllFit w (at + 22) (heldAfter (frameAt w at .kind) (frameAt w at .count) x) k
+AllFit w at x (suc k) = FrameFits (frameAt w at) x × AllFit w (at + 19) (heldAfter (frameAt w at .kind) (frameAt w at .count) x) k
 
 -- what gathering all frames from a place on is given: they end where the frames end, and as many are lent
 pub record GatherGiven (w : List ℕ) (fs : List LentFrame) (top inside : ℕ) : Type 0 where
   pub count : ℕ
-  pub ends : top + 22 * count ≡ framesEnd
+  pub ends : top + 19 * count ≡ framesEnd
   pub room : count ≤ length fs
   pub fit : AllFit w top inside count
   pub space : framesEnd ≤ length w
 
 -- all of them, innermost first, and the other lent frames as they were
 abbrev pub Gathers : List ℕ → List LentFrame → (top inside : ℕ) → (result : ℕ) → List LentFrame → Type 0
-Gathers w fs top x r fs′ = (n : ℕ) → top + 22 * n ≡ framesEnd → (r ≡ n) × (fs′ ≡ gathered w top x n ++ drop n fs)
+Gathers w fs top x r fs′ = (n : ℕ) → top + 19 * n ≡ framesEnd → (r ≡ n) × (fs′ ≡ gathered w top x n ++ drop n fs)

@@ -23,13 +23,13 @@ fn keeps_field(kind: u16) -> bool
 
 // Where the output inside the frame at a place begins: at the mark of the next frame inside, or at the output's end.
 fn inside_of(work: &[u8], at: usize, top: usize, out: usize) -> usize
-    requires { ⌜ ((at ≡ top → ⊥) → 22 ≤ at) × (at ≤ length (now work)) ⌝ }
+    requires { ⌜ ((at ≡ top → ⊥) → 19 ≤ at) × (at ≤ length (now work)) ⌝ }
     ensures { λ r. ⌜ r ≡ insideOf (now (work .entry)) at top out ⌝ }
 {
     if at == top {
         return out;
     }
-    let f = load_frame(work, at - 22);
+    let f = load_frame(work, at - 19);
     f.mark
 }
 
@@ -57,7 +57,7 @@ pub fn write_finished(work: &mut [u8], top: usize, out: usize, to: usize) -> usi
     let mut at = FRAMES_END;
     let mut next = to;
     while top < at {
-        at -= 22;
+        at -= 19;
         let end = inside_of(work, at, top, out);
         next = write_field(work, at, end, next);
     }

@@ -66,7 +66,7 @@ fn own_start(own: u16, start: usize) -> u32
 
 // The waiting term at a place of the work space.
 pub fn gather_at(work: &[u8], at: usize, inside: usize) -> Gathered
-    requires { ⌜ (at + 21 < length (now work)) × FrameFits (frameAt (now work) at) inside ⌝ }
+    requires { ⌜ (at + 18 < length (now work)) × FrameFits (frameAt (now work) at) inside ⌝ }
     ensures { λ r. ⌜ r ≡ gatheredOf (frameAt (now (work .entry)) at) inside ⌝ }
 {
     let f = load_frame(work, at);
@@ -98,7 +98,7 @@ pub fn gather(work: &[u8], frames: &mut [LentFrame], top: usize, inside: usize) 
         let g = gather_at(work, at, held);
         n = push(frames, n, g.frame);
         held = g.inside;
-        at += 22;
+        at += 19;
     }
     n
 }

@@ -138,11 +138,11 @@ module _ {M : Type 1} (𝓤 : URA M) (H : Heap 𝓤) (A : Atoms 𝓤) (W : Given
         (λ x. holding 𝓤 H A (envOf 𝓤 H (code.function .locals) bs)
         ((7, vint w64 (x .n)) ∷ (6, vint w64 (x .held)) ∷ (5, vint w64 (x .at)) ∷ (4, vint w64 inside) ∷ (3, vint w64 top) ∷ (2, machine frames) ∷ (1, machine work) ∷ []) (Shr work w ∷ Mut frames (x .list) ∷ []))
         (record { at = top; held = inside; n = 0; list = fs; holds = gather-start w fs top inside given; held-fits = inside-fits; n-fits = lit< tt; same = refl }) ! (λ x Q again leave.
-        assigns ! (bin ! (load ! (from ! (stop !)) (look ! 5 refl)) (big-lit ! w64 508928 (record { fits = lit< tt })) tt) (from ! (stop !)) (init ! 9 refl (tt, tt)) $
+        assigns ! (bin ! (load ! (from ! (stop !)) (look ! 5 refl)) (big-lit ! w64 459776 (record { fits = lit< tt })) tt) (from ! (stop !)) (init ! 9 refl (tt, tt)) $
         turns-on ! (load ! (from ! (stop !)) (look ! 9 refl)) (λ more.
         let small : x .at < framesEnd = ltb→lt (x .at) framesEnd more in
         -- the frame at the place
-        move ! (24 ∷ []) $ calls-lent W (to-gather-at x) G.the-row (((x .at + 21 < length w) × FrameFits (frameAt w (x .at)) (x .held)) ∷ []) (λ r ws. (r ≡ gatheredOf (frameAt w (x .at)) (x .held)) ∷ []) ! (fmOf 𝓤 H (W .laws) 𝓣)
+        move ! (24 ∷ []) $ calls-lent W (to-gather-at x) G.the-row (((x .at + 18 < length w) × FrameFits (frameAt w (x .at)) (x .held)) ∷ []) (λ r ws. (r ≡ gatheredOf (frameAt w (x .at)) (x .held)) ∷ []) ! (fmOf 𝓤 H (W .laws) 𝓣)
         (λ l. gathers ((lives (to-gather-at x) l, parts (to-gather-at x), tt, dens (to-gather-at x) l, valss (to-gather-at x)), tt))
         (((refl, omega (arith, small)), uint-makes 𝓤 H A W w64), (((refl, x .held-fits), uint-makes 𝓤 H A W w64), tt)) (gather-at-given w fs top inside (x .list) (x .n) (x .at) (x .held) (x .holds) small)
         (and-then ! (load ! (from ! (stop !)) (look ! 1 refl)) (and-then ! (load ! (from ! (stop !)) (look ! 5 refl)) (and-then ! (load ! (from ! (stop !)) (look ! 6 refl)) (no-more !)))) (λ v g ws told. sinks ! 1 $
@@ -162,7 +162,7 @@ module _ {M : Type 1} (𝓤 : URA M) (H : Heap 𝓤) (A : Atoms 𝓤) (W : Given
         assigns-last ! (bin ! (load ! (from ! (stop !)) (look ! 5 refl)) (lit ! tt) (record { fits = omega (arith, small) })) (from ! (stop !)) (store ! 5 refl (tt, record { fits = omega (arith, small) })) $
         forget ! 8 refl $ forget ! 9 refl $ forget ! 10 refl $ forget ! 11 refl $
         again (record {
-          at = x .at + 22;
+          at = x .at + 19;
           held = g .inside;
           n = r;
           list = ws′ .0;
