@@ -22,7 +22,7 @@ use Rattle.run_promises.specs.RunPromises.{RunRefuses}
 
 -- each lent space for which docs/ names a size is long enough; "shorter is 29"
 abbrev pub Enough : (work : List ℕ) → List LentFrame → (state : List ℕ) → Type 0
-Enough w fs st = (800268 ≤ length w) × (16384 ≤ length fs) × (160268 ≤ length st)
+Enough w fs st = (751116 ≤ length w) × (16384 ≤ length fs) × (160268 ≤ length st)
 
 -- after 29: everything as it was
 abbrev pub untouched : (work : List ℕ) → List LentFrame → (out state : List ℕ) → Halting
