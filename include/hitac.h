@@ -159,15 +159,15 @@ struct hitac_answer hitac_resume(const uint8_t *table, size_t table_length,
 
 /* Work space that each call needs, in bytes. */
 #define HITAC_CHECK_WORK 65536        /* for hitac_check */
-#define HITAC_RUN_WORK 640000         /* for hitac_run */
+#define HITAC_RUN_WORK 590848         /* for hitac_run */
 #define HITAC_FLATTEN_WORK 200704     /* for hitac_flatten */
 #define HITAC_CHECK_FLAT_WORK 65536   /* for hitac_check_flat */
 #define HITAC_WRITE_PROOF_WORK 65536  /* for hitac_write_proof */
 #define HITAC_READ_TEXT_WORK 196608   /* for hitac_read_text */
 #define HITAC_WRITE_TEXT_WORK 36864   /* for hitac_write_text */
 #define HITAC_SEARCH_WORK 2496256     /* for hitac_search */
-#define HITAC_RUN_HALTING_WORK 800268 /* for hitac_run_halting */
-#define HITAC_RESUME_WORK 800268      /* for hitac_resume */
+#define HITAC_RUN_HALTING_WORK 751116 /* for hitac_run_halting */
+#define HITAC_RESUME_WORK 751116      /* for hitac_resume */
 
 /* What hitac_run_halting and hitac_resume need besides. */
 #define HITAC_FRAMES 16384 /* frames */

@@ -34,15 +34,15 @@ pub struct Frame {
 }
 
 pub const CHECK_WORK: usize = 65536;
-pub const RUN_WORK: usize = 640000;
+pub const RUN_WORK: usize = 590848;
 pub const FLATTEN_WORK: usize = 200704;
 pub const CHECK_FLAT_WORK: usize = 65536;
 pub const WRITE_PROOF_WORK: usize = 65536;
 pub const READ_TEXT_WORK: usize = 196608;
 pub const WRITE_TEXT_WORK: usize = 36864;
 pub const SEARCH_WORK: usize = 2496256;
-pub const RUN_HALTING_WORK: usize = 800268;
-pub const RESUME_WORK: usize = 800268;
+pub const RUN_HALTING_WORK: usize = 751116;
+pub const RESUME_WORK: usize = 751116;
 
 pub const FRAMES: usize = 16384;
 pub const STATE: usize = 160268;
