@@ -2,9 +2,9 @@
 -- Assumes nothing.
 use Prim.Native.Nat.{ℕ, zero, suc, _+_, _*_, _-_, _≤_}
 use mathlib.Core.Path.{_≡_, refl, sym, ap, ap₂, subst, _∙_}
-use mathlib.Core.List.{List, _++_, append-assoc}
+use mathlib.Core.List.{List, _++_}
 use native.Mathlib.Omega.{arith}
-use lib.ListN.{length, take, drop, replicate, length-append}
+use lib.ListN.{length, take, drop, length-append}
 use lib.Seq.{take-at}
 use Rattle.format.specs.declared.values.Goal.{Goal}
 use Rattle.format.specs.Goals.{goalsAt}
@@ -14,8 +14,8 @@ use Rattle.format.proofs.GoalsLaws.{length-goalsAt}
 use Rattle.format.proofs.StandsLaws.{known}
 use Rattle.evaluation.specs.Machine as M
 use Rattle.lent_frames.specs.declared.LentFrame.{LentFrame}
-use Rattle.entries.specs.SavedState.{savedSize, waitingTerm, waitingTerms, savedContents, zerosTo}
-use Rattle.entries.proofs.SavedStateLaws.{term-length, zeros-length}
+use Rattle.entries.specs.SavedState.{savedSize, waitingTerm, waitingTerms, savedContents}
+use Rattle.entries.proofs.SavedStateLaws.{term-length}
 use Rattle.entries.specs.Halting.{haltingWork}
 use Rattle.arities.specs.Layout.{framesEnd, spaceEnd}
 use Rattle.tactics.specs.Source.{source}
@@ -27,7 +27,7 @@ use Rattle.saver.specs.Put.{put, Writes}
 use Rattle.saver.specs.Gather.{gathered, AllFit, GatherGiven, Gathers}
 use Rattle.saver.specs.Waiting.{framesBytes, AllLow, WaitingGiven}
 use Rattle.saver.specs.Head.{headBytes, HeadGiven, Heads}
-use Rattle.saver.specs.Last.{lastBytes, LastGiven, Lasts}
+use Rattle.saver.specs.Last.{lastBytes, LastGiven}
 use Rattle.saver.specs.Save.{Halts, SaveGiven, Saves}
 use Rattle.saver.proofs.PutLaws.{length-put, take-put, block-put, put-behind, same-below}
 use Rattle.saver.proofs.WaitingLaws.{frames-same}
@@ -43,15 +43,9 @@ contents-parts : (n : ℕ) (π : M.Place) (g : List Goal) (k : List M.Frame) →
 unfolding savedContents headBytes
 contents-parts n π g k = refl
 
--- the zeros behind the last of two blocks
-zeros-behind : (a b : List ℕ) (size rest : ℕ) → length a + rest ≡ size → a ++ zerosTo rest b ≡ zerosTo size (a ++ b)
-zeros-behind a b size rest e =
-    let m : rest - length b ≡ size - length (a ++ b) = omega (arith, length-append a b, e) in
-    sym (append-assoc a b (replicate (rest - length b) 0)) ∙ ap (λ (j : ℕ). a ++ b ++ replicate j 0) m
-
 -- a run that has ended saves nothing
-pub save-same : (w : List ℕ) (s : State) → (s .mode ≡ 0 → ⊥) → Saves w s w
-save-same w s n = record { ended = λ _. refl; halted = λ m. absurd (n m) }
+pub save-same : (w : List ℕ) (s : State) (end : ℕ) → (s .mode ≡ 0 → ⊥) → Saves w s end w
+save-same w s end n = record { ended = λ _. refl; halted = λ m. absurd (n m) }
 
 module _ (w : List ℕ) (fs : List LentFrame) (s : State) (q : SaveGiven w fs s) (m : s .mode ≡ 0) where
   abbrev h : Halts w s
@@ -228,47 +222,47 @@ module _ (w : List ℕ) (fs : List LentFrame) (s : State) (q : SaveGiven w fs s)
         length-last = omega (arith, term-length 0 (here s) (goalsAt w (s .start) (s .count)), length-goalsAt (s .count) w (s .start))
 
         -- all that was written, whatever machine's state the code stands for
-        halted-end : (v : List ℕ) → Lasts v₂ s r₂ v → (table job : List ℕ) (π : M.Place) (t : Term) (g : List Goal) (k : List M.Frame) → Runs table job w s π t g k
-            → v ≡ put w spaceEnd (zerosTo savedSize (savedContents (s .steps) π g k))
-        halted-end v d table job π t g k r =
+        halted-end : (r₃ : ℕ) (v : List ℕ) → Writes v₂ r₂ (lastBytes v₂ s) r₃ v → (table job : List ℕ) (π : M.Place) (t : Term) (g : List Goal) (k : List M.Frame) → Runs table job w s π t g k
+            → Writes w spaceEnd (savedContents (s .steps) π g k) r₃ v
+        halted-end r₃ v d table job π t g k r =
             let first = headBytes (s .steps) k n in
             let p = b .writes table job π t g k r in
             let l : length first ≡ length head = omega (arith, p .0, head-writes .0) in
             let e : v₂ ≡ put w spaceEnd (first ++ waiting) = both-written first l (p .1) in
-            let rest = spaceEnd + savedSize - r₂ in
             let two : length (first ++ waiting) ≡ length head + length waiting = length-append first waiting ∙ ap (λ (j : ℕ). j + length waiting) l in
-            let zeros : length (zerosTo rest (lastBytes w s)) ≡ rest = zeros-length rest (lastBytes w s) (omega (arith, length-last, r₂-is, parts-fit)) in
-            d
-            ∙ ap (λ (x : List ℕ). put v₂ r₂ (zerosTo rest x)) last-same
-            ∙ ap (λ (x : List ℕ). put x r₂ (zerosTo rest (lastBytes w s))) e
-            ∙ put-behind w (first ++ waiting) (zerosTo rest (lastBytes w s)) spaceEnd r₂ (omega (arith, two, r₂-is)) (omega (arith, zeros, r₂-is, parts-fit, q .space))
-            ∙ ap (put w spaceEnd)
-            (zeros-behind (first ++ waiting) (lastBytes w s) savedSize rest (omega (arith, two, r₂-is, parts-fit))
-            ∙ ap (zerosTo savedSize)
-            (ap₂ (λ (x y : List ℕ). first ++ x ++ y) (waiting-are table job π t g k r) (last-is table job π t g k r)
+            let all : first ++ waiting ++ lastBytes w s ≡ savedContents (s .steps) π g k =
+            ap₂ (λ (x y : List ℕ). first ++ x ++ y) (waiting-are table job π t g k r) (last-is table job π t g k r)
             ∙ ap (λ (j : ℕ). headBytes (s .steps) k j ++ waitingTerms (length g) k ++ waitingTerm 0 π g) (n-is k (ends-at table job π t g k r))
-            ∙ sym (contents-parts (s .steps) π g k)))
+            ∙ sym (contents-parts (s .steps) π g k) in
+            let f : v ≡ put w spaceEnd (first ++ waiting ++ lastBytes w s) =
+            d .1
+            ∙ ap₂ (λ (x y : List ℕ). put x r₂ y) e last-same
+            ∙ put-behind w (first ++ waiting) (lastBytes w s) spaceEnd r₂ (omega (arith, two, r₂-is)) (omega (arith, length-last, r₂-is, parts-fit, q .space)) in
+            (omega (arith, d .0, ap length last-same, r₂-is, two, length-append (first ++ waiting) (lastBytes w s), ap length all), f ∙ ap (put w spaceEnd) all)
 
-        pub save-end : (v : List ℕ) → Lasts v₂ s r₂ v → Saves w s v
-        save-end v d = record { ended = λ z. absurd (z m); halted = λ _. halted-end v d }
+        pub save-end : (r₃ : ℕ) (v : List ℕ) → Writes v₂ r₂ (lastBytes v₂ s) r₃ v → Saves w s r₃ v
+        save-end r₃ v d = record { ended = λ z. absurd (z m); halted = λ _. halted-end r₃ v d }
 
--- what the work space holds afterwards: the saved state, and what lay before it
-module _ (w : List ℕ) (s : State) (v : List ℕ) (b : Saves w s v) (m : s .mode ≡ 0) (table job : List ℕ) (π : M.Place) (t : Term) (g : List Goal) (k : List M.Frame) (r : Runs table job w s π t g k)
+-- what the work space holds afterwards: the contents of the saved state, and what lay before them
+module _ (w : List ℕ) (s : State) (end : ℕ) (v : List ℕ) (b : Saves w s end v) (m : s .mode ≡ 0) (table job : List ℕ) (π : M.Place) (t : Term) (g : List Goal) (k : List M.Frame) (r : Runs table job w s π t g k)
     (space : haltingWork ≤ length w) (fits : length (savedContents (s .steps) π g k) ≤ savedSize) where
   abbrev bytes : List ℕ
-  bytes = zerosTo savedSize (savedContents (s .steps) π g k)
+  bytes = savedContents (s .steps) π g k
 
-  size-is : length bytes ≡ savedSize
-  size-is = zeros-length savedSize (savedContents (s .steps) π g k) fits
+  written : Writes w spaceEnd bytes end v
+  written = b .halted m table job π t g k r
 
   room : spaceEnd + length bytes ≤ length w
-  room = omega (arith, size-is, space)
+  room = omega (arith, fits, space)
+
+  pub saved-within : (spaceEnd ≤ end) × (end ≤ spaceEnd + savedSize)
+  saved-within = (omega (arith, written .0), omega (arith, written .0, fits))
 
   pub saved-length : length v ≡ length w
-  saved-length = ap length (b .halted m table job π t g k r) ∙ length-put w bytes spaceEnd room
+  saved-length = ap length (written .1) ∙ length-put w bytes spaceEnd room
 
   pub saved-front : take spaceEnd v ≡ take spaceEnd w
-  saved-front = ap (take spaceEnd) (b .halted m table job π t g k r) ∙ take-put w bytes spaceEnd room
+  saved-front = ap (take spaceEnd) (written .1) ∙ take-put w bytes spaceEnd room
 
-  pub saved-block : take savedSize (drop spaceEnd v) ≡ bytes
-  saved-block = ap₂ (λ (j : ℕ) (x : List ℕ). take j (drop spaceEnd x)) (sym size-is) (b .halted m table job π t g k r) ∙ block-put w bytes spaceEnd room
+  pub saved-block : take (end - spaceEnd) (drop spaceEnd v) ≡ bytes
+  saved-block = let n : end - spaceEnd ≡ length bytes = omega (arith, written .0) in ap₂ (λ (j : ℕ) (x : List ℕ). take j (drop spaceEnd x)) n (written .1) ∙ block-put w bytes spaceEnd room

@@ -1,4 +1,4 @@
--- Document 02, P1: the saved state of a run that halts, written behind what a run uses of the work space.
+-- Document 02, P1: the contents of the saved state of a run that halts, written behind what a run uses of the work space.
 use Prim.Native.Nat.{ℕ, _+_, _≤_, _<_}
 use mathlib.Core.Path.{_≡_}
 use mathlib.Core.List.{List, [], _∷_}
@@ -9,12 +9,12 @@ use Rattle.format.specs.Terms.{Term}
 use Rattle.evaluation.specs.Machine as M
 use Rattle.evaluation.specs.Halts.{lastPlace, Shared, ownCount}
 use Rattle.lent_frames.specs.declared.LentFrame.{LentFrame}
-use Rattle.entries.specs.SavedState.{savedSize, savedContents, zerosTo}
+use Rattle.entries.specs.SavedState.{savedSize, savedContents}
 use Rattle.entries.specs.Halting.{haltingWork, mostFrames}
 use Rattle.arities.specs.Layout.{spaceEnd}
 use Rattle.machine.specs.declared.state.State.{State}
 use Rattle.machine.specs.Shows.{Runs}
-use Rattle.saver.specs.Put.{put}
+use Rattle.saver.specs.Put.{Writes}
 
 -- places are in the table (file 0) or in the job (file 1)
 unfoldable pub InFiles : List M.Frame → Type 0
@@ -45,7 +45,8 @@ pub record SaveGiven (w : List ℕ) (fs : List LentFrame) (s : State) : Type 0 w
   pub lent : mostFrames ≤ length fs
   pub halts : s .mode ≡ 0 → Halts w s
 
-pub record Saves (w : List ℕ) (s : State) (v : List ℕ) : Type 0 where
+-- where the contents end is told of a run that halts
+pub record Saves (w : List ℕ) (s : State) (end : ℕ) (v : List ℕ) : Type 0 where
   pub ended : (s .mode ≡ 0 → ⊥) → v ≡ w
   pub halted : s .mode ≡ 0 → (table job : List ℕ) (π : M.Place) (t : Term) (g : List Goal) (k : List M.Frame) → Runs table job w s π t g k
-      → v ≡ put w spaceEnd (zerosTo savedSize (savedContents (s .steps) π g k))
+      → Writes w spaceEnd (savedContents (s .steps) π g k) end v

@@ -1,19 +1,17 @@
-// The end of the saved state: the term to begin with all its goals, and zeros.
-ghost use Rattle.saver.specs.Last.{LastGiven, Lasts};
-use crate::layout::SAVED_SIZE;
+// The end of the saved state's contents: the term to begin with all its goals.
+ghost use Rattle.saver.specs.Put.{Writes};
+ghost use Rattle.saver.specs.Last.{lastBytes, LastGiven};
 use crate::waiting::write_frame;
-use arities::layout::SPACE_END;
 use lent_frames::LentFrame;
 use machine::state::State;
-use words::clear;
 
 // The stage of the term to begin.
 const TO_BEGIN: u16 = 0;
 
-// The zeros reach up to the size of every saved state: the work space may hold what an earlier call wrote there.
-pub fn write_last(work: &mut [u8], s: State, to: usize)
+// The zeros behind it are not written here: what is compared with a saved state needs none, and what is handed over gets them where it goes.
+pub fn write_last(work: &mut [u8], s: State, to: usize) -> usize
     requires { ⌜ LastGiven (now work) s to ⌝ }
-    ensures { λ _. ⌜ Lasts (now (work .entry)) s to (now (work .exit)) ⌝ }
+    ensures { λ r. ⌜ Writes (now (work .entry)) to (lastBytes (now (work .entry)) s) r (now (work .exit)) ⌝ }
 {
     let term = (s.file as u32) * 65536 + (s.at as u32);
     let goals = s.start as u32;
@@ -24,6 +22,5 @@ pub fn write_last(work: &mut [u8], s: State, to: usize)
         count,
         stage: TO_BEGIN,
     };
-    let end = write_frame(work, to, f);
-    clear(&mut work[end..SPACE_END + SAVED_SIZE]);
+    write_frame(work, to, f)
 }

@@ -1,6 +1,5 @@
--- `last::write_last` meets its contract: the term to begin, and the part behind it cleared. Assumes nothing.
-use native.Mathlib.Omega.{arith}
-use Rattle.saver.proofs.LastLaws.{end-within, last-end}
+-- `last::write_last` meets its contract: the term to begin. Assumes nothing.
+use Rattle.saver.proofs.LastLaws.{last-written}
 use borrow.Author.Needs.{needs}
 use Rattle.saver.proofs.last.write_last.Statement.{statement}
 use Rattle.saver.proofs.last.write_last.Tie as tie
@@ -26,45 +25,14 @@ cast-count c = search needs
 write-frame-requires : tie.Need-write-frame-requires
 write-frame-requires c κs = search needs
 
-add-clear : tie.Need-add-clear
-add-clear c = record { fits = omega (arith, end-within (c .before .before .before .before .before .before .before .before .before .args .work .now) (c .before .before .before .before .before .before .before .before .before .args .s) (c .before .before .before .before .before .before .before .before .before .args .to) (c .before .before .before .before .before .before .before .before .before .pre) _ _ (c .before .before .write-frame .ensures) .0) }
-
-sub-clear : tie.Need-sub-clear
-sub-clear c = omega (arith, end-within (c .before .before .before .before .before .before .before .before .before .args .work .now) (c .before .before .before .before .before .before .before .before .before .args .s) (c .before .before .before .before .before .before .before .before .before .args .to) (c .before .before .before .before .before .before .before .before .before .pre) _ _ (c .before .before .write-frame .ensures) .0)
-
-part-clear-start : tie.Need-part-clear-start
-part-clear-start c = let z = end-within (c .before .before .before .before .before .before .before .before .before .args .work .now) (c .before .before .before .before .before .before .before .before .before .args .s) (c .before .before .before .before .before .before .before .before .before .args .to) (c .before .before .before .before .before .before .before .before .before .pre) _ _ (c .before .before .write-frame .ensures) in omega (arith, z .0, z .1)
-
-part-clear-end : tie.Need-part-clear-end
-part-clear-end c = let z = end-within (c .before .before .before .before .before .before .before .before .before .args .work .now) (c .before .before .before .before .before .before .before .before .before .args .s) (c .before .before .before .before .before .before .before .before .before .args .to) (c .before .before .before .before .before .before .before .before .before .pre) _ _ (c .before .before .write-frame .ensures) in omega (arith, z .0, z .1)
-
-clear-requires : tie.Need-clear-requires
-clear-requires c κs = search needs
-
 same-length : tie.Need-same-length
 same-length c = search needs
 
 returns : tie.Need-returns
 returns c =
-    let i = c .before .before .before .before .before .before .before .before .before .before .before .before .before in
+    let i = c .before .before .before .before .before .before .before .before .before in
     let a = i .args in
-    last-end (a .work .now) (a .s) (a .to) (i .pre) _ _ (c .before .before .before .before .before .before .write-frame .ensures) _ (c .before .before .clear .ensures)
+    last-written (a .work .now) (a .s) (a .to) (i .pre) _ _ (c .before .before .write-frame .ensures)
 
 pub write-last-spec : {M : Type 1} → statement M
-write-last-spec =
-    tie.close
-    (tie.spec
-    cast-term
-    mul-term
-    cast-term-2
-    add-term
-    cast-goals
-    cast-count
-    write-frame-requires
-    add-clear
-    sub-clear
-    part-clear-start
-    part-clear-end
-    clear-requires
-    same-length
-    returns)
+write-last-spec = tie.close (tie.spec cast-term mul-term cast-term-2 add-term cast-goals cast-count write-frame-requires same-length returns)
