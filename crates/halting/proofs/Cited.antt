@@ -10,6 +10,7 @@ use contract.Monad.{Fun}
 use denote.Triple.Spec.{tripleOf}
 use denote.Triple.Statement.{Contract}
 use Rattle.answers.proofs.refusal as refusal
+use Rattle.lent_frames.proofs.clear_frames as clear-frames
 use Rattle.saver.proofs.save.save as save
 use Rattle.halting.proofs.entry.too_short as too-short
 use Rattle.halting.proofs.first.first_run as first-run
@@ -39,6 +40,9 @@ module _ {M : Type 1} (𝓤 : URA M) (H : Heap 𝓤) (A : Atoms 𝓤) (mem : Mem
 
   abbrev pub GoOn : Contract 𝓤
   GoOn = tripleOf 𝓤 H A go-on.signature (go-on.spec 𝓤 H A mem run)
+
+  abbrev pub ClearFrames : Contract 𝓤
+  ClearFrames = tripleOf 𝓤 H A clear-frames.signature (clear-frames.spec 𝓤 H A mem run)
 
   abbrev pub Finish : Contract 𝓤
   Finish = tripleOf 𝓤 H A finish.signature (finish.spec 𝓤 H A mem run)

@@ -24,7 +24,8 @@ use Rattle.runner.proofs.RunLaws.{known-same, if-running}
 use Rattle.runner.proofs.LastLaws.{finish-given}
 use Rattle.halting.specs.declared.halted.Halted.{Halted}
 use Rattle.halting.specs.Halted.{Ended, Answered, Comes}
-use Rattle.halting.specs.GoOn.{savedPart, Candidate, GoOnGiven}
+use Rattle.halting.specs.SavedBytes.{EndsAt, savedBytes}
+use Rattle.halting.specs.GoOn.{Candidate, GoOnGiven}
 use Rattle.halting.proofs.HaltLaws.{steps-stand}
 use Rattle.halting.proofs.ComesLaws.{refusal-comes, ended-comes, run-comes}
 use Rattle.halting.proofs.AgainLaws.{not-genuine-refuses}
@@ -67,12 +68,12 @@ module _ (t s : List ℕ) (n : ℕ) (w : List ℕ) (x : State) (first term : ℕ
         (run (q .table) n (begins (q .job)) .control) (q .shows .shows) (steps-stand t s n w x first term q h);
   }
 
-module _ (t s saved : List ℕ) (c : ℕ) (w out : List ℕ) (h : Halted) (q : GoOnGiven t s saved c w h) where
+module _ (t s saved : List ℕ) (c : ℕ) (w out : List ℕ) (h : Halted) (end : ℕ) (q : GoOnGiven t s saved c w h end) where
   pub ended-end : (h .state .mode ≡ 0 → ⊥) → Comes (resumeOutcome t s saved c) w out w h out
   ended-end n = refusal-comes (resumeOutcome t s saved c) w w out h (q .ended n) n refl
 
   module _ (m : h .state .mode ≡ 0) where
-    abbrev d : Candidate t s saved c w h
+    abbrev d : Candidate t s saved c w h end
     d = q .halted m
 
     abbrev p : Reached t s (stepsOf saved) w (h .state) (h .first) (h .term)
@@ -84,12 +85,15 @@ module _ (t s saved : List ℕ) (c : ℕ) (w out : List ℕ) (h : Halted) (q : G
     pub steps-given : Started t (h .first) s w (h .state) c
     steps-given = started t s (stepsOf saved) w (h .state) (h .first) (h .term) p m c (d .again .within) (omega (arith, q .space))
 
+    pub compare-given : EndsAt end × (end ≤ length w)
+    compare-given = (d .ends, omega (arith, d .ends .within, q .space))
+
     -- the comparison says whether the state is genuine
-    compared : (r : Bool) → r ≡ sameBytes (savedPart w) saved → genuine (p .table) (p .job) saved ≡ r
+    compared : (r : Bool) → r ≡ sameBytes (savedBytes w end) saved → genuine (p .table) (p .job) saved ≡ r
     unfolding genuine isSaved
     compared r e = ap (λ (o : Option (List ℕ)). isSaved o saved) (d .saved-is) ∙ sym e
 
-    pub other-end : (r : Bool) → r ≡ sameBytes (savedPart w) saved → r ≡ false → (g : Halted) → Ended (h .answer) g → Comes (resumeOutcome t s saved c) w out w g out
+    pub other-end : (r : Bool) → r ≡ sameBytes (savedBytes w end) saved → r ≡ false → (g : Halted) → Ended (h .answer) g → Comes (resumeOutcome t s saved c) w out w g out
     other-end r e z g a =
         ended-comes (resumeOutcome t s saved c) w w out (h .answer) g
         (not-genuine-refuses t s saved c (d .again .within) w (h .state) (h .first) (h .term) p (h .answer) (compared r e ∙ z) (d .again .answer-is)) a refl
@@ -101,7 +105,7 @@ module _ (t s saved : List ℕ) (c : ℕ) (w out : List ℕ) (h : Halted) (q : G
       pub answer-given : FinishGiven s (h .term) v y
       answer-given = finish-given t s (stepsOf saved + c) v y (h .first) (h .term) last (d .again .within) (omega (arith, q .space, a .same-length))
 
-      pub on-end : (r : Bool) → r ≡ sameBytes (savedPart w) saved → r ≡ true → (g : Halted) (u : List ℕ) → Answered y s v out g u → Comes (resumeOutcome t s saved c) w out v g u
+      pub on-end : (r : Bool) → r ≡ sameBytes (savedBytes w end) saved → r ≡ true → (g : Halted) (u : List ℕ) → Answered y s v out g u → Comes (resumeOutcome t s saved c) w out v g u
       unfolding resumeOutcome reached-on last
       on-end r e z g u b =
           run-comes t s (stepsOf saved + c) v y (h .first) (h .term) last (d .again .within) (resumeOutcome t s saved c)

@@ -1,4 +1,6 @@
 pub mod SameLaws
+pub mod ZeroLaws
+pub mod StateLaws
 pub mod HaltLaws
 pub mod ComesLaws
 pub mod FirstLaws

@@ -15,7 +15,7 @@ use Rattle.entries.specs.Halting.{sameBytes}
 use Rattle.entries.proofs.SameBytes.{bytes-equal}
 
 -- lists of different lengths
-other-size : (a b : List ℕ) → (length b ≡ length a → ⊥) → sameBytes a b ≡ false
+pub other-size : (a b : List ℕ) → (length b ≡ length a → ⊥) → sameBytes a b ≡ false
 other-size a b h = go (sameBytes a b) refl
   where
     go : (x : Bool) → sameBytes a b ≡ x → x ≡ false
@@ -23,10 +23,10 @@ other-size a b h = go (sameBytes a b) refl
     go false e = refl
 
 -- an or of nothing but zeros
-or-none : (a b : ℕ) → bitOr a b ≡ 0 → a ≡ 0
+pub or-none : (a b : ℕ) → bitOr a b ≡ 0 → a ≡ 0
 or-none a b e = omega (arith, or-add-and a b, and-le-l a b, and-le-r a b, e)
 
-or-none-r : (a b : ℕ) → bitOr a b ≡ 0 → b ≡ 0
+pub or-none-r : (a b : ℕ) → bitOr a b ≡ 0 → b ≡ 0
 or-none-r a b e = omega (arith, or-add-and a b, and-le-l a b, and-le-r a b, e)
 
 -- numbers with no bit that differs
@@ -39,8 +39,11 @@ both-first : (a b : List ℕ) (i : ℕ) → i < length a → i < length b
 unfolding sameBytes
 both-first a b i h k = ap₂ sameBytes (drop-cons a i 0 h) (drop-cons b i 0 k)
 
--- the comparison of a part of a list with another list
-module _ (s : List ℕ) (at n : ℕ) (o : List ℕ) (inside : at + n ≤ length s) where
+-- the comparison of the front of a part with a list
+module _ (s : List ℕ) (at : ℕ) (o : List ℕ) (inside : at + length o ≤ length s) where
+  abbrev n : ℕ
+  n = length o
+
   abbrev part : List ℕ
   part = take n (drop at s)
 
@@ -50,22 +53,18 @@ module _ (s : List ℕ) (at n : ℕ) (o : List ℕ) (inside : at + n ≤ length 
   part-at : (i : ℕ) → i < n → getD part i 0 ≡ getD s (at + i) 0
   part-at i h = getD-take n (drop at s) i 0 h ∙ getD-drop at s i 0
 
-  pub size-end : (r : Bool) → (length o ≡ n → ⊥) → r ≡ false → r ≡ sameBytes part o
-  size-end r h e = e ∙ sym (other-size part o (λ q. h (q ∙ part-length)))
-
   -- what is left to compare
   pub record Left (i : ℕ) : Type 0 where
     pub within : i ≤ n
-    pub same-size : length o ≡ n
     pub rest : sameBytes part o ≡ sameBytes (drop i part) (drop i o)
 
-  left-start : length o ≡ n → Left 0
-  left-start e = record { within = omega arith; same-size = e; rest = refl }
+  left-start : Left 0
+  left-start = record { within = omega arith; rest = refl }
 
   module _ (i : ℕ) (l : Left i) (h : i < n) where
     first : sameBytes part o ≡ (eqb (getD s (at + i) 0) (getD o i 0) && sameBytes (drop (suc i) part) (drop (suc i) o))
     first =
-        l .rest ∙ both-first part o i (omega (arith, part-length)) (omega (arith, l .same-size))
+        l .rest ∙ both-first part o i (omega (arith, part-length)) h
         ∙ ap (λ (x : ℕ). eqb x (getD o i 0) && sameBytes (drop (suc i) part) (drop (suc i) o)) (part-at i h)
 
     unequal : (getD s (at + i) 0 ≡ getD o i 0 → ⊥) → sameBytes part o ≡ false
@@ -74,23 +73,21 @@ module _ (s : List ℕ) (at n : ℕ) (o : List ℕ) (inside : at + n ≤ length 
     left-next : getD s (at + i) 0 ≡ getD o i 0 → Left (i + 1)
     left-next e = record {
       within = omega arith;
-      same-size = l .same-size;
       rest = rw add-one (first ∙ ap (λ (x : Bool). x && sameBytes (drop (suc i) part) (drop (suc i) o)) (eq-eqb (getD s (at + i) 0) (getD o i 0) e));
     }
 
   left-end : (i : ℕ) → Left i → n ≤ i → sameBytes part o ≡ true
   unfolding sameBytes
-  left-end i l h = l .rest ∙ ap₂ sameBytes (drop-of-length-le part {i = i} (omega (arith, part-length))) (drop-of-length-le o {i = i} (omega (arith, l .same-size)))
+  left-end i l h = l .rest ∙ ap₂ sameBytes (drop-of-length-le part {i = i} (omega (arith, part-length))) (drop-of-length-le o {i = i} h)
 
   -- the bits that differed so far
   pub record Seen (d i : ℕ) : Type 0 where
     pub within : i ≤ n
-    pub same-size : length o ≡ n
     pub none : d ≡ 0 → Left i
     pub some : (d ≡ 0 → ⊥) → sameBytes part o ≡ false
 
-  pub seen-start : length o ≡ n → Seen 0 0
-  seen-start e = record { within = omega arith; same-size = e; none = λ q. left-start e; some = λ q. absurd (q refl) }
+  pub seen-start : Seen 0 0
+  seen-start = record { within = omega arith; none = λ q. left-start; some = λ q. absurd (q refl) }
 
   module _ (d i : ℕ) (l : Seen d i) (h : i < n) where
     abbrev x : ℕ
@@ -116,7 +113,7 @@ module _ (s : List ℕ) (at n : ℕ) (o : List ℕ) (inside : at + n ≤ length 
         go false e = l .some (eqb-false d 0 e)
 
     pub seen-next : Seen d′ (i + 1)
-    seen-next = record { within = omega arith; same-size = l .same-size; none = none-next; some = some-next }
+    seen-next = record { within = omega arith; none = none-next; some = some-next }
 
   pub seen-end : (d i : ℕ) (r : Bool) → Seen d i → n ≤ i → r ≡ eqb d 0 → r ≡ sameBytes part o
   seen-end d i r l h t = t ∙ go (eqb d 0) refl

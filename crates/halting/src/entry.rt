@@ -14,6 +14,7 @@ use crate::layout::MOST_FRAMES;
 use answers::Answer;
 use answers::refusal;
 use lent_frames::LentFrame;
+use lent_frames::clear_frames;
 use saver::layout::SAVED_SIZE;
 use saver::save::save;
 
@@ -51,11 +52,12 @@ pub fn run_halting(
     }
     let h = first_run(table, job, budget, work, out);
     let s = state_of(h);
-    save(s, work, frames);
-    finish(h, work, state)
+    let end = save(s, work, frames);
+    clear_frames(frames);
+    finish(h, end, work, state)
 }
 
-// Goes on from a saved state, within the budget. The saved bytes are compared with those of the first steps run again, which are saved behind what a run uses of the work space.
+// Goes on from a saved state, within the budget. The saved bytes are compared with those of the first steps run again, which are saved behind what a run uses of the work space. Each call of save leaves frames that the next one overwrites: they are cleared once, after the last.
 pub fn resume(
     table: &[u8],
     job: &[u8],
@@ -77,9 +79,10 @@ pub fn resume(
     }
     let h = run_again(table, job, saved, budget, work);
     let s = state_of(h);
-    save(s, work, frames);
-    let g = go_on(h, table, job, saved, budget, work, out);
+    let end = save(s, work, frames);
+    let g = go_on(h, end, table, job, saved, budget, work, out);
     let t = state_of(g);
-    save(t, work, frames);
-    finish(g, work, state)
+    let last = save(t, work, frames);
+    clear_frames(frames);
+    finish(g, last, work, state)
 }

@@ -25,7 +25,7 @@ use types.Run.{look, init, forget, stop, hop, fld, from, load, addr, lit, of-opd
 use types.Part.{agg, whole, sub, look-in}
 use sound.WpLaws.{FmC, fmOf, WpFn-mono}
 use denote.Laws.{Is}
-use denote.Plain.{uint-makes, uint-vals, uint-tells, bool-lawful, nothing-lawful}
+use denote.Plain.{uint-makes, uint-lawful, uint-vals, uint-tells, bool-lawful, nothing-lawful}
 use denote.Builtin.{u8, u32, usize, bool, unit}
 use denote.Ref.{now}
 use denote.Slice.{Room, slice-vals, shr-slice-tells, mut-slice-tells}
@@ -48,8 +48,7 @@ use Rattle.lent_frames.proofs.Loans.{Span, Mut, Shr}
 use Rattle.lent_frames.proofs.Calling.{Arg, value, shared, lent, bound, valss, machines, befores, Knows, calls-lent, entry, leaves}
 use Rattle.lent_frames.proofs.Locals.{alloc-all, free-all, sinks, guards}
 use Rattle.arities.specs.Layout.{spaceEnd}
-use Rattle.entries.specs.SavedState.{savedSize}
-use Rattle.entries.specs.Halting.{haltingOutcome, runHalting, HaltingOutcome, Halting, anyShort, haltingWork, clearedFrames}
+use Rattle.entries.specs.Halting.{haltingOutcome, runHalting, HaltingOutcome, Halting, anyShort, clearedFrames}
 use Rattle.machine.specs.declared.state.State.{State}
 use Rattle.machine.proofs.state.State as S
 use Rattle.machine.proofs.state.State.Laws as S′
@@ -58,9 +57,9 @@ use Rattle.halting.specs.declared.halted.Halted.{Halted}
 use Rattle.halting.proofs.halted.Halted as R
 use Rattle.halting.proofs.halted.Halted.Laws as R′
 use Rattle.halting.specs.Halted.{Comes}
-use Rattle.halting.specs.Finish.{handed}
+use Rattle.halting.specs.Finish.{HandGiven, handed}
 use Rattle.halting.proofs.EntryLaws.{Is as FiveClauses, halting-short, run-given, halting-save-given, halting-finish-given, halting-end}
-use Rattle.halting.proofs.Cited.{TooShort, Refusal, FirstRun, StateOf, Save, Finish}
+use Rattle.halting.proofs.Cited.{TooShort, Refusal, FirstRun, StateOf, Save, ClearFrames, Finish}
 use Rattle.halting.proofs.entry.too_short.Symbol as too-short-def
 use Rattle.halting.proofs.entry.too_short.Symbol.{name as #too-short}
 use Rattle.halting.proofs.entry.too_short.Met as too-short-thm
@@ -76,6 +75,9 @@ use Rattle.halting.proofs.halted.state_of.Met as state-of-thm
 use Rattle.saver.proofs.save.save.Symbol as save-def
 use Rattle.saver.proofs.save.save.Symbol.{name as #save}
 use Rattle.saver.proofs.save.save.Met as save-thm
+use Rattle.lent_frames.proofs.clear_frames.Symbol as clear-frames-def
+use Rattle.lent_frames.proofs.clear_frames.Symbol.{name as #clear-frames}
+use Rattle.lent_frames.proofs.clear_frames.Met as clear-frames-thm
 use Rattle.halting.proofs.finish.finish.Symbol as finish-def
 use Rattle.halting.proofs.finish.finish.Symbol.{name as #finish}
 use Rattle.halting.proofs.finish.finish.Met as finish-thm
@@ -155,10 +157,13 @@ module _ {M : Type 1} (𝓤 : URA M) (H : Heap 𝓤) (A : Atoms 𝓤) (W : Given
   abbrev to-save : State → Val → List ℕ → List LentFrame → List Arg
   to-save s v w′ fs′ = value S.the-row s v ∷ lent work w′ ∷ lent frames fs′ ∷ []
 
-  abbrev to-finish : Halted → Val → List ℕ → List Arg
-  to-finish h v w′ = value R.the-row h v ∷ lent work w′ ∷ lent state st ∷ []
+  abbrev to-clear : List LentFrame → List Arg
+  to-clear fs′ = lent frames fs′ ∷ []
 
-  module _ (C : Calls 𝓤 H) (Λ : Loops 𝓤 H) (fm : FmC 𝓤 H (W .laws) C) (shorts : Triple 𝓤 (C #too-short) (TooShort 𝓤 H A mem run)) (refuses : Triple 𝓤 (C #refusal) (Refusal 𝓤 H A mem run)) (firsts : Triple 𝓤 (C #first-run) (FirstRun 𝓤 H A mem run)) (states : Triple 𝓤 (C #state-of) (StateOf 𝓤 H A mem run)) (saves : Triple 𝓤 (C #save) (Save 𝓤 H A mem run)) (finishes : Triple 𝓤 (C #finish) (Finish 𝓤 H A mem run))
+  abbrev to-finish : Halted → Val → ℕ → Val → List ℕ → List Arg
+  to-finish h v end x w′ = value R.the-row h v ∷ value usize end x ∷ lent work w′ ∷ lent state st ∷ []
+
+  module _ (C : Calls 𝓤 H) (Λ : Loops 𝓤 H) (fm : FmC 𝓤 H (W .laws) C) (shorts : Triple 𝓤 (C #too-short) (TooShort 𝓤 H A mem run)) (refuses : Triple 𝓤 (C #refusal) (Refusal 𝓤 H A mem run)) (firsts : Triple 𝓤 (C #first-run) (FirstRun 𝓤 H A mem run)) (states : Triple 𝓤 (C #state-of) (StateOf 𝓤 H A mem run)) (saves : Triple 𝓤 (C #save) (Save 𝓤 H A mem run)) (clears : Triple 𝓤 (C #clear-frames) (ClearFrames 𝓤 H A mem run)) (finishes : Triple 𝓤 (C #finish) (Finish 𝓤 H A mem run))
       (t-room : Room u8 (length t)) (j-room : Room u8 (length j)) (w-room : Room u8 (length w)) (fs-room : Room T.the-row (length fs)) (u-room : Room u8 (length u)) (st-room : Room u8 (length st)) (budget-fits : b < 2 ^ 32) where
     abbrev budget-is : Is u32 b (vint w32 b ∷ [])
     budget-is = (refl, budget-fits)
@@ -183,29 +188,29 @@ module _ {M : Type 1} (𝓤 : URA M) (H : Heap 𝓤) (A : Atoms 𝓤) (W : Given
         pass1 ! (init ! 5 refl (tt, (tt, (record { fits = fs-room .0 }, tt)))) $ pass1 ! (init ! 6 refl (tt, (tt, (record { fits = u-room .0 }, tt)))) $
         pass1 ! (init ! 7 refl (tt, (tt, (record { fits = st-room .0 }, tt)))) $ pass0 ! $
         -- too_short(work.len(), frames.len(), state.len())
-        assigns ! (of-opd ! (load ! (from ! (fld ! refl (stop !))) (look-in ! 4 (sub ! 1 refl (whole !))))) (from ! (stop !)) (init ! 11 refl (tt, record { fits = w-room .0 })) $
-        assigns ! (of-opd ! (load ! (from ! (fld ! refl (stop !))) (look-in ! 5 (sub ! 1 refl (whole !))))) (from ! (stop !)) (init ! 12 refl (tt, record { fits = fs-room .0 })) $
-        assigns ! (of-opd ! (load ! (from ! (fld ! refl (stop !))) (look-in ! 7 (sub ! 1 refl (whole !))))) (from ! (stop !)) (init ! 13 refl (tt, record { fits = st-room .0 })) $
+        assigns ! (of-opd ! (load ! (from ! (fld ! refl (stop !))) (look-in ! 4 (sub ! 1 refl (whole !))))) (from ! (stop !)) (init ! 12 refl (tt, record { fits = w-room .0 })) $
+        assigns ! (of-opd ! (load ! (from ! (fld ! refl (stop !))) (look-in ! 5 (sub ! 1 refl (whole !))))) (from ! (stop !)) (init ! 13 refl (tt, record { fits = fs-room .0 })) $
+        assigns ! (of-opd ! (load ! (from ! (fld ! refl (stop !))) (look-in ! 7 (sub ! 1 refl (whole !))))) (from ! (stop !)) (init ! 14 refl (tt, record { fits = st-room .0 })) $
         calls-lent W to-short bool [] (λ r ws. (r ≡ anyShort w fs st) ∷ []) ! fm (λ l. shorts (bound to-short l))
         (((refl, w-room .0), uint-makes 𝓤 H A W w64), (((refl, fs-room .0), uint-makes 𝓤 H A W w64), (((refl, st-room .0), uint-makes 𝓤 H A W w64), tt))) tt
-        (and-then ! (load ! (from ! (stop !)) (look ! 11 refl)) (and-then ! (load ! (from ! (stop !)) (look ! 12 refl)) (and-then ! (load ! (from ! (stop !)) (look ! 13 refl)) (no-more !)))) (λ v₀ b₀ ws₀ told₀.
-        land ! (from ! (stop !)) (init ! 10 refl (bool-lawful 𝓤 H A W .typed b₀ (v₀ ∷ []) (told₀ .0 .0) .0)) $
-        rewrite ! 10 (λ (x : Val). ‵ (fat fullShare tyBool (bs .1 .1 .1 .1 .1 .1 .1 .1 .1 .1 .0) 0 x)) (ap only (told₀ .0 .0)) refl $
-        guards ! (load ! (from ! (stop !)) (look ! 10 refl)) (λ short.
+        (and-then ! (load ! (from ! (stop !)) (look ! 12 refl)) (and-then ! (load ! (from ! (stop !)) (look ! 13 refl)) (and-then ! (load ! (from ! (stop !)) (look ! 14 refl)) (no-more !)))) (λ v₀ b₀ ws₀ told₀.
+        land ! (from ! (stop !)) (init ! 11 refl (bool-lawful 𝓤 H A W .typed b₀ (v₀ ∷ []) (told₀ .0 .0) .0)) $
+        rewrite ! 11 (λ (x : Val). ‵ (fat fullShare tyBool (bs .1 .1 .1 .1 .1 .1 .1 .1 .1 .1 .1 .0) 0 x)) (ap only (told₀ .0 .0)) refl $
+        guards ! (load ! (from ! (stop !)) (look ! 11 refl)) (λ short.
         calls-lent W to-refusal N.the-row (((0 ≤ 65535) × (0 ≤ 65535)) ∷ []) (λ r ws. (r ≡ said.refusal 29 0 0 0) ∷ []) ! fm (λ l. refuses (bound to-refusal l))
         refusal-knows (omega arith, omega arith)
         (and-then ! (lit ! tt) (and-then ! (lit ! tt) (and-then ! (lit ! tt) (and-then ! (lit ! tt) (no-more !))))) (λ v r ws told.
         land ! (from ! (stop !)) (init ! 0 refl (LL.lawful N.the-type N′.the-laws 𝓤 H A W .typed r (v ∷ []) (told .0 .0) .0)) $
-        returns-within ! Post refl (look ! 0 refl) $ forget ! 0 refl $ forget ! 1 refl $ forget ! 2 refl $ forget ! 3 refl $ forget ! 4 refl $ forget ! 5 refl $ forget ! 6 refl $ forget ! 7 refl $ forget ! 10 refl $ forget ! 11 refl $ forget ! 12 refl $ forget ! 13 refl $ free-all ! $
+        returns-within ! Post refl (look ! 0 refl) $ forget ! 0 refl $ forget ! 1 refl $ forget ! 2 refl $ forget ! 3 refl $ forget ! 4 refl $ forget ! 5 refl $ forget ! 6 refl $ forget ! 7 refl $ forget ! 11 refl $ forget ! 12 refl $ forget ! 13 refl $ forget ! 14 refl $ free-all ! $
         by ! (exits r v w fs u st (told .0 .0) refl refl refl refl (halting-short w fs u st b₀ (told₀ .1) t j b short r (told .1))))) (λ enough.
         -- first_run(table, job, budget, work, out)
-        assigns ! (addr ! (from ! (fld ! refl (hop ! (look-in ! 4 (sub ! 0 refl (whole !))) (stop !))))) (from ! (stop !)) (init ! 14 refl (tt, tt)) $
-        assigns ! (agg ! (and-then ! (load ! (from ! (stop !)) (look ! 14 refl)) (and-then ! (load ! (from ! (fld ! refl (stop !))) (look-in ! 4 (sub ! 1 refl (whole !)))) (no-more !)))) (from ! (stop !)) (init ! 15 refl (tt, (tt, (record { fits = w-room .0 }, tt)))) $
-        assigns ! (addr ! (from ! (fld ! refl (hop ! (look-in ! 6 (sub ! 0 refl (whole !))) (stop !))))) (from ! (stop !)) (init ! 16 refl (tt, tt)) $
-        assigns ! (agg ! (and-then ! (load ! (from ! (stop !)) (look ! 16 refl)) (and-then ! (load ! (from ! (fld ! refl (stop !))) (look-in ! 6 (sub ! 1 refl (whole !)))) (no-more !)))) (from ! (stop !)) (init ! 17 refl (tt, (tt, (record { fits = u-room .0 }, tt)))) $
-        move ! (54 ∷ 55 ∷ 56 ∷ 58 ∷ []) $ calls-lent W to-first R.the-row ((spaceEnd ≤ length w) ∷ []) (λ r ws. Comes o w u (ws .1 .1 .1 .0) r (ws .1 .1 .1 .1 .0) ∷ []) ! fm (λ l. firsts (bound to-first l))
+        assigns ! (addr ! (from ! (fld ! refl (hop ! (look-in ! 4 (sub ! 0 refl (whole !))) (stop !))))) (from ! (stop !)) (init ! 15 refl (tt, tt)) $
+        assigns ! (agg ! (and-then ! (load ! (from ! (stop !)) (look ! 15 refl)) (and-then ! (load ! (from ! (fld ! refl (stop !))) (look-in ! 4 (sub ! 1 refl (whole !)))) (no-more !)))) (from ! (stop !)) (init ! 16 refl (tt, (tt, (record { fits = w-room .0 }, tt)))) $
+        assigns ! (addr ! (from ! (fld ! refl (hop ! (look-in ! 6 (sub ! 0 refl (whole !))) (stop !))))) (from ! (stop !)) (init ! 17 refl (tt, tt)) $
+        assigns ! (agg ! (and-then ! (load ! (from ! (stop !)) (look ! 17 refl)) (and-then ! (load ! (from ! (fld ! refl (stop !))) (look-in ! 6 (sub ! 1 refl (whole !)))) (no-more !)))) (from ! (stop !)) (init ! 18 refl (tt, (tt, (record { fits = u-room .0 }, tt)))) $
+        move ! (60 ∷ 61 ∷ 62 ∷ 64 ∷ []) $ calls-lent W to-first R.the-row ((spaceEnd ≤ length w) ∷ []) (λ r ws. Comes o w u (ws .1 .1 .1 .0) r (ws .1 .1 .1 .1 .0) ∷ []) ! fm (λ l. firsts (bound to-first l))
         ((budget-is, uint-makes 𝓤 H A W w32), ((w-room, refl), ((u-room, refl), tt))) (run-given w fs u st b₀ (told₀ .1) enough)
-        (and-then ! (load ! (from ! (stop !)) (look ! 1 refl)) (and-then ! (load ! (from ! (stop !)) (look ! 2 refl)) (and-then ! (load ! (from ! (stop !)) (look ! 3 refl)) (and-then ! (load ! (from ! (stop !)) (look ! 15 refl)) (and-then ! (load ! (from ! (stop !)) (look ! 17 refl)) (no-more !)))))) (λ v₁ h ws₁ told₁. sinks ! 4 $
+        (and-then ! (load ! (from ! (stop !)) (look ! 1 refl)) (and-then ! (load ! (from ! (stop !)) (look ! 2 refl)) (and-then ! (load ! (from ! (stop !)) (look ! 3 refl)) (and-then ! (load ! (from ! (stop !)) (look ! 16 refl)) (and-then ! (load ! (from ! (stop !)) (look ! 18 refl)) (no-more !)))))) (λ v₁ h ws₁ told₁. sinks ! 4 $
         land ! (from ! (stop !)) (init ! 8 refl (LL.lawful R.the-type R′.the-laws 𝓤 H A W .typed h (v₁ ∷ []) (told₁ .0 .0) .0)) $
         -- state_of(h)
         calls-lent W (to-state h v₁) S.the-row [] (λ r ws. (r ≡ h .state) ∷ []) ! fm (λ l. states (bound (to-state h v₁) l))
@@ -217,23 +222,30 @@ module _ {M : Type 1} (𝓤 : URA M) (H : Heap 𝓤) (A : Atoms 𝓤) (W : Given
         assigns ! (agg ! (and-then ! (load ! (from ! (stop !)) (look ! 19 refl)) (and-then ! (load ! (from ! (fld ! refl (stop !))) (look-in ! 4 (sub ! 1 refl (whole !)))) (no-more !)))) (from ! (stop !)) (init ! 20 refl (tt, (tt, (record { fits = w-room .0 }, tt)))) $
         assigns ! (addr ! (from ! (fld ! refl (hop ! (look-in ! 5 (sub ! 0 refl (whole !))) (stop !))))) (from ! (stop !)) (init ! 21 refl (tt, tt)) $
         assigns ! (agg ! (and-then ! (load ! (from ! (stop !)) (look ! 21 refl)) (and-then ! (load ! (from ! (fld ! refl (stop !))) (look-in ! 5 (sub ! 1 refl (whole !)))) (no-more !)))) (from ! (stop !)) (init ! 22 refl (tt, (tt, (record { fits = fs-room .0 }, tt)))) $
-        move ! (58 ∷ 54 ∷ []) $ calls-lent W (to-save s v₂ (ws₁ .1 .1 .1 .0) fs) unit (SaveGiven (ws₁ .1 .1 .1 .0) fs s ∷ []) (λ r ws. Saves (ws₁ .1 .1 .1 .0) s (ws .1 .0) ∷ (ws .1 .1 .0 ≡ clearedFrames fs) ∷ []) ! fm (λ l. saves (bound (to-save s v₂ (ws₁ .1 .1 .1 .0) fs) l))
+        move ! (64 ∷ 60 ∷ []) $ calls-lent W (to-save s v₂ (ws₁ .1 .1 .1 .0) fs) usize (SaveGiven (ws₁ .1 .1 .1 .0) fs s ∷ []) (λ r ws. Saves (ws₁ .1 .1 .1 .0) s r (ws .1 .0) ∷ []) ! fm (λ l. saves (bound (to-save s v₂ (ws₁ .1 .1 .1 .0) fs) l))
         ((told₂ .0 .0, LL.makes S.the-type S′.the-plain 𝓤 H A), ((w-room, told₁ .0 .1 .0), ((fs-room, refl), tt))) (halting-save-given w fs u st b₀ (told₀ .1) enough t j b (ws₁ .1 .1 .1 .0) h (ws₁ .1 .1 .1 .1 .0) (told₁ .1) s (told₂ .1))
-        (and-then ! (load ! (from ! (stop !)) (look ! 9 refl)) (and-then ! (load ! (from ! (stop !)) (look ! 20 refl)) (and-then ! (load ! (from ! (stop !)) (look ! 22 refl)) (no-more !)))) (λ v₃ r₃ ws₃ told₃. sinks ! 2 $
-        land ! (from ! (stop !)) (init ! 18 refl (nothing-lawful 𝓤 H A W .typed r₃ (v₃ ∷ []) (told₃ .0 .0) .0)) $
-        -- finish(h, work, state)
-        assigns ! (addr ! (from ! (fld ! refl (hop ! (look-in ! 4 (sub ! 0 refl (whole !))) (stop !))))) (from ! (stop !)) (init ! 23 refl (tt, tt)) $
-        assigns ! (agg ! (and-then ! (load ! (from ! (stop !)) (look ! 23 refl)) (and-then ! (load ! (from ! (fld ! refl (stop !))) (look-in ! 4 (sub ! 1 refl (whole !)))) (no-more !)))) (from ! (stop !)) (init ! 24 refl (tt, (tt, (record { fits = w-room .0 }, tt)))) $
-        assigns ! (addr ! (from ! (fld ! refl (hop ! (look-in ! 7 (sub ! 0 refl (whole !))) (stop !))))) (from ! (stop !)) (init ! 25 refl (tt, tt)) $
-        assigns ! (agg ! (and-then ! (load ! (from ! (stop !)) (look ! 25 refl)) (and-then ! (load ! (from ! (fld ! refl (stop !))) (look-in ! 7 (sub ! 1 refl (whole !)))) (no-more !)))) (from ! (stop !)) (init ! 26 refl (tt, (tt, (record { fits = st-room .0 }, tt)))) $
-        move ! (58 ∷ 54 ∷ []) $ calls-lent W (to-finish h v₁ (ws₃ .1 .0)) N.the-row (((haltingWork ≤ length (ws₃ .1 .0)) × (savedSize ≤ length st)) ∷ []) (λ r ws. (r ≡ h .answer) ∷ (ws .1 .0 ≡ replicate (length (ws₃ .1 .0)) 0) ∷ (ws .1 .1 .0 ≡ handed (h .state) (ws₃ .1 .0) st) ∷ []) ! fm (λ l. finishes (bound (to-finish h v₁ (ws₃ .1 .0)) l))
-        ((told₁ .0 .0, LL.makes R.the-type R′.the-plain 𝓤 H A), ((w-room, told₃ .0 .1 .0), ((st-room, refl), tt))) (halting-finish-given w fs u st b₀ (told₀ .1) enough t j b (ws₁ .1 .1 .1 .0) h (ws₁ .1 .1 .1 .1 .0) (told₁ .1) s (told₂ .1) (ws₃ .1 .0) (told₃ .1 .0))
-        (and-then ! (load ! (from ! (stop !)) (look ! 8 refl)) (and-then ! (load ! (from ! (stop !)) (look ! 24 refl)) (and-then ! (load ! (from ! (stop !)) (look ! 26 refl)) (no-more !)))) (λ v₄ r₄ ws₄ told₄. sinks ! 2 $
-        land ! (from ! (stop !)) (init ! 0 refl (LL.lawful N.the-type N′.the-laws 𝓤 H A W .typed r₄ (v₄ ∷ []) (told₄ .0 .0) .0)) $
-        returns ! (look ! 0 refl) $ forget ! 0 refl $ forget ! 1 refl $ forget ! 2 refl $ forget ! 3 refl $ forget ! 4 refl $ forget ! 5 refl $ forget ! 6 refl $ forget ! 7 refl $ forget ! 8 refl $ forget ! 9 refl $ forget ! 10 refl $ forget ! 11 refl $ forget ! 12 refl $ forget ! 13 refl $ forget ! 14 refl $ forget ! 15 refl $ forget ! 16 refl $ forget ! 17 refl $ forget ! 18 refl $ forget ! 19 refl $ forget ! 20 refl $ forget ! 21 refl $ forget ! 22 refl $ forget ! 23 refl $ forget ! 24 refl $ forget ! 25 refl $ forget ! 26 refl $ free-all ! $
+        (and-then ! (load ! (from ! (stop !)) (look ! 9 refl)) (and-then ! (load ! (from ! (stop !)) (look ! 20 refl)) (and-then ! (load ! (from ! (stop !)) (look ! 22 refl)) (no-more !)))) (λ v₃ end ws₃ told₃. sinks ! 2 $
+        land ! (from ! (stop !)) (init ! 10 refl (uint-lawful 𝓤 H A W w64 .typed end (v₃ ∷ []) (told₃ .0 .0) .0)) $
+        -- clear_frames(frames)
+        assigns ! (addr ! (from ! (fld ! refl (hop ! (look-in ! 5 (sub ! 0 refl (whole !))) (stop !))))) (from ! (stop !)) (init ! 24 refl (tt, tt)) $
+        assigns ! (agg ! (and-then ! (load ! (from ! (stop !)) (look ! 24 refl)) (and-then ! (load ! (from ! (fld ! refl (stop !))) (look-in ! 5 (sub ! 1 refl (whole !)))) (no-more !)))) (from ! (stop !)) (init ! 25 refl (tt, (tt, (record { fits = fs-room .0 }, tt)))) $
+        move ! (65 ∷ []) $ calls-lent W (to-clear (ws₃ .1 .1 .0)) unit [] (λ r ws. (ws .0 ≡ clearedFrames (ws₃ .1 .1 .0)) ∷ []) ! fm (λ l. clears (bound (to-clear (ws₃ .1 .1 .0)) l))
+        ((fs-room, told₃ .0 .1 .1 .0), tt) tt
+        (and-then ! (load ! (from ! (stop !)) (look ! 25 refl)) (no-more !)) (λ v₄ r₄ ws₄ told₄. sinks ! 1 $
+        land ! (from ! (stop !)) (init ! 23 refl (nothing-lawful 𝓤 H A W .typed r₄ (v₄ ∷ []) (told₄ .0 .0) .0)) $
+        -- finish(h, end, work, state)
+        assigns ! (addr ! (from ! (fld ! refl (hop ! (look-in ! 4 (sub ! 0 refl (whole !))) (stop !))))) (from ! (stop !)) (init ! 26 refl (tt, tt)) $
+        assigns ! (agg ! (and-then ! (load ! (from ! (stop !)) (look ! 26 refl)) (and-then ! (load ! (from ! (fld ! refl (stop !))) (look-in ! 4 (sub ! 1 refl (whole !)))) (no-more !)))) (from ! (stop !)) (init ! 27 refl (tt, (tt, (record { fits = w-room .0 }, tt)))) $
+        assigns ! (addr ! (from ! (fld ! refl (hop ! (look-in ! 7 (sub ! 0 refl (whole !))) (stop !))))) (from ! (stop !)) (init ! 28 refl (tt, tt)) $
+        assigns ! (agg ! (and-then ! (load ! (from ! (stop !)) (look ! 28 refl)) (and-then ! (load ! (from ! (fld ! refl (stop !))) (look-in ! 7 (sub ! 1 refl (whole !)))) (no-more !)))) (from ! (stop !)) (init ! 29 refl (tt, (tt, (record { fits = st-room .0 }, tt)))) $
+        move ! (64 ∷ 60 ∷ []) $ calls-lent W (to-finish h v₁ end v₃ (ws₃ .1 .0)) N.the-row (HandGiven (h .state) end (ws₃ .1 .0) st ∷ []) (λ r ws. (r ≡ h .answer) ∷ (ws .1 .1 .0 ≡ replicate (length (ws₃ .1 .0)) 0) ∷ (ws .1 .1 .1 .0 ≡ handed (h .state) end (ws₃ .1 .0) st) ∷ []) ! fm (λ l. finishes (bound (to-finish h v₁ end v₃ (ws₃ .1 .0)) l))
+        ((told₁ .0 .0, LL.makes R.the-type R′.the-plain 𝓤 H A), ((told₃ .0 .0, uint-makes 𝓤 H A W w64), ((w-room, told₃ .0 .1 .0), ((st-room, refl), tt)))) (halting-finish-given w fs u st b₀ (told₀ .1) enough t j b (ws₁ .1 .1 .1 .0) h (ws₁ .1 .1 .1 .1 .0) (told₁ .1) s (told₂ .1) end (ws₃ .1 .0) (told₃ .1))
+        (and-then ! (load ! (from ! (stop !)) (look ! 8 refl)) (and-then ! (load ! (from ! (stop !)) (look ! 10 refl)) (and-then ! (load ! (from ! (stop !)) (look ! 27 refl)) (and-then ! (load ! (from ! (stop !)) (look ! 29 refl)) (no-more !))))) (λ v₅ r₅ ws₅ told₅. sinks ! 2 $
+        land ! (from ! (stop !)) (init ! 0 refl (LL.lawful N.the-type N′.the-laws 𝓤 H A W .typed r₅ (v₅ ∷ []) (told₅ .0 .0) .0)) $
+        returns ! (look ! 0 refl) $ forget ! 0 refl $ forget ! 1 refl $ forget ! 2 refl $ forget ! 3 refl $ forget ! 4 refl $ forget ! 5 refl $ forget ! 6 refl $ forget ! 7 refl $ forget ! 8 refl $ forget ! 9 refl $ forget ! 10 refl $ forget ! 11 refl $ forget ! 12 refl $ forget ! 13 refl $ forget ! 14 refl $ forget ! 15 refl $ forget ! 16 refl $ forget ! 17 refl $ forget ! 18 refl $ forget ! 19 refl $ forget ! 20 refl $ forget ! 21 refl $ forget ! 22 refl $ forget ! 23 refl $ forget ! 24 refl $ forget ! 25 refl $ forget ! 26 refl $ forget ! 27 refl $ forget ! 28 refl $ forget ! 29 refl $ free-all ! $
         move ! (0 ∷ 1 ∷ 4 ∷ 3 ∷ 2 ∷ 5 ∷ []) $
-        by ! (exits r₄ v₄ (ws₄ .1 .0) (ws₃ .1 .1 .0) (ws₁ .1 .1 .1 .1 .0) (ws₄ .1 .1 .0) (told₄ .0 .0) (told₄ .0 .1 .0) (told₃ .0 .1 .1 .0) (told₁ .0 .1 .1 .0) (told₄ .0 .1 .1 .0)
-        (halting-end w fs u st b₀ (told₀ .1) enough t j b (ws₁ .1 .1 .1 .0) h (ws₁ .1 .1 .1 .1 .0) (told₁ .1) s (told₂ .1) (ws₃ .1 .0) (told₃ .1 .0) (ws₃ .1 .1 .0) (told₃ .1 .1) r₄ (ws₄ .1 .0) (ws₄ .1 .1 .0) (told₄ .1 .0) (told₄ .1 .1 .0) (told₄ .1 .1 .1)))))))))))
+        by ! (exits r₅ v₅ (ws₅ .1 .1 .0) (ws₄ .0) (ws₁ .1 .1 .1 .1 .0) (ws₅ .1 .1 .1 .0) (told₅ .0 .0) (told₅ .0 .1 .0) (told₄ .0 .1 .0) (told₁ .0 .1 .1 .0) (told₅ .0 .1 .1 .0)
+        (halting-end w fs u st b₀ (told₀ .1) enough t j b (ws₁ .1 .1 .1 .0) h (ws₁ .1 .1 .1 .1 .0) (told₁ .1) s (told₂ .1) end (ws₃ .1 .0) (told₃ .1) (ws₃ .1 .1 .0) (ws₄ .0) (told₃ .0 .1 .1 .0) (told₄ .1) r₅ (ws₅ .1 .1 .0) (ws₅ .1 .1 .1 .0) (told₅ .1 .0) (told₅ .1 .1 .0) (told₅ .1 .1 .1))))))))))))
 
 module _ {M : Type 1} (𝓤 : URA M) (H : Heap 𝓤) (A : Atoms 𝓤) (W : Given 𝓤 H A) (mem : Memory → SProp 𝓤) (run : Routine → Fun 𝓤) (𝓣 : Tables 𝓤 H)
     (shorts : Triple 𝓤 (𝓣 .C #too-short) (TooShort 𝓤 H A mem run))
@@ -241,12 +253,13 @@ module _ {M : Type 1} (𝓤 : URA M) (H : Heap 𝓤) (A : Atoms 𝓤) (W : Given
     (firsts : Triple 𝓤 (𝓣 .C #first-run) (FirstRun 𝓤 H A mem run))
     (states : Triple 𝓤 (𝓣 .C #state-of) (StateOf 𝓤 H A mem run))
     (saves : Triple 𝓤 (𝓣 .C #save) (Save 𝓤 H A mem run))
+    (clears : Triple 𝓤 (𝓣 .C #clear-frames) (ClearFrames 𝓤 H A mem run))
     (finishes : Triple 𝓤 (𝓣 .C #finish) (Finish 𝓤 H A mem run)) where
   run-halting-walks : Walks 𝓤 H A run-halting.ended stayed (WpFn 𝓤 H (𝓣 .C) (𝓣 .Λ) code.function) (run-halting.clauses 𝓤 H A mem run)
   run-halting-walks = walked 𝓤 H A run-halting.ended stayed (run-halting.clauses 𝓤 H A mem run) (WpFn 𝓤 H (𝓣 .C) (𝓣 .Λ) code.function)
       (λ κs. (slice-vals, (slice-vals, (uint-vals w32, (slice-vals, (slice-vals, (slice-vals, (slice-vals, tt))))))))
       (λ κs. (shr-slice-tells (named 0) (κs .0) u8, (shr-slice-tells (named 1) (κs .1 .0) u8, (uint-tells w32, (mut-slice-tells (named 2) (κs .1 .1 .0) u8, (mut-slice-tells (named 3) (κs .1 .1 .1 .0) T.the-row, (mut-slice-tells (named 4) (κs .1 .1 .1 .1 .0) u8, (mut-slice-tells (named 5) (κs .1 .1 .1 .1 .1 .0) u8, tt))))))))
-      (λ κs qs bounds a g are. via 𝓤 _ (fst∗ 𝓤 _ (emp 𝓤)) (walk 𝓤 H A W mem run κs qs a (𝓣 .C) (𝓣 .Λ) (fmOf 𝓤 H (W .laws) 𝓣) shorts refuses firsts states saves finishes
+      (λ κs qs bounds a g are. via 𝓤 _ (fst∗ 𝓤 _ (emp 𝓤)) (walk 𝓤 H A W mem run κs qs a (𝓣 .C) (𝓣 .Λ) (fmOf 𝓤 H (W .laws) 𝓣) shorts refuses firsts states saves clears finishes
       (are .0 .0 .1) (are .1 .0 .0 .1) (are .1 .1 .1 .0 .0 .1) (are .1 .1 .1 .1 .0 .0 .1) (are .1 .1 .1 .1 .1 .0 .0 .1) (are .1 .1 .1 .1 .1 .1 .0 .0 .1) (are .1 .1 .0 .1)))
 
   run-halting-meets : Meets 𝓤 H A run-halting.signature (WpFn 𝓤 H (𝓣 .C) (𝓣 .Λ) code.function) (run-halting.spec 𝓤 H A mem run)
@@ -266,4 +279,5 @@ run-halting-spec 𝓤 H 𝓜 𝓖 𝓡 =
     (cited 𝓤 H (FirstRun 𝓤 H (𝓖 .A) (𝓜 .mem) (𝓡 .run)) 𝓜 𝓡 code.env #first-run first-run-def.routine code.calls-halting·first·first-run (first-run-thm.met 𝓤 H 𝓜 𝓖 𝓡))
     (cited 𝓤 H (StateOf 𝓤 H (𝓖 .A) (𝓜 .mem) (𝓡 .run)) 𝓜 𝓡 code.env #state-of state-of-def.routine code.calls-halting·halted·state-of (state-of-thm.met 𝓤 H 𝓜 𝓖 𝓡))
     (cited 𝓤 H (Save 𝓤 H (𝓖 .A) (𝓜 .mem) (𝓡 .run)) 𝓜 𝓡 code.env #save save-def.routine code.calls-saver·save·save (save-thm.met 𝓤 H 𝓜 𝓖 𝓡))
+    (cited 𝓤 H (ClearFrames 𝓤 H (𝓖 .A) (𝓜 .mem) (𝓡 .run)) 𝓜 𝓡 code.env #clear-frames clear-frames-def.routine code.calls-lent-frames·clear-frames (clear-frames-thm.met 𝓤 H 𝓜 𝓖 𝓡))
     (cited 𝓤 H (Finish 𝓤 H (𝓖 .A) (𝓜 .mem) (𝓡 .run)) 𝓜 𝓡 code.env #finish finish-def.routine code.calls-halting·finish·finish (finish-thm.met 𝓤 H 𝓜 𝓖 𝓡)))
