@@ -6,8 +6,8 @@ use mathlib.Core.List.{List}
 use mathlib.Core.Logic.{inl}
 use native.Mathlib.Nat.{div-add-mod'}
 use native.Mathlib.Omega.{arith}
-use lib.ListN.{length, getD, set}
-use lib.Seq.{getD-set-same}
+use lib.ListN.{length, getD, set, length-set}
+use lib.Seq.{getD-set-same, getD-set-other}
 use Rattle.words.specs.Word.{word, putWord}
 use Rattle.words.proofs.WordLaws.{length-putWord, word-same, word-other}
 use Rattle.format.specs.Standing.{Head}
@@ -61,17 +61,37 @@ pub header-head : (w : List ℕ) (at tag len : ℕ) → at + 3 + len ≤ length 
 header-head w at tag len h =
     record { tag-is = header-tag w at tag len (omega arith); length-is = header-length w at tag len (omega arith); inside = omega (arith, only-header w at tag len .same-length) }
 
--- a value of 24 bits is stored as a header is, its high byte in the place of the tag
 pub same-triple : (w v : List ℕ) (x y at : ℕ) → Same x y w v → x ≤ at → at + 2 < y → triple v at ≡ triple w at
 unfolding triple
-same-triple w v x y at h l r = ap₂ (λ (a b : ℕ). a * 65536 + b) (h at l (omega arith)) (same-word w v x y (at + 1) h (omega arith) (omega arith))
+same-triple w v x y at h l r =
+    ap₂ (λ (a b : ℕ). a + b * 65536)
+    (ap₂ (λ (a b : ℕ). a + b * 256) (h at l (omega arith)) (h (at + 1) (omega arith) (omega arith)))
+    (h (at + 2) (omega arith) r)
 
-pub only-triple : (w : List ℕ) (at v : ℕ) → Only at (at + 3) w (putTriple w at v)
-unfolding putTriple putHeader
-only-triple w at v = only-header w at (v / 65536) (v % 65536)
+module _ (w : List ℕ) (at v : ℕ) where
+  abbrev low : List ℕ
+  low = set w at (v % 256)
 
-pub triple-same : (w : List ℕ) (at v : ℕ) → at + 2 < length w → triple (putTriple w at v) at ≡ v
-unfolding triple putTriple putHeader
-triple-same w at v h =
-    ap₂ (λ (a b : ℕ). a * 65536 + b) (header-tag w at (v / 65536) (v % 65536) (omega arith)) (header-length w at (v / 65536) (v % 65536) h)
-    ∙ div-add-mod' v 65536
+  abbrev both : List ℕ
+  both = set low (at + 1) (v / 256 % 256)
+
+  pub only-triple : Only at (at + 3) w (putTriple w at v)
+  unfolding putTriple
+  only-triple =
+      only-then at (at + 3) w low _ (only-wider at (at + 1) at (at + 3) w low (only-set w at (v % 256)) (omega arith) (omega arith))
+      (only-then at (at + 3) low both _
+      (only-wider (at + 1) (at + 1 + 1) at (at + 3) low both (only-set low (at + 1) (v / 256 % 256)) (omega arith) (omega arith))
+      (only-wider (at + 2) (at + 2 + 1) at (at + 3) both _ (only-set both (at + 2) (v / 256 / 256)) (omega arith) (omega arith)))
+
+  pub triple-same : at + 2 < length w → triple (putTriple w at v) at ≡ v
+  unfolding triple putTriple
+  triple-same h =
+      let n₁ : length low ≡ length w = length-set w at (v % 256) in
+      let n₂ : length both ≡ length low = length-set low (at + 1) (v / 256 % 256) in
+      let last = set both (at + 2) (v / 256 / 256) in
+      let e₁ : getD last at 0 ≡ v % 256 =
+      getD-set-other both (at + 2) at (v / 256 / 256) 0 (omega arith) ∙ getD-set-other low (at + 1) at (v / 256 % 256) 0 (omega arith) ∙ getD-set-same w at (v % 256) 0 (omega arith) in
+      let e₂ : getD last (at + 1) 0 ≡ v / 256 % 256 =
+      getD-set-other both (at + 2) (at + 1) (v / 256 / 256) 0 (omega arith) ∙ getD-set-same low (at + 1) (v / 256 % 256) 0 (omega (arith, n₁)) in
+      let e₃ : getD last (at + 2) 0 ≡ v / 256 / 256 = getD-set-same both (at + 2) (v / 256 / 256) 0 (omega (arith, n₁, n₂)) in
+      omega (arith, e₁, e₂, e₃, div-add-mod' v 256, div-add-mod' (v / 256) 256)

@@ -6,12 +6,19 @@ ghost use Rattle.tactics.specs.Numbers.{triple, putTriple, long, putLong
 use words::load16;
 use words::store16;
 
-// A value of 24 bits, high byte first.
+// A byte as a number.
+fn wide(b: u8) -> usize
+    ensures { λ r. ⌜ (r ≡ b) × (r < 256) ⌝ }
+{
+    b as usize
+}
+
+// A value of 24 bits, low byte first: the two lower bytes are stored at once, without a turn.
 pub fn load24(s: &[u8], at: usize) -> usize
     requires { ⌜ at + 2 < length (now s) ⌝ }
     ensures { λ r. ⌜ r ≡ triple (now (s .entry)) at ⌝ }
 {
-    (s[at] as usize) * 65536 + (load16(s, at + 1) as usize)
+    wide(s[at]) + wide(s[at + 1]) * 256 + wide(s[at + 2]) * 65536
 }
 
 // The same stored.
@@ -19,8 +26,9 @@ pub fn store24(s: &mut [u8], at: usize, v: usize)
     requires { ⌜ (at + 2 < length (now s)) × (v < 16777216) ⌝ }
     ensures { λ _. ⌜ now (s .exit) ≡ putTriple (now (s .entry)) at v ⌝ }
 {
-    store16(s, at + 1, (v % 65536) as u16);
-    s[at] = (v / 65536) as u8;
+    s[at] = (v % 256) as u8;
+    s[at + 1] = (v / 256 % 256) as u8;
+    s[at + 2] = (v / 256 / 256) as u8;
 }
 
 // A value of 32 bits, high byte first.

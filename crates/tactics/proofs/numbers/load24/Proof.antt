@@ -1,34 +1,48 @@
--- `numbers::load24` meets its contract: a byte and a value of 16 bits are one of 24.
+-- `numbers::load24` meets its contract: the three bytes read are the value.
 -- Assumes nothing.
 use Rattle.tactics.specs.Numbers.{triple}
-use native.Mathlib.Omega.{arith}
 use borrow.Author.Needs.{needs}
 use Rattle.tactics.proofs.numbers.load24.Statement.{statement}
 use Rattle.tactics.proofs.numbers.load24.Tie as tie
 use Rattle.tactics.proofs.numbers.load24.Reads as reads
 use Rattle.tactics.proofs.numbers.load24.Lts as lts
-use Rattle.words.proofs.load16.Reads as load16-reads
+use Rattle.tactics.proofs.numbers.wide.Reads as wide-reads
 
-shared-slice-read-result : tie.Need-shared-slice-read-result
-shared-slice-read-result c = search needs
+shared-slice-read-wide : tie.Need-shared-slice-read-wide
+shared-slice-read-wide c = search needs
 
-cast-result : tie.Need-cast-result
-cast-result c = omega (arith, c .shared-slice-known2 .given (c .before .before .args .at))
+wide-requires : tie.Need-wide-requires
+wide-requires c κs = search needs
+
+add-wide : tie.Need-add-wide
+add-wide c = search needs
+
+shared-slice-read-wide-2 : tie.Need-shared-slice-read-wide-2
+shared-slice-read-wide-2 c = search needs
+
+wide-requires-2 : tie.Need-wide-requires-2
+wide-requires-2 c κs = search needs
 
 mul-result : tie.Need-mul-result
-mul-result c = omega (arith, c .shared-slice-known2 .given (c .before .before .args .at))
-
-add-load16 : tie.Need-add-load16
-add-load16 c = search needs
-
-load16-requires : tie.Need-load16-requires
-load16-requires c κs = search needs
-
-cast-result-2 : tie.Need-cast-result-2
-cast-result-2 c = search needs
+mul-result c = search needs
 
 add-result : tie.Need-add-result
-add-result c = omega (arith, c .before .shared-slice-known2 .given (c .before .before .before .args .at))
+add-result c = search needs
+
+add-wide-2 : tie.Need-add-wide-2
+add-wide-2 c = search needs
+
+shared-slice-read-wide-3 : tie.Need-shared-slice-read-wide-3
+shared-slice-read-wide-3 c = search needs
+
+wide-requires-3 : tie.Need-wide-requires-3
+wide-requires-3 c κs = search needs
+
+mul-result-2 : tie.Need-mul-result-2
+mul-result-2 c = search needs
+
+add-result-2 : tie.Need-add-result-2
+add-result-2 c = search needs
 
 returns : tie.Need-returns
 unfolding triple
@@ -38,11 +52,16 @@ pub load24-spec : {M : Type 1} → statement M
 load24-spec =
     tie.close
     (tie.spec
-    shared-slice-read-result
-    cast-result
+    shared-slice-read-wide
+    wide-requires
+    add-wide
+    shared-slice-read-wide-2
+    wide-requires-2
     mul-result
-    add-load16
-    load16-requires
-    cast-result-2
     add-result
+    add-wide-2
+    shared-slice-read-wide-3
+    wide-requires-3
+    mul-result-2
+    add-result-2
     returns)
