@@ -1,7 +1,7 @@
 -- The second space after a call: at a halt the copy of the contents of the saved state and zeros, else as it was.
 -- Assumes nothing.
 use Prim.Native.Nat.{ℕ, _+_, _-_, _≤_}
-use mathlib.Core.Path.{_≡_, refl, sym, ap, ap₂, _∙_}
+use mathlib.Core.Path.{_≡_, sym, ap, ap₂, _∙_}
 use mathlib.Core.List.{List, _++_, append-assoc}
 use native.Mathlib.Nat.{zero-add}
 use native.Mathlib.Omega.{arith}
@@ -10,10 +10,8 @@ use lib.Seq.{paste, length-take-le, drop-drop, take-at, drop-at}
 use borrow.Rule.Slice.PartMut.{midOf, putMid}
 use borrow.Author.Tests.{eq-eqb, ne-eqb}
 use Rattle.entries.specs.SavedState.{savedSize}
-use Rattle.entries.specs.Halting.{haltingWork}
 use Rattle.arities.specs.Layout.{spaceEnd}
 use Rattle.machine.specs.declared.state.State.{State}
-use Rattle.halting.specs.SavedBytes.{EndsAt}
 use Rattle.halting.specs.Finish.{HandGiven, handed}
 
 copied : (d s : List ℕ) (n : ℕ) → paste d 0 s n ≡ take n s ++ drop n d

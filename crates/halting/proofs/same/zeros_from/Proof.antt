@@ -1,6 +1,6 @@
 -- `same::zeros_from` meets its contract: as long as every block was zero the bytes that are left come to the same, and every turn passes one block.
 -- Assumes nothing.
-use Prim.Native.Nat.{_-_, _≤_}
+use Prim.Native.Nat.{_-_}
 use mathlib.Core.Path.{refl}
 use native.Mathlib.Omega.{arith}
 use lib.ListN.{length}
