@@ -7,9 +7,7 @@ use native.Mathlib.Omega.{arith}
 use lib.ListN.{length, getD, set, take, drop, length-set, take-append-drop}
 use lib.Seq.{take-suc-set, drop-set-lt}
 use borrow.Author.Tests.{eq-eqb, ne-eqb}
-use Rattle.words.specs.Word.{word}
 use Rattle.format.specs.Encoding.{Bytes}
-use Rattle.format.proofs.GoalBytes.{word-value}
 use Rattle.lent_frames.specs.declared.LentFrame.{LentFrame}
 use Rattle.arities.specs.Layout.{framesEnd}
 use Rattle.tactics.specs.Numbers.{triple}
@@ -75,7 +73,9 @@ module _ (f g : Frame) (x : ℕ) (e : f ≡ g) where
 -- where its goals begin is a number of three bytes
 pub start-small : (w : List ℕ) → Bytes w → (at : ℕ) (f : Frame) → f ≡ frameAt w at → f .start < 4294967296
 unfolding frameAt triple
-start-small w bytes at f e = let z : f .start ≡ getD w (at + 8) 0 * 65536 + word w (at + 8 + 1) = ap (λ (x : Frame). x .start) e in omega (arith, z, bytes (at + 8), word-value w bytes (at + 8 + 1))
+start-small w bytes at f e =
+    let z : f .start ≡ getD w (at + 8) 0 + getD w (at + 8 + 1) 0 * 256 + getD w (at + 8 + 2) 0 * 65536 = ap (λ (x : Frame). x .start) e in
+    omega (arith, z, bytes (at + 8), bytes (at + 8 + 1), bytes (at + 8 + 2))
 
 -- what holds at every turn: the frames gathered so far, with those still to come, are all of them
 pub record GatherTurn (w : List ℕ) (fs₀ : List LentFrame) (top inside : ℕ) (fs : List LentFrame) (n at x : ℕ) : Type 0 where
