@@ -13,7 +13,7 @@ fn wide(b: u8) -> usize
     b as usize
 }
 
-// A value of 24 bits, low byte first: the two lower bytes are stored at once, without a turn.
+// A value of 24 bits, low byte first.
 pub fn load24(s: &[u8], at: usize) -> usize
     requires { ⌜ at + 2 < length (now s) ⌝ }
     ensures { λ r. ⌜ r ≡ triple (now (s .entry)) at ⌝ }
