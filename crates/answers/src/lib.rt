@@ -1,5 +1,7 @@
 // The one answer of every entry.
 // Document 01, "What the bytes bring about" and "What the state brings about": number, file, place and steps. Document 02, P6: the different rules used.
+#![tactic(auto)]
+
 ghost use Rattle.std.specs.Prelude.{◌≡◌, true, ◌≤◌};
 ghost use Rattle.answers.specs.Answers as said;
 ghost use Rattle.answers.specs.SameRest.{SameRest};

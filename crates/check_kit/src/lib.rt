@@ -1,5 +1,7 @@
 // The check program: reads table.kit and proof.hip from the current directory, checks the proof and prints one line.
 // Document 01, "A table and its edges": the check program; document 02, P7: a proof.hip that cannot be opened.
+#![tactic(auto)]
+
 ghost use Rattle.std.specs.Prelude.{◌≡◌};
 ghost use Rattle.io.specs.Counts.{IsPrefixLen};
 ghost use Rattle.entries.specs.CheckProgram.{check_program};

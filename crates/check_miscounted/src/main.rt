@@ -1,4 +1,6 @@
 // The check program on goal 10 with term id * id: refused 34 at place 11.
+#![tactic(auto)]
+
 fn main() {
     check_kit::run();
 }

@@ -1,5 +1,7 @@
 // The count of term fields as a C function, so that bench can measure it by itself: in the library it is a part of hitac_check and has no name of its own. The library does not have this function.
 // Its contract is for terms of every kind; check, whose terms are hiproofs, could be proved with a count for these alone.
+#![tactic(auto)]
+
 ghost use Rattle.std.specs.Prelude.{◌≡◌, ◌+◌};
 ghost use Rattle.format.specs.Terms.{Term, size, fields};
 ghost use Rattle.format.specs.Standing.{Stands};

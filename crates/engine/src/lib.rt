@@ -1,4 +1,6 @@
 // The entries as C functions: nothing but calls; and the version. include/hitac.h declares them for C.
+#![tactic(auto)]
+
 ghost use Rattle.std.specs.Prelude.{◌≡◌, ◌+◌, ◌*◌};
 ghost use Rattle.entries.specs.Check as entry;
 ghost use Rattle.entries.specs.CheckFlat.{check_flat, write_proof};

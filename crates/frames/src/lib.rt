@@ -1,5 +1,7 @@
 // The terms that wait, as frames of 19 bytes in work space.
 // Document 01, "Running a tactic": what waits while a term is run.
+#![tactic(auto)]
+
 ghost use Rattle.std.specs.Prelude.{◌≡◌, ◌+◌, ◌<◌, length};
 ghost use Rattle.frames.specs.Frames.{frame_at, put_frame};
 

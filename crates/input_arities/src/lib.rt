@@ -1,4 +1,6 @@
 // The arities of the left terms of tensors, without recursion and without a stack: the fields are linked backwards in two bytes of the work space for each, then each gets its own arity from the last to the first, then those of the tensors' left terms are listed in order. The two bytes lie where the stacks will be.
+#![tactic(auto)]
+
 pub mod layout;
 
 ghost use Rattle.std.specs.Prelude.{◌≡◌, List, ℕ, ◌+◌, ◌≤◌, ◌<◌, length};

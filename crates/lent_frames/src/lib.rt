@@ -1,5 +1,7 @@
 // The frames that a maker lends to the entries that may halt.
 // Document 01, "Places and their forms": "a lent slice of frames (term offset, goals start, count, stage), pushed and popped by few functions".
+#![tactic(auto)]
+
 ghost use Rattle.std.specs.Prelude.{◌≡◌, ◌+◌, ◌<◌, length, set, get_or, replicate};
 ghost use Rattle.lent_frames.specs.Frames.{no_frame};
 

@@ -1,5 +1,7 @@
 // The parts of the five files: the fields that stand in no term, which are goal lists, rules, definitions and entries; and what comes behind each, and behind a term.
 // Document 01, "Fields", and of "What the bytes bring about" 1, the limits of 5, and 4 for bytes behind the last field.
+#![tactic(auto)]
+
 pub mod state;
 
 ghost use Rattle.std.specs.Prelude.{◌≡◌, ◌+◌, ◌≤◌, ◌<◌, length};

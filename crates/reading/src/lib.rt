@@ -1,5 +1,7 @@
 // Reading a file: one reader moves through it, from each field to the next; the fields around an inner term wait in lent bytes.
 // Document 01, "The reader moves over the file one field at a time", and of "What the bytes bring about" what a file can be refused for: 1 to 5.
+#![tactic(auto)]
+
 pub mod reader;
 pub mod waiting;
 

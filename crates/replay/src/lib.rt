@@ -1,4 +1,6 @@
 // Replays vector files against the engine, and prints what was compared.
+#![tactic(auto)]
+
 ghost use Rattle.std.specs.Prelude.{◌≤◌};
 ghost use Rattle.io.specs.Counts.{IsPrefixLen};
 

@@ -1,5 +1,7 @@
 // The set of the rule numbers met so far, in a part of the lent work space: one bit for each rule that document 01 lets in, and behind them the count of the bits set. The count is kept as bits are set, so that to ask for it costs one read.
 // Document 02, P6: "the count of different rules used".
+#![tactic(auto)]
+
 pub mod layout;
 
 ghost use Rattle.std.specs.Prelude.{◌≡◌, List, [], ◌∷◌, ℕ, ◌+◌, ◌≤◌, ◌<◌, length};

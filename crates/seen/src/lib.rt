@@ -1,4 +1,6 @@
 // The searches for 7 and 9 by a table of what was seen: four bits for each value of two bytes, the name of a rule or a label. They are 0 where no field of that value was seen, else the mark of the first. No clash was met before, so every field seen of that value has that mark.
+#![tactic(auto)]
+
 pub mod layout;
 pub mod ready;
 

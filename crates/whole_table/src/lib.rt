@@ -1,4 +1,6 @@
 // Reading a table file with an index over its rules, and one over its definitions.
+#![tactic(auto)]
+
 pub mod layout;
 
 ghost use Rattle.std.specs.Prelude.{◌+◌, ◌≤◌, length};
