@@ -9,7 +9,7 @@ ghost use Rattle.answers.specs.SameRest.{SameRest};
 // Number (0 for success), file (1 table, 2 the other, 0 neither), place (a byte offset in that file) and steps (terms begun); then, of a success, the bytes written, the term fields, the uses, the remaining goals and the different rules used.
 // The last three are for calls to come (goals taken, the longest list, a tactic's number). They stand here already, so that the struct keeps its form. What does not apply is 0.
 #[repr(C)]
-#[derive(Drop)]
+#[derive(Clone, Copy)]
 pub struct Answer {
     pub number: u32,
     pub file: u32,

@@ -20,7 +20,7 @@ pub const BODY: u8 = 5;
 pub const ROOT: u8 = 6;
 
 // Where the walk stands: the term at a place is asked for its arity; or the last one asked has told its arity, with one added, and 0 for none. The stack ends at `top`.
-#[derive(Drop)]
+#[derive(Clone, Copy)]
 pub struct Walk {
     pub asks: bool,
     pub at: usize,

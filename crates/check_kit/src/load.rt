@@ -3,7 +3,7 @@ ghost use Rattle.std.specs.Prelude.{◌≡◌, false, ◌+◌, ◌≤◌, length
 ghost use Rattle.io.specs.Counts.{IsPrefixLen};
 
 // Whether a file was opened and every read of it so far succeeded, and how many bytes came; none where not.
-#[derive(Drop)]
+#[derive(Clone, Copy)]
 pub struct Loaded {
     pub opened: bool,
     pub count: usize,

@@ -21,7 +21,7 @@ use walks::state::Next;
 use words::{copy_in, load16, store16};
 
 // What such a term comes to: the number of the refusal; or the number of goals that it gives, and that of its uses.
-#[derive(Drop)]
+#[derive(Clone, Copy)]
 pub enum Acted {
     Refused(u8),
     Gives(usize, usize),

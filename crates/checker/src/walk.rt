@@ -17,7 +17,7 @@ use walks::waiting::resume;
 use words::load16;
 
 // What a walk comes to: the refusal's number and place, or the number of goals given and the number of uses.
-#[derive(Drop)]
+#[derive(Clone, Copy)]
 pub enum Walked {
     Refused(u8, usize),
     Gives(usize, usize),

@@ -9,7 +9,7 @@ use format::values::{Goal, goal_at};
 use words::{load16, store16};
 
 // How many lists have goals left, and how many of the last roots are left.
-#[derive(Drop)]
+#[derive(Clone, Copy)]
 pub struct Pending {
     pub lists: usize,
     pub roots: usize,
@@ -26,7 +26,7 @@ pub fn some_pending(pending: Pending) -> bool
 }
 
 // What comes of taking a goal off: the first pending goal is another, or there is none; or what is left without it.
-#[derive(Drop)]
+#[derive(Clone, Copy)]
 pub enum Taken {
     Other,
     Left(Pending),

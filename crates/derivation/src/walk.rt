@@ -16,7 +16,7 @@ use tables::lookup::carries;
 use words::load16;
 
 // Where the walk stopped, and what is pending there.
-#[derive(Drop)]
+#[derive(Clone, Copy)]
 pub struct Stop {
     pub place: usize,
     pub pending: Pending,

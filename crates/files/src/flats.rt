@@ -9,7 +9,7 @@ use parts::state::{REFUSED, ROOTS, State};
 use reading::read_on;
 
 // The parts of a flat file: the number of roots, the place of the first entry, and the numbers of use and open entries.
-#[derive(Drop)]
+#[derive(Clone, Copy)]
 pub struct FlatParts {
     pub roots: usize,
     pub first: usize,
@@ -18,7 +18,7 @@ pub struct FlatParts {
 }
 
 // What reading a flat file finds: the refusal's number and place, or the parts.
-#[derive(Drop)]
+#[derive(Clone, Copy)]
 pub enum FlatRead {
     Refused(u8, usize),
     Read(FlatParts),

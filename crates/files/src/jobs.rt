@@ -10,14 +10,14 @@ use parts::state::{JOB_GOALS, REFUSED, State};
 use reading::read_on;
 
 // The parts of a job: the number of goals and the place of the term.
-#[derive(Drop)]
+#[derive(Clone, Copy)]
 pub struct JobParts {
     pub goals: usize,
     pub term: usize,
 }
 
 // What reading a job file finds: the refusal's number and place, or the parts.
-#[derive(Drop)]
+#[derive(Clone, Copy)]
 pub enum JobRead {
     Refused(u8, usize),
     Read(JobParts),

@@ -10,7 +10,7 @@ use parts::state::{PROOF_GOALS, REFUSED, State};
 use reading::read_on;
 
 // The parts of a proof: the number of goals, the place of the term, the place of the remaining list, which is the term's end, and the number of remaining goals.
-#[derive(Drop)]
+#[derive(Clone, Copy)]
 pub struct ProofParts {
     pub goals: usize,
     pub term: usize,
@@ -19,7 +19,7 @@ pub struct ProofParts {
 }
 
 // What reading a proof file finds: the refusal's number and place, or the parts. Whether the proof is right is not asked here.
-#[derive(Drop)]
+#[derive(Clone, Copy)]
 pub enum ProofRead {
     Refused(u8, usize),
     Read(ProofParts),

@@ -11,7 +11,7 @@ use parts::state::{JOB_TERM, REFUSED, State};
 use reading::read_on;
 
 // What reading a term file finds: the refusal's number and place, or a term, which stands at 0.
-#[derive(Drop)]
+#[derive(Clone, Copy)]
 pub enum TermFileRead {
     Refused(u8, usize),
     Read,

@@ -12,7 +12,7 @@ use nodes::cells::{CELLS, put_range};
 use words::{load16, store16};
 
 // The place of the next node on the stack, and that of the next entry.
-#[derive(Drop)]
+#[derive(Clone, Copy)]
 pub struct Printed {
     pub top: usize,
     pub at: usize,

@@ -9,7 +9,7 @@ use crate::tags::{inner_at, kind_at, least_at, most_at, row_of};
 use words::load16;
 
 // A field's header: the refusal's number and place, or the tag and the length of the contents.
-#[derive(Drop)]
+#[derive(Clone, Copy)]
 pub enum HeaderRead {
     Refused(u8, usize),
     Field(u8, usize),

@@ -4,16 +4,16 @@ ghost use Rattle.words.specs.Word.{word};
 
 use words::load16;
 
-#[derive(Drop)]
+#[derive(Clone, Copy)]
 pub struct RuleName(pub u16);
 
-#[derive(Drop)]
+#[derive(Clone, Copy)]
 pub struct Goal(pub u16);
 
-#[derive(Drop)]
+#[derive(Clone, Copy)]
 pub struct Label(pub u16);
 
-#[derive(Drop)]
+#[derive(Clone, Copy)]
 pub struct TacticNo(pub u16);
 
 // The rule name at a place.

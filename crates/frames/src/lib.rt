@@ -23,7 +23,7 @@ pub const ALTERNATION_LEFT: u16 = 6;
 
 // A term that waits: its kind, the file and the place of its right term, and the goals that it keeps; and from the moment at which it began, where its field
 // begins in the hiproof so far, the fields held, and the end of the goals.
-#[derive(Drop)]
+#[derive(Clone, Copy)]
 pub struct Frame {
     pub kind: u16,
     pub file: u16,

@@ -8,7 +8,7 @@ use machine::state::{FAILED, State};
 use runner::job::finish;
 
 // The answer so far, and the state in which the run stands; a term is to begin in it exactly if the run halted. Then the places of the table's first definition and of the job's term are known.
-#[derive(Drop)]
+#[derive(Clone, Copy)]
 pub struct Halted {
     pub answer: Answer,
     pub state: State,

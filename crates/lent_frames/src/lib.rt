@@ -7,7 +7,7 @@ ghost use Rattle.lent_frames.specs.Frames.{no_frame};
 
 // A waiting term: the file and the place of its last inner term as one number, where its own goals begin, how many they are, and its stage.
 #[repr(C)]
-#[derive(Drop)]
+#[derive(Clone, Copy)]
 pub struct LentFrame {
     pub term: u32,
     pub goals: u32,

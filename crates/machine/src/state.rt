@@ -20,7 +20,7 @@ pub const MOST_HELD: usize = 4096;
 // The next term to begin, by its file (0 the table, 1 the job) and place, with its goals; or how the last one ended, with the goals that it gave.
 // The frame of the innermost term that waits is at `top`; goals lie below `arena`, the hiproof so far below `out`. The fields of finished terms that are still
 // part of the run are counted (`held`), and so are the terms begun.
-#[derive(Drop)]
+#[derive(Clone, Copy)]
 pub struct State {
     pub mode: u8,
     pub file: u16,

@@ -23,7 +23,7 @@ use walks::state::Next;
 use words::{load16, store16};
 
 // What such a term comes to: the number of the refusal; or the number of nodes that it gives, that of its uses, and the first node that is free behind it.
-#[derive(Drop)]
+#[derive(Clone, Copy)]
 pub enum Taken {
     Refused(u8),
     Gives(usize, usize, usize),

@@ -14,14 +14,14 @@ use walks::state::{Next, Turn};
 use walks::waiting::resume;
 
 // A step's turn, and the first node that is free behind it.
-#[derive(Drop)]
+#[derive(Clone, Copy)]
 pub struct Stepped {
     pub turn: Turn,
     pub next: usize,
 }
 
 // What the walk comes to: the refusal's number and place; or the number of nodes given, of uses and of all nodes.
-#[derive(Drop)]
+#[derive(Clone, Copy)]
 pub enum Walked {
     Refused(u8, usize),
     Gives(usize, usize, usize),

@@ -8,7 +8,7 @@ use tactics::numbers::put_header;
 use words::{load16, store16};
 
 // The terms that are written: where the first begins, the stack of sizes, and the size of the first, which is not on the stack.
-#[derive(Drop)]
+#[derive(Clone, Copy)]
 pub struct Held {
     pub front: usize,
     pub low: usize,

@@ -31,7 +31,7 @@ pub const PROOF_TERM: u8 = 8;
 // At most so many term fields stand in a file, and so many wait.
 pub const MOST_TERM_FIELDS: usize = 4096;
 
-#[derive(Drop)]
+#[derive(Clone, Copy)]
 pub struct State {
     pub mode: u8,
     pub part: u8,

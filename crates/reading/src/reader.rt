@@ -6,7 +6,7 @@ ghost use Rattle.format.specs.Shapes.{header_shape};
 
 use format::headers::{HeaderRead, read_header};
 
-#[derive(Drop)]
+#[derive(Clone, Copy)]
 pub struct Reader<'a> {
     pub file: &'a [u8],
     pub at: usize,

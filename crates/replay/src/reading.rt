@@ -14,7 +14,7 @@ use whole_table::read_table;
 const SPACE: usize = 65536;
 
 // How a file reads: the refusal's number and place, or 0 and 0.
-#[derive(Drop)]
+#[derive(Clone, Copy)]
 struct Finding {
     number: u8,
     place: usize,

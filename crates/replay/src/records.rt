@@ -42,7 +42,7 @@ pub const WRITE_TEXT: u8 = 7;
 pub const SEARCH: u8 = 8;
 
 // A case: the entry, what it lends, and the answer and digest that are told.
-#[derive(Drop)]
+#[derive(Clone, Copy)]
 pub struct Case {
     pub entry: u8,
     pub budget: u32,
@@ -54,7 +54,7 @@ pub struct Case {
 }
 
 // What a file record gives: the place behind it and the size of the file. Where the record is damaged, the place is the end of the vector file, so that no end record follows, and the size is 0.
-#[derive(Drop)]
+#[derive(Clone, Copy)]
 pub struct Expanded {
     pub next: usize,
     pub size: usize,

@@ -18,7 +18,7 @@ const LONGEST: usize = 1000000;
 const MOST_NAMED: u64 = 10;
 
 // Where a replay stands: the place of the next record, the sizes of the present table and other file (0 before the first), whether the end record closed the file, and the counts.
-#[derive(Drop)]
+#[derive(Clone, Copy)]
 pub struct Progress {
     pub at: usize,
     pub table: usize,

@@ -3,7 +3,7 @@ ghost use Rattle.std.specs.Prelude.{◌≤◌};
 ghost use Rattle.replay.specs.Bounds.{Below, Sum};
 
 // What one comparison of a case finds. Untold: the case says nothing of it, or the call is not replayed yet. Skipped: the case lends more than there is.
-#[derive(Drop)]
+#[derive(Clone, Copy)]
 pub enum Verdict {
     Same,
     Different,
@@ -12,7 +12,7 @@ pub enum Verdict {
 }
 
 // Counts of cases: all, those replayed as reading, those replayed as calls, those skipped, and those that differ.
-#[derive(Drop)]
+#[derive(Clone, Copy)]
 pub struct Tally {
     pub cases: u64,
     pub reading: u64,

@@ -13,7 +13,7 @@ use whole_table::layout::READING_SCRATCH;
 use whole_table::read_table;
 
 // The answer that refuses a file; or the last state, with the places of the table's first definition and of the job's term.
-#[derive(Drop)]
+#[derive(Clone, Copy)]
 pub enum LastState {
     Refused(Answer),
     Reached(State, usize, usize),

@@ -8,7 +8,7 @@ use frames::{ALTERNATION_LEFT, SEQUENCE_RIGHT, TENSOR_LEFT, TENSOR_RIGHT, load_f
 use lent_frames::{LentFrame, push};
 
 // A waiting term, and how many goals of its list it holds with the terms inside it.
-#[derive(Drop)]
+#[derive(Clone, Copy)]
 pub struct Gathered {
     pub frame: LentFrame,
     pub inside: usize,

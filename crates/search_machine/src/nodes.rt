@@ -19,7 +19,7 @@ pub const NEXT_SPLIT: u16 = 5;
 // `link` is the node of the next term that waits, 0 for none. A term to begin later has its place and its level as in a state. `count` goals lie from
 // `start` on. A choice has the one before it in `other`, 0 for none, and the length of the outline in `mark`; the next split has `left` goals in front of its `count`, and its
 // right term at `right`.
-#[derive(Drop)]
+#[derive(Clone, Copy)]
 pub struct Node {
     pub kind: u16,
     pub level: u16,

@@ -18,7 +18,7 @@ pub const LOST: u8 = 2;
 
 // The next term to begin, by its place, its level, which is twice the number of levels that may begin below it, and one more if it stands in the job and not in the table, and its goals; or the goals that the last one gave.
 // `link` is the node of the innermost term that waits, `choice` that of the last choice, 0 for none; all lie below `arena`. `outline` is the length of the outline.
-#[derive(Drop)]
+#[derive(Clone, Copy)]
 pub struct State {
     pub mode: u8,
     pub level: u16,

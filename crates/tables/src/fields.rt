@@ -10,7 +10,7 @@ use parts::state::{REFUSED, State};
 use reading::read_on;
 
 // What reading a table finds: the refusal's number and place; or the numbers of rules and of definitions, and the place of the first definition, where the rules end.
-#[derive(Drop)]
+#[derive(Clone, Copy)]
 pub enum TableRead {
     Refused(u8, usize),
     Read(usize, usize, usize),

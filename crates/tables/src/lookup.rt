@@ -8,14 +8,14 @@ use format::values::{Goal, RuleName, TacticNo, goal_at, rule_name_at, tactic_no_
 use words::load16;
 
 // What the search for a rule finds: nothing, or the rule's number in the table, the place of its premises and their count.
-#[derive(Drop)]
+#[derive(Clone, Copy)]
 pub enum RuleFound {
     Missing,
     Rule(usize, usize, usize),
 }
 
 // What the search for a definition finds: nothing, or the place of its body.
-#[derive(Drop)]
+#[derive(Clone, Copy)]
 pub enum BodyFound {
     Missing,
     At(usize),

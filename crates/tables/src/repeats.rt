@@ -6,7 +6,7 @@ use format::tags::least_of;
 use words::load16;
 
 // The place of the first field that clashes with an earlier one, or none.
-#[derive(Drop)]
+#[derive(Clone, Copy)]
 pub enum Clash {
     Nowhere,
     At(usize),

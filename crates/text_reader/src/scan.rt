@@ -13,14 +13,14 @@ const MOST_FIELDS: u32 = 4096;
 const MOST_VALUE: usize = 65535;
 
 // What the scan comes to: the refusal's number and place, or the number of marks and the bytes of the term.
-#[derive(Drop)]
+#[derive(Clone, Copy)]
 pub enum ScanRead {
     Refused(u8, usize),
     Read(usize, usize),
 }
 
 // Where the scan stands between two marks. It is made anew from its numbers at each mark; a copy changed in place costs more.
-#[derive(Drop)]
+#[derive(Clone, Copy)]
 pub struct ScanState {
     pub at: usize,
     // An operand is due; otherwise one was read.
@@ -36,7 +36,7 @@ pub struct ScanState {
 }
 
 // The value of a numeral, and the place behind its last digit.
-#[derive(Drop)]
+#[derive(Clone, Copy)]
 pub struct Numeral {
     pub value: usize,
     pub next: usize,

@@ -16,7 +16,7 @@ use words::{load16, store16};
 pub const FRAMES_END: usize = 196608;
 
 // Where the bytes written so far begin, where the term read last ends, and the lowest frame in the work space.
-#[derive(Drop)]
+#[derive(Clone, Copy)]
 pub struct TermState {
     pub front: usize,
     pub stop: usize,

@@ -16,7 +16,7 @@ use notation::signs::{is_pair, rank_of};
 use words::load16;
 
 // How far the term is written: the place of the next field, the bytes written and those on the stack; and of the term at that place, how tight a sign must bind to need no brackets there, and whether a sign follows before the next closing bracket.
-#[derive(Drop)]
+#[derive(Clone, Copy)]
 pub struct Writing {
     pub at: usize,
     pub len: usize,
