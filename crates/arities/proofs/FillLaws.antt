@@ -286,7 +286,7 @@ cleared_part at n w ys p q e h = record {
 }
 
 pub cleared : (w ys : List ℕ) → ys ≡ replicate (length (mid_of frames_end 131072 w)) 0 → space_end ≤ length w → Cleared w (put_mid frames_end 131072 w ys)
-cleared w ys e h = cleared_part frames_end 131072 w ys refl refl e (omega (arith, h))
+cleared w ys e h = cleared_part frames_end 131072 w ys refl refl e h
 
 -- an update
 pub not_updated : (w : List ℕ) (tactic arity : ℕ) → word w (frames_end + tactic * 2) ≡ arity → Updated w tactic arity w 0

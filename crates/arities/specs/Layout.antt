@@ -1,6 +1,6 @@
--- The regions of the work space, one behind the other: the hiproof so far, the goals, the terms that wait, which grow downwards, the arities by tactic number,
--- the noted arities of left terms, and the indexes over the table. The first and the third grow with the steps that a run may take, the second with the
--- fields that it may hold. While the files are read and the arities are found, the first three hold what that needs.
+-- The regions of the work space, one behind the other: the hiproof so far, the goals, the terms that wait, which grow downwards, and the arities by
+-- tactic number. The first and the third grow with the steps that a run may take, the second with the fields that it may hold.
+-- Behind them, for a run that is to note arities: the noted arities of left terms, and the indexes over the table.
 use Rattle.std.specs.Prelude.{ℕ, ◌+◌, ◌*◌, ◌-◌, ◌/◌}
 use Rattle.format.specs.Limits.{most_bytes, most_steps, most_held}
 use Rattle.index.specs.Layout.{rules_room, definitions_room}
@@ -19,8 +19,8 @@ abbrev pub frames_end : ℕ
 frames_end = goals_end + 19 * most_steps
 
 -- two bytes for each tactic number
-abbrev pub numbers_end : ℕ
-numbers_end = frames_end + 2 * 65536
+abbrev pub space_end : ℕ
+space_end = frames_end + 2 * 65536
 
 -- two bytes for each field of a file: fields begin at least three bytes apart
 abbrev pub notes_room : ℕ
@@ -28,7 +28,7 @@ notes_room = 2 * (most_bytes / 3)
 
 -- the noted arities of the table, and those of the job
 abbrev pub table_notes : ℕ
-table_notes = numbers_end
+table_notes = space_end
 
 abbrev pub job_notes : ℕ
 job_notes = table_notes + notes_room
@@ -43,5 +43,5 @@ reading_place = definitions_place - seen_room
 abbrev pub rules_place : ℕ
 rules_place = definitions_place + definitions_room
 
-abbrev pub space_end : ℕ
-space_end = rules_place + rules_room
+abbrev pub regions_end : ℕ
+regions_end = rules_place + rules_room

@@ -9,7 +9,7 @@ use Rattle.tables.specs.Lookup.{find_body}
 use Rattle.tables.specs.Places.{body_place}
 use Rattle.tables.specs.Standing.{TableStands}
 use Rattle.index.specs.Build.{RulesIndexed, DefinitionsIndexed}
-use Rattle.arities.specs.Layout.{table_notes, job_notes, definitions_place, rules_place, space_end}
+use Rattle.arities.specs.Layout.{table_notes, job_notes, definitions_place, rules_place, regions_end}
 use Rattle.arities.specs.Arities.{arities}
 use Rattle.arities.specs.Notes.{Noted}
 
@@ -26,7 +26,7 @@ BodiesNoted T w = (d : TacticNo) (t : Term) → find_body T d ≡ some t → Not
 pub record FillGiven (bytes : List ℕ) (first : ℕ) (job : List ℕ) (term : ℕ) (w : List ℕ) : Type 0 where
   pub small : length bytes < 65536
   pub job_small : length job < 65536
-  pub space : space_end ≤ length w
+  pub space : regions_end ≤ length w
   pub table : Table
   pub table_stands : TableStands bytes first table
   pub indexed : TableIndexed bytes first w

@@ -1,4 +1,5 @@
-// The regions of the work space. specs/Layout says how each follows from the most steps of a run, the most fields that it holds and the size of a file.
+// The regions of the work space: the hiproof so far, the goals, the terms that wait, which grow downwards, and the arities by tactic number.
+// specs/Layout says how each follows from the most steps of a run and the most fields that it holds.
 use index::layout::RULES_ROOM;
 use seen::layout::SEEN_ROOM;
 
@@ -6,7 +7,9 @@ pub const OUTPUT_END: usize = 81920;
 
 pub const FRAMES_END: usize = 459776;
 
-// The arities by tactic number stand from FRAMES_END on, then the noted arities of the table and of the job.
+pub const SPACE_END: usize = 590848;
+
+// The noted arities of the table and of the job.
 pub const TABLE_NOTES: usize = 590848;
 
 pub const JOB_NOTES: usize = 634538;
@@ -17,4 +20,4 @@ pub const READING_PLACE: usize = DEFINITIONS_PLACE - SEEN_ROOM;
 
 pub const RULES_PLACE: usize = 681556;
 
-pub const SPACE_END: usize = RULES_PLACE + RULES_ROOM;
+pub const REGIONS_END: usize = RULES_PLACE + RULES_ROOM;

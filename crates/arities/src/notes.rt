@@ -2,7 +2,7 @@
 ghost use Rattle.std.specs.Prelude.{◌≡◌, ◌+◌, ◌≤◌, ◌<◌, length};
 ghost use Rattle.words.specs.Word.{word};
 ghost use Rattle.input_arities.specs.Threads.{slot};
-ghost use Rattle.arities.specs.Layout.{space_end};
+ghost use Rattle.arities.specs.Layout.{regions_end};
 ghost use Rattle.arities.specs.Notes.{notes_of};
 
 use crate::layout::{JOB_NOTES, TABLE_NOTES};
@@ -20,7 +20,7 @@ fn notes_of(file: u16) -> usize
 
 // The noted arity of the left term of a tensor whose right term stands at a place: with one added, and 0 for none.
 pub fn noted(work: &[u8], file: u16, right: usize) -> u16
-    requires { (right + 3 < 65536) × (space_end ≤ length work.now) }
+    requires { (right + 3 < 65536) × (regions_end ≤ length work.now) }
     ensures { result ≡ word work.now (notes_of file + slot right) }
 {
     let base = notes_of(file);

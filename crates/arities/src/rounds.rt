@@ -44,7 +44,7 @@ fn clear_arities(work: &mut [u8])
     requires { space_end ≤ length work.old }
     ensures { Cleared work.old work.new }
 {
-    clear(&mut work[FRAMES_END..TABLE_NOTES]);
+    clear(&mut work[FRAMES_END..SPACE_END]);
 }
 
 // Rounds until one changes nothing, at most as many as there are definitions.

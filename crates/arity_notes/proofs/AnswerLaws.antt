@@ -15,7 +15,7 @@ use Rattle.tables.specs.Tables.{Table}
 use Rattle.evaluation.specs.TacticArity.{sum_arity, common_arity}
 use Rattle.input_arities.specs.Threads.{slot}
 use Rattle.tactics.specs.Numbers.{put_header}
-use Rattle.arities.specs.Layout.{frames_end, notes_room, definitions_place, space_end}
+use Rattle.arities.specs.Layout.{frames_end, notes_room, definitions_place, regions_end}
 use Rattle.arities.specs.Arities.{arity_code, arities, Pair}
 use Rattle.arities.proofs.NoteLaws.{slot_inside}
 use Rattle.arity_notes.specs.declared.walk.Walk.{Walk}
@@ -111,7 +111,7 @@ module _ (src : List ℕ) (base : ℕ) (w : List ℕ) (s : Walk) (telling : s.as
 
   -- what is given
   module _ (bytes : List ℕ) (first : ℕ) (g : Given bytes first src base w s) where
-    pub answer_room : (3 ≤ s.top) × (s.top ≤ 196608) × (space_end ≤ length w) × (length src < 65536) × (base + notes_room ≤ definitions_place)
+    pub answer_room : (3 ≤ s.top) × (s.top ≤ 196608) × (regions_end ≤ length w) × (length src < 65536) × (base + notes_room ≤ definitions_place)
     answer_room =
         let q = g.walking in (
           at_top bytes first g.mode g.table (λ c k. 3 ≤ s.top) (λ end a x k q top is st. omega (arith, top)) g.turn g.stack q,

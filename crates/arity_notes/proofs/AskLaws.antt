@@ -22,7 +22,7 @@ use Rattle.tables.specs.Found.{FindsBody, BodyStands, BodyPlaced}
 use Rattle.evaluation.specs.TacticArity.{arity_in, body_arity, arity_after}
 use Rattle.evaluation.proofs.UnfoldingLaws.{after_fixed}
 use Rattle.tactics.specs.Numbers.{put_header}
-use Rattle.arities.specs.Layout.{frames_end, space_end}
+use Rattle.arities.specs.Layout.{frames_end, regions_end}
 use Rattle.arities.specs.Arities.{arity_code, arities}
 use Rattle.arities.proofs.ArityLaws.{pair_of}
 use Rattle.arity_notes.specs.declared.walk.Walk.{Walk}
@@ -54,15 +54,15 @@ module _ (bytes : List ℕ) (first : ℕ) (src : List ℕ) (base : ℕ) (w : Lis
   by_asks v r f m T (tells end a) k q = absurd (not_both s.asks asking q.turn_is.0)
 
   -- what is given of it
-  given_term : Given bytes first src base w s → (t : Term) × Stands src s.at t × (s.top ≤ 196608) × (space_end ≤ length w) × (length src < 65536)
+  given_term : Given bytes first src base w s → (t : Term) × Stands src s.at t × (s.top ≤ 196608) × (regions_end ≤ length w) × (length src < 65536)
   unfolding TurnIs
   given_term g = go g.turn g.walking
     where
-      go : (c : Turn) → Walking g.mode g.table bytes first src base w s c g.stack → (t : Term) × Stands src s.at t × (s.top ≤ 196608) × (space_end ≤ length w) × (length src < 65536)
+      go : (c : Turn) → Walking g.mode g.table bytes first src base w s c g.stack → (t : Term) × Stands src s.at t × (s.top ≤ 196608) × (regions_end ≤ length w) × (length src < 65536)
       go (asks at t) q = (t, subst (λ (i : ℕ). Stands src i t) (sym q.turn_is.1) q.turn_is.2, (asked_top g.mode g.table bytes first src base w s at t g.stack q).0, q.space, q.small)
       go (tells end a) q = absurd (not_both s.asks asking q.turn_is.0)
 
-  pub given_room : Given bytes first src base w s → (s.at + 3 ≤ length src) × (s.top ≤ 196608) × (space_end ≤ length w) × (length src < 65536)
+  pub given_room : Given bytes first src base w s → (s.at + 3 ≤ length src) × (s.top ≤ 196608) × (regions_end ≤ length w) × (length src < 65536)
   given_room g =
       let x = given_term g in
       let y = known src s.at x.0 x.1 in
@@ -142,7 +142,7 @@ module _ (bytes : List ℕ) (first : ℕ) (src : List ℕ) (base : ℕ) (w : Lis
 -- a defined tactic
 module _ (bytes : List ℕ) (first : ℕ) (w : List ℕ) (s : Walk) (number : ℕ) (small : number < 65536) where
   module _ (g : TacticGiven bytes first w s number) where
-    pub tactic_room : (s.top ≤ 196608) × (space_end ≤ length w)
+    pub tactic_room : (s.top ≤ 196608) × (regions_end ≤ length w)
     tactic_room = ((asked_top g.mode g.table bytes first g.src g.base w s g.at (defined g.tactic) g.stack g.walking).0, g.walking.space)
 
   pub tactic_known : (n : ℕ) → n ≡ cell w number → (n ≡ 0 → ⊥) → (r : Walk) → r ≡ record { asks = false; at = 0; arity = n - 1; top = s.top } → TacticTurns bytes first w s number w r

@@ -21,7 +21,7 @@ use Rattle.tables.specs.Lookup.{same_tactic, find_body, find_body_in}
 use Rattle.evaluation.specs.TacticArity.{arity_in, body_arity}
 use Rattle.tactics.specs.Memory.{Same}
 use Rattle.tactics.proofs.MemoryLaws.{same_word}
-use Rattle.arities.specs.Layout.{frames_end, numbers_end, space_end}
+use Rattle.arities.specs.Layout.{frames_end, space_end, regions_end}
 use Rattle.arities.specs.Arities.{arity_code, arities}
 use Rattle.arity_notes.specs.Waits.{Wait, for_left, for_right, for_body, for_root, Walked}
 use Rattle.arity_notes.specs.Asked.{Known, Asked}
@@ -29,9 +29,9 @@ use Rattle.arity_notes.specs.Cells.{cell, Cell, unknown, walked, found, Cells, A
 use Rattle.arity_notes.proofs.CycleLaws.{cycle_none}
 
 -- a write apart from them leaves them
-module _ (w v : List ℕ) (same : Same frames_end numbers_end w v) where
+module _ (w v : List ℕ) (same : Same frames_end space_end w v) where
   pub cell_same : (d : ℕ) → d < 65536 → cell v d ≡ cell w d
-  cell_same d h = same_word w v frames_end numbers_end (frames_end + d * 2) same (omega arith) (omega (arith, h))
+  cell_same d h = same_word w v frames_end space_end (frames_end + d * 2) same (omega arith) (omega (arith, h))
 
   pub cells_same : (T : Table) (k : List Wait) → Cells T w k → Cells T v k
   cells_same T k c d h = go (c d h)
@@ -80,7 +80,7 @@ body_size none = 0
 body_size (some t) = size t
 
 -- the body of a tactic of which nothing is known begins
-module _ (w : List ℕ) (d : ℕ) (h : d < 65536) (space : space_end ≤ length w) where
+module _ (w : List ℕ) (d : ℕ) (h : d < 65536) (space : regions_end ≤ length w) where
   pub put-here : (n : ℕ) → cell (put_word w (frames_end + d * 2) n) d ≡ n
   put-here n = word_same w (frames_end + d * 2) n (omega (arith, h, space))
 

@@ -16,7 +16,7 @@ use Rattle.input_arities.specs.Threads.{slot}
 use Rattle.input_arities.proofs.ThreadLaws.{slot_rises, slot_apart}
 use Rattle.tactics.specs.Memory.{Same}
 use Rattle.tactics.proofs.MemoryLaws.{same_word}
-use Rattle.arities.specs.Layout.{frames_end, numbers_end}
+use Rattle.arities.specs.Layout.{frames_end, space_end}
 use Rattle.arities.specs.Arities.{arity_code, arities}
 use Rattle.arities.specs.Notes.{NotedLeft}
 use Rattle.arity_notes.specs.Waits.{Both, Wait, for_left, for_right, for_body, for_root}
@@ -43,7 +43,7 @@ beyond_limit (for_right b o ∷ k) p limit h = beyond_limit k p limit h
 beyond_limit (for_body d ∷ k) p limit h = absurd h
 beyond_limit (for_root ∷ k) p limit h = beyond_limit k p limit h
 
-module _ (T : Table) (base from : ℕ) (root : Term) (w₀ : List ℕ) (low : numbers_end ≤ base) where
+module _ (T : Table) (base from : ℕ) (root : Term) (w₀ : List ℕ) (low : space_end ≤ base) where
   -- a turn that makes no note, and writes only before the notes and the numbers
   module _ (w v : List ℕ) (same : (i : ℕ) → frames_end ≤ i → get_or v i 0 ≡ get_or w i 0) (c e : Turn) (k j : List Wait) (n : Noting T base from root w₀ w c k) where
     pub quiet : Beyond (turn_end e) (from + size root) j → turn_low c ≤ turn_low e

@@ -28,7 +28,7 @@ use Rattle.tactics.specs.Memory.{Same, Only}
 use Rattle.tactics.specs.Numbers.{put_header}
 use Rattle.tactics.proofs.MemoryLaws.{only_word, only_then, only_wider, same_word}
 use Rattle.tactics.proofs.NumberLaws.{only_header, header_tag, header-length}
-use Rattle.arities.specs.Layout.{frames_end, numbers_end, notes_room, definitions_place, space_end}
+use Rattle.arities.specs.Layout.{frames_end, space_end, notes_room, definitions_place, regions_end}
 use Rattle.arities.specs.Arities.{arity_code, arities, Pair}
 use Rattle.arities.specs.Notes.{NotedLeft}
 use Rattle.arities.proofs.NoteLaws.{slot_inside}
@@ -50,7 +50,7 @@ index_still bytes first w v l same x =
     (x.0, x.1, indexed_before 8 bytes x.0 w v definitions_place 0 definitions_place l k (omega arith) x.2)
 
 -- three bytes behind a stack that has room
-module _ (w : List ℕ) (space : space_end ≤ length w) (src : List ℕ) (k : List Wait) (top : ℕ) (stack : StackAt src w k top) (few : stack_weight k ≤ 65536) where
+module _ (w : List ℕ) (space : regions_end ≤ length w) (src : List ℕ) (k : List Wait) (top : ℕ) (stack : StackAt src w k top) (few : stack_weight k ≤ 65536) where
   pub top_most : top ≤ 196608
   top_most = omega (arith, stack_most src w k top stack, few)
 
@@ -166,7 +166,7 @@ module _ (m : Mode) (T : Table) (bytes : List ℕ) (first : ℕ) (src : List ℕ
         let top = asked_top at whole k q in
         let far = put_beyond w q.space src k s.top q.stack top.1 (left_kind b) at v e in
         let len = put-length w q.space src k s.top q.stack top.1 (left_kind b) at v e in
-        let same : Same frames_end numbers_end w v = λ i l r. far i l in
+        let same : Same frames_end space_end w v = λ i l r. far i l in
         let u_same = unwalked_same w v same T.definitions in
         record {
           turn = asks (at + 3) t;
@@ -206,14 +206,14 @@ module _ (m : Mode) (T : Table) (bytes : List ℕ) (first : ℕ) (src : List ℕ
     found_in finds h = (h, λ v. h)
     found_in (notes from root w₀) h = absurd (none-ne-some t (sym (h.known d.0 small zero-cell) ∙ body))
 
-    marked_same : (i : ℕ) → (i < frames_end) ⊎ (numbers_end ≤ i) → get_or marked i 0 ≡ get_or w i 0
+    marked_same : (i : ℕ) → (i < frames_end) ⊎ (space_end ≤ i) → get_or marked i 0 ≡ get_or w i 0
     marked_same i (inl h) = (only_word w (frames_end + d.0 * 2) 1).kept.below i (omega (arith, h))
     marked_same i (inr h) = (only_word w (frames_end + d.0 * 2) 1).kept.above i (omega (arith, h, small))
 
     marked_stack : StackAt src marked k s.top
     marked_stack = stack_same src w marked k s.top (λ i h. marked_same i (inl (omega (arith, h, asked_top at (defined d) k q)))) q.stack
 
-    marked_space : space_end ≤ length marked
+    marked_space : regions_end ≤ length marked
     marked_space = omega (arith, q.space, length-put_word w (frames_end + d.0 * 2) 1)
 
     pub enters : (v : List ℕ) → v ≡ put_header marked s.top 5 d.0 → Next (weight (asks at (defined d)) k) v (record { asks = true; at = place; arity = 0; top = s.top + 3 })
@@ -223,7 +223,7 @@ module _ (m : Mode) (T : Table) (bytes : List ℕ) (first : ℕ) (src : List ℕ
         let mode = found_in m q.mode_is in
         let far = put_beyond marked marked_space src k s.top marked_stack top.1 5 d.0 v e in
         let len : length v ≡ length w = put-length marked marked_space src k s.top marked_stack top.1 5 d.0 v e ∙ length-put_word w (frames_end + d.0 * 2) 1 in
-        let same : Same frames_end numbers_end marked v = λ i l r. far i l in
+        let same : Same frames_end space_end marked v = λ i l r. far i l in
         let u_same = unwalked_same marked v same T.definitions in
         let less = begun-unwalked w d.0 small q.space zero-cell 1 (λ z. absurd (omega (arith, z))) T.definitions t body in
         let stay : (i : ℕ) → definitions_place ≤ i → get_or v i 0 ≡ get_or w i 0 = λ i l. far i (omega (arith, l)) ∙ marked_same i (inr (omega (arith, l))) in
@@ -349,7 +349,7 @@ module _ (m : Mode) (T : Table) (bytes : List ℕ) (first : ℕ) (src : List ℕ
     low_stack : StackAt src noted_w k low
     low_stack = stack_same src w noted_w k low (λ i l. note_only.kept.below i (omega (arith, l, top, deep, q.base_is.low))) st
 
-    noted_space : space_end ≤ length noted_w
+    noted_space : regions_end ≤ length noted_w
     noted_space = omega (arith, q.space, note_only.same_length)
 
     light : stack_weight k ≤ 65536
@@ -362,7 +362,7 @@ module _ (m : Mode) (T : Table) (bytes : List ℕ) (first : ℕ) (src : List ℕ
         let far = put_beyond noted_w noted_space src k low low_stack light (right_kind b) s.arity v e in
         let len : length v ≡ length w = put-length noted_w noted_space src k low low_stack light (right_kind b) s.arity v e ∙ note_only.same_length in
         let apart : (i : ℕ) → frames_end ≤ i → (i < base + slot r) ⊎ (base + slot r + 2 ≤ i) → get_or v i 0 ≡ get_or w i 0 = λ i l o. far i l ∙ elsewhere i o in
-        let same : Same frames_end numbers_end w v = λ i l y. apart i l (inl (omega (arith, y, q.base_is.low))) in
+        let same : Same frames_end space_end w v = λ i l y. apart i l (inl (omega (arith, y, q.base_is.low))) in
         let u_same = unwalked_same w v same T.definitions in
         let stay : (i : ℕ) → definitions_place ≤ i → get_or v i 0 ≡ get_or w i 0 = λ i l. apart i (omega (arith, l)) (inr (omega (arith, l, note_high))) in
         let here : word v (base + slot r) ≡ s.arity = same_word noted_w v frames_end definitions_place (base + slot r) (λ i l y. far i l) (omega (arith, q.base_is.low)) (omega (arith, note_high)) ∙ word_same w (base + slot r) s.arity (omega (arith, note_high, q.space)) in

@@ -5,7 +5,7 @@ use Rattle.format.specs.Terms.{Term, defined}
 use Rattle.tables.specs.Tables.{Table}
 use Rattle.tables.specs.Standing.{TableStands}
 use Rattle.index.specs.Build.{DefinitionsIndexed}
-use Rattle.arities.specs.Layout.{notes_room, numbers_end, definitions_place, space_end}
+use Rattle.arities.specs.Layout.{notes_room, space_end, definitions_place, regions_end}
 use Rattle.arity_notes.specs.declared.walk.Walk.{Walk}
 use Rattle.arity_notes.specs.Waits.{Wait, StackAt}
 use Rattle.arity_notes.specs.Asked.{Asked, Turn, asks, asked_by, TurnIs, turn_weight, stack_weight, Standing, Told}
@@ -23,12 +23,12 @@ ModeIs (notes from root w₀) T bytes src base w c k = Noting T base from root w
 
 -- the notes of a file
 pub record Base (base : ℕ) : Type 0 where
-  pub low : numbers_end ≤ base
+  pub low : space_end ≤ base
   pub high : base + notes_room ≤ definitions_place
 
 pub record Walking (m : Mode) (T : Table) (bytes : List ℕ) (first : ℕ) (src : List ℕ) (base : ℕ) (w : List ℕ) (s : Walk) (c : Turn) (k : List Wait) : Type 0 where
   pub small : length src < 65536
-  pub space : space_end ≤ length w
+  pub space : regions_end ≤ length w
   pub base_is : Base base
   pub table_stands : TableStands bytes first T
   pub indexed : DefinitionsIndexed bytes first w definitions_place

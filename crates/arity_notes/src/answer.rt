@@ -4,7 +4,7 @@ ghost use Rattle.words.specs.Word.{put_word};
 ghost use Rattle.format.specs.Terms.{Term, size};
 ghost use Rattle.input_arities.specs.Threads.{slot};
 ghost use Rattle.tactics.specs.Numbers.{put_header};
-ghost use Rattle.arities.specs.Layout.{frames_end, notes_room, space_end};
+ghost use Rattle.arities.specs.Layout.{frames_end, notes_room, regions_end};
 ghost use Rattle.arities.specs.Arities.{Pair};
 ghost use Rattle.arity_notes.specs.Walks.{Given, Turns};
 
@@ -31,7 +31,7 @@ impl Walk {
 
     // The body of a tactic told its arity, which is that of the tactic.
     fn learn(self, number: u16, work: &mut [u8]) -> Walk
-        requires { (3 ≤ self.top) × (self.arity < 65535) × (space_end ≤ length work.old) }
+        requires { (3 ≤ self.top) × (self.arity < 65535) × (regions_end ≤ length work.old) }
         ensures written { work.new ≡ put_word work.old (frames_end + number * 2) (self.arity + 1) }
         ensures next { result ≡ record { asks = false; at = 0; arity = self.arity; top = self.top - 3 } }
     {

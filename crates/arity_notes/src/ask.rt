@@ -3,7 +3,7 @@ ghost use Rattle.std.specs.Prelude.{◌≡◌, true, ◌+◌, ◌*◌, ◌<◌, 
 ghost use Rattle.std.proofs.Math.Option.{some};
 ghost use Rattle.words.specs.Word.{put_word};
 ghost use Rattle.tactics.specs.Numbers.{put_header};
-ghost use Rattle.arities.specs.Layout.{frames_end, space_end};
+ghost use Rattle.arities.specs.Layout.{frames_end, regions_end};
 ghost use Rattle.arity_notes.specs.Walks.{Given, Turns, TacticGiven, TacticTurns};
 
 use crate::walk::{BODY, COMMON_LEFT, SUM_LEFT, Walk};
@@ -16,7 +16,7 @@ use words::{load16, store16};
 impl Walk {
     // The body of a tactic of which nothing is known is asked. Where the tactic is met again before its body has told its arity, it depends on itself and has none.
     fn enter(self, number: TacticNo, body: usize, work: &mut [u8]) -> Walk
-        requires { (self.top < 1000000) × (self.top + 2 < length work.old) × (space_end ≤ length work.old) }
+        requires { (self.top < 1000000) × (self.top + 2 < length work.old) × (regions_end ≤ length work.old) }
         ensures written { work.new ≡ put_header (put_word work.old (frames_end + number.0 * 2) 1) self.top 5 number.0 }
         ensures next { result ≡ record { asks = true; at = body; arity = 0; top = self.top + 3 } }
     {

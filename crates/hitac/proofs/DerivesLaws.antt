@@ -79,6 +79,7 @@ pub record Parted (S : System) (g k : List Goal) (es : List Entry) : Type 0 wher
 
 pub parted : {S : System} (es : List Entry) (g k : List Goal) → Derives S (g ++ k) es [] → Parted S g k es
 parted {S} [] [] k d = record { front = []; back = []; whole = refl; front_derives = D-End; back_derives = d }
+parted {S = S} [] (γ' ∷ g) k d = elim d [ ]
 parted {S} (open_entry γ ∷ es) [] k d = record { front = []; back = open_entry γ ∷ es; whole = refl; front_derives = D-End; back_derives = d }
 parted {S} (use_entry a γ ∷ es) [] k d = record { front = []; back = use_entry a γ ∷ es; whole = refl; front_derives = D-End; back_derives = d }
 parted {S} (open_entry γ ∷ es) (γ' ∷ g) k (D-Open d) =

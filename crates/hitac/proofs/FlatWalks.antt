@@ -79,11 +79,11 @@ module _ (T : Table) (S : System) (agrees : Agrees T S) where
   first_wrong→flat_walk (U-First {p = p} {es = es} fs d u) = derives→flat_walk d p _ ∙ unfit_refused u (p + entries_size es) fs
 
   -- one entry more in front of the first wrong one
-  behind : {p : ℕ} {g h : List Goal} {es : List Entry} {q : ℕ} (e : Entry) → ((k : List Goal) (fs : List Entry) → Derives S h fs k → Derives S g (e ∷ fs) k)
-      → FirstWrong S (p + entries_size (e ∷ [])) h es q → FirstWrong S p g (e ∷ es) q
-  behind {p} {g} (use_entry a γ) f (U-First {k = k} {es = es} {e = x} fs d u) =
+  behind : {p next : ℕ} {g h : List Goal} {es : List Entry} {q : ℕ} (e : Entry) → next ≡ p + entries_size (e ∷ []) → ((k : List Goal) (fs : List Entry) → Derives S h fs k → Derives S g (e ∷ fs) k)
+      → FirstWrong S next h es q → FirstWrong S p g (e ∷ es) q
+  behind {p} {next} {g} (use_entry a γ) i f (U-First {k = k} {es = es} {e = x} fs d u) =
       subst (FirstWrong S p g (use_entry a γ ∷ es ++ x ∷ fs)) (omega arith) (U-First {p = p} fs (f k es d) u)
-  behind {p} {g} (open_entry γ) f (U-First {k = k} {es = es} {e = x} fs d u) =
+  behind {p} {next} {g} (open_entry γ) i f (U-First {k = k} {es = es} {e = x} fs d u) =
       subst (FirstWrong S p g (open_entry γ ∷ es ++ x ∷ fs)) (omega arith) (U-First {p = p} fs (f k es d) u)
 
   -- the first entry is the wrong one
@@ -96,7 +96,7 @@ module _ (T : Table) (S : System) (agrees : Agrees T S) where
   flat_walk→first_wrong p [] (x ∷ es) e = wrong_here es U-Nothing-Pending (refused_place e)
   flat_walk→first_wrong p (δ ∷ g) (open_entry γ ∷ es) {q = q} e =
       ⊎_elim
-      (λ x. subst (λ (z : Goal). FirstWrong S p (z ∷ g) (open_entry γ ∷ es) q) (same_goal_lem γ δ x.0) (behind (open_entry γ) (λ k fs d. D-Open d) (flat_walk→first_wrong (p + 5) g es x.1)))
+      (λ x. subst (λ (z : Goal). FirstWrong S p (z ∷ g) (open_entry γ ∷ es) q) (same_goal_lem γ δ x.0) (behind (open_entry γ) (omega arith) (λ k fs d. D-Open d) (flat_walk→first_wrong (p + 5) g es x.1)))
       (λ x. wrong_here es (U-Open-Other (other_goal γ δ x.0)) x.2)
       (goal_refused (same_goal γ δ) e)
   flat_walk→first_wrong p (δ ∷ g) (use_entry a γ ∷ es) {q = q} e =
@@ -108,7 +108,7 @@ module _ (T : Table) (S : System) (agrees : Agrees T S) where
       (λ y. let (m, c, i) = premises_refused (find_rule T a γ) y in wrong_here es (U-Use-Rule (missing→no_rule T S agrees a γ m)) i)
       (λ y.
       let (h, d, f) = y in
-      behind (use_entry a γ) (λ k fs x. D-Use ((agrees a γ h).0 (premises_give _ _ (find_rule T a γ) d)) x) (flat_walk→first_wrong (p + 7) (h ++ g) es f))
+      behind (use_entry a γ) (omega arith) (λ k fs x. D-Use ((agrees a γ h).0 (premises_give _ _ (find_rule T a γ) d)) x) (flat_walk→first_wrong (p + 7) (h ++ g) es f))
       (and_then_refused _ x.1)))
       (λ x. wrong_here es (U-Use-Other (other_goal γ δ x.0)) x.2)
       (goal_refused (same_goal γ δ) e)

@@ -92,6 +92,7 @@ text_spaced (m ∷ ms) v = mark_spaced m v.0 (text_spaced ms v.1)
 -- texts that are not spaced: a number with a leading zero, a sign without its blanks, a blank in front of a mark
 padded : (w r : List ℕ) → NoLeadingZero w → Spaced [] r → w ++ r ≡ letter_a ∷ 48 ∷ 55 ∷ [] → ⊥
 padded w [] z no_marks e = let k : 55 ≡ right_square = z letter_a 55 [] (sym (append-nil w) ∙ e) in omega arith
+padded w (_ ∷ _) z x5 e = elim x5 [ ]
 
 pub no_padding : Spaced (leaf (rule_leaf 7) ∷ []) (letter_a ∷ 48 ∷ 55 ∷ []) → ⊥
 no_padding x = go x refl
@@ -104,6 +105,7 @@ no_bare_sign x = go x refl
   where
     go : {t : List ℕ} → Spaced (sign star ∷ []) t → t ≡ star_byte ∷ [] → ⊥
     go (spaced_sign s p) e = let k : ◌≡◌ {A = ℕ} 0 1 = cc in omega arith
+    go (spaced_mark {w = w} {r = r} x15 _ _ _) e = elim x15 [ ]
 
 bare : (w r : List ℕ) → Spells opening w → Spaced [] r → w ++ r ≡ blank ∷ left_round ∷ [] → ⊥
 bare w r opens no_marks e = let k : left_round ≡ blank = cc in omega arith

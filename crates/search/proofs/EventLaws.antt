@@ -80,6 +80,7 @@ unfolding for_each
 finds_each {es = found s g ∷ es} f here m = finds_left (for_each es f) m
 finds_each {es = begun ∷ es} f (later i) m = later (finds_each f i m)
 finds_each {es = found s' g' ∷ es} f (later i) m = finds_right (f s' g') (finds_each f i m)
+finds_each {es = []} f {r = r} {h = h} x7 m = elim x7 [ ]
 
 pub record After (es : List Event) (f : Next) (r : Term) (h : List Goal) : Type 0 where
   pub first : Term

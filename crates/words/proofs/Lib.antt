@@ -1,4 +1,3 @@
 pub mod WordLaws
 pub mod Copy
 pub mod KeptLaws
-pub mod LentAgain

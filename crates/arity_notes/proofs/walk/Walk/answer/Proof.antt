@@ -7,7 +7,7 @@ use lib.ListN.{length, get_or}
 use Rattle.words.specs.Word.{word, put_word}
 use Rattle.format.specs.Terms.{Term}
 use Rattle.arities.specs.Arities.{Pair}
-use Rattle.arities.specs.Layout.{frames_end, notes_room, definitions_place, space_end}
+use Rattle.arities.specs.Layout.{frames_end, notes_room, definitions_place, regions_end}
 use Rattle.arity_notes.specs.Waits.{Both, sums, commons, combine, left_kind, right_kind}
 use Rattle.arity_notes.proofs.AnswerLaws.{answer_room, given_pair, given_arity, answer_left, answer_right, answer_body, answer_root}
 use borrow.Author.Rules.{rules}
@@ -22,7 +22,7 @@ use Rattle.arity_notes.proofs.walk.Walk.tell.Reads as tell-reads
 use Rattle.arity_notes.proofs.walk.Walk.turn_right.Reads as turn-right-reads
 use Rattle.words.proofs.load16.Reads as load16-reads
 
-room : (i : tie.Start) → (3 ≤ i.args.self.top) × (i.args.self.top ≤ 196608) × (space_end ≤ length i.args.work.now) × (length i.args.src.now < 65536) × (i.args.base + notes_room ≤ definitions_place)
+room : (i : tie.Start) → (3 ≤ i.args.self.top) × (i.args.self.top ≤ 196608) × (regions_end ≤ length i.args.work.now) × (length i.args.src.now < 65536) × (i.args.base + notes_room ≤ definitions_place)
 room i = answer_room i.args.src.now i.args.base i.args.work.now i.args.self i.requires.1 i.requires.2 i.requires.0.0 i.requires.0.1 i.requires.0.2
 
 -- the pair that waits

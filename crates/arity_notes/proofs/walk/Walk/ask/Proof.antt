@@ -3,7 +3,7 @@
 use native.Mathlib.Omega.{arith}
 use Prim.Native.Nat.{◌+◌, ◌≤◌, ◌<◌}
 use lib.ListN.{length}
-use Rattle.arities.specs.Layout.{space_end}
+use Rattle.arities.specs.Layout.{regions_end}
 use Rattle.arity_notes.specs.Walks.{Given}
 use Rattle.arity_notes.proofs.AskLaws.{given_room, given_five, given_tactic, ask_sequence, ask_tensor, ask_alternation, ask_defined, ask_empty, ask_one}
 use borrow.Author.Rules.{rules}
@@ -17,7 +17,7 @@ use Rattle.arity_notes.proofs.walk.Walk.tell.Reads as tell-reads
 use Rattle.arity_notes.proofs.walk.Walk.wait.Reads as wait-reads
 use Rattle.format.proofs.values.tactic_no_at.Reads as tactic-no-at-reads
 
-abbrev room : (i : tie.Start) → (i.args.self.at + 3 ≤ length i.args.src.now) × (i.args.self.top ≤ 196608) × (space_end ≤ length i.args.work.now) × (length i.args.src.now < 65536)
+abbrev room : (i : tie.Start) → (i.args.self.at + 3 ≤ length i.args.src.now) × (i.args.self.top ≤ 196608) × (regions_end ≤ length i.args.work.now) × (length i.args.src.now < 65536)
 room i = given_room i.args.table.now i.args.first i.args.src.now i.args.base i.args.work.now i.args.self i.requires.1 i.requires.0
 
 shared-slice-read-tag : tie.Need-shared-slice-read-tag
