@@ -1,7 +1,7 @@
 -- The encoding of a table within the limits is a list of bytes: by format's laws for the values, the goals and the terms in it.
 -- Assumes nothing.
 use mathlib.Core.List.{List, [], ◌∷◌, ◌++◌}
-use Prim.Native.Nat.{ℕ, ◌≤◌}
+use Prim.Native.Nat.{◌≤◌}
 use native.Mathlib.Omega.{arith}
 use lib.ListN.{length, length-append}
 use Rattle.format.specs.Limits.{most_bytes}

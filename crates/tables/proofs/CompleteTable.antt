@@ -10,7 +10,7 @@ use lib.ListN.{length, get_or}
 use borrow.Author.Tests.{eq-eqb, ne_eqb, lt-ltb, le-ltb, lt-leb}
 use Rattle.format.specs.Limits.{most_rules, most_definitions, most_term_fields}
 use Rattle.format.specs.Results.{gives, and_then}
-use Rattle.format.specs.Values.{goal, tactic_no}
+use Rattle.format.specs.Values.{tactic_no}
 use Rattle.format.specs.Tags.{rows, find_row, row_of, kind_of, least_of, most_of, inner_of, rule_kind, definition_kind, tactic_kind}
 use Rattle.format.specs.Next.{full_table, lowest}
 use Rattle.format.specs.Headers.{header, header_at}

@@ -6,17 +6,16 @@ use mathlib.Core.Bool.{Bool, true, false, cond}
 use mathlib.Core.List.{List, [], ◌∷◌}
 use mathlib.Core.Option.{some, none-ne-some}
 use native.Mathlib.Omega.{arith}
-use lib.Dec.{eqb}
 use borrow.Author.Tests.{eq-eqb, ne_eqb}
 use Rattle.words.specs.Word.{word}
 use Rattle.format.specs.declared.values.TacticNo.{TacticNo}
 use Rattle.format.specs.Standing.{Stands}
 use Rattle.format.specs.Terms.{Term}
-use Rattle.tables.specs.Tables.{Rule, Definition, Table}
+use Rattle.tables.specs.Tables.{Rule, Definition}
 use Rattle.tables.specs.Lookup.{same_tactic, find_body_in}
 use Rattle.tables.specs.Places.{body_place_in}
 use Rattle.tables.specs.Repeats.{rule_size, definition_size, rules_size}
-use Rattle.tables.specs.Standing.{InRow, RuleStands, RulesStand, DefinitionStands, DefinitionsStand}
+use Rattle.tables.specs.Standing.{InRow, RulesStand, DefinitionsStand}
 
 -- the rules end where the definitions begin
 pub rules_end : (s : List ℕ) (at : ℕ) (rs : List Rule) (to : ℕ) → RulesStand s at rs to → to ≡ at + rules_size rs

@@ -11,7 +11,7 @@ use lib.ListN.{length}
 use borrow.Author.Tests.{leb-true, eqb-true, eqb-false, eq-eqb, ne_eqb}
 use Rattle.format.specs.declared.headers.HeaderRead.{HeaderRead}
 use Rattle.format.specs.declared.headers.HeaderRead.TheVariants as H
-use Rattle.format.specs.TermRead.{TermRead, Refused, Read}
+use Rattle.format.specs.TermRead.{TermRead, Read}
 use Rattle.format.specs.Refusals.{number, length_wrong}
 use Rattle.format.specs.Tags.{definition_kind, tactic_kind}
 use Rattle.format.specs.Next.{full_table, lowest}
