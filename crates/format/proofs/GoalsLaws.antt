@@ -11,7 +11,7 @@ use Rattle.format.specs.declared.headers.HeaderRead.TheVariants as H
 use Rattle.format.specs.GoalsRead.{Refused, Read}
 use Rattle.format.specs.Limits.{most_goals}
 use Rattle.format.specs.Refusals.{number}
-use Rattle.format.specs.Results.{Result, refused, and_then, told}
+use Rattle.format.specs.Results.{Result, and_then, told}
 use Rattle.format.specs.Headers.{Header, header}
 use Rattle.format.specs.Goals.{goals_at, goals_of}
 use Rattle.format.specs.Shapes.{header_shape, goals_shape}

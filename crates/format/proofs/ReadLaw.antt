@@ -12,7 +12,7 @@ use Rattle.format.specs.Limits.{most_term_fields}
 use Rattle.format.specs.Refusals.{Cause, length_wrong}
 use Rattle.format.specs.Results.{Result, gives, refused, and_then}
 use Rattle.format.specs.Tags.{rows, find_row, row_of, kind_of, least_of, most_of, inner_of, hiproof_kind, tactic_kind}
-use Rattle.format.specs.Headers.{Header, header, header_at}
+use Rattle.format.specs.Headers.{Header, header_at}
 use Rattle.format.specs.Terms.{Term, size, fields, Hiproof}
 use Rattle.format.specs.ReadTerms.{ParsedTerm, parsed_term, closed, leaf, pair, contents, term_of, read_term}
 use Rattle.format.specs.Standing.{Head, Stands}

@@ -15,7 +15,7 @@ use Rattle.format.specs.Tags.{kind_of, least_of, inner_of, length_fits, hiproof_
 use Rattle.format.specs.Headers.{Header, header, header_at}
 use Rattle.format.specs.Goals.{ParsedGoals, goals_of, read_goals}
 use Rattle.format.specs.Terms.{Term}
-use Rattle.format.specs.ReadTerms.{ParsedTerm, parsed_term, closed, contents, term_of, read_term}
+use Rattle.format.specs.ReadTerms.{ParsedTerm, closed, contents, term_of, read_term}
 use Rattle.format.proofs.HeaderLaws.{is_field}
 use Rattle.format.proofs.ReadLaw.{read_gives}
 

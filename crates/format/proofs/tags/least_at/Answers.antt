@@ -3,21 +3,13 @@
 use mathlib.Core.Path.{refl}
 use mathlib.Core.List.{List, [], ◌∷◌}
 use Prim.Native.Nat.{ℕ}
-use borrow.Author.Rules.{rules}
 use Rattle.format.specs.Tags.{least_of, rows}
 use Rattle.format.proofs.Rows.{entry}
-use Rattle.format.proofs.tags.least_at.Statement.{statement}
-use Rattle.format.proofs.tags.least_at.Tie as tie
-
-array-read-result : tie.Need-array-read-result
-array-read-result c = search rules
+use Rattle.format.proofs.tags.least_at.Goals as goal
 
 table : List ℕ
 table = 0 ∷ 4 ∷ 2 ∷ 0 ∷ 2 ∷ 0 ∷ 2 ∷ 0 ∷ 0 ∷ 0 ∷ 0 ∷ 2 ∷ 2 ∷ 4 ∷ 2 ∷ []
 
-returns : tie.Need-returns
+pub returns : goal.returns
 unfolding least_of table rows
 returns c = λ t e. entry (λ r. r.least) table (λ t. refl) tt _ t e
-
-pub least-at-spec : {M : Type 1} → statement M
-least-at-spec = tie.close (tie.spec array-read-result returns)

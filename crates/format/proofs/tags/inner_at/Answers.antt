@@ -3,21 +3,13 @@
 use mathlib.Core.Path.{refl}
 use mathlib.Core.List.{List, [], ◌∷◌}
 use Prim.Native.Nat.{ℕ}
-use borrow.Author.Rules.{rules}
 use Rattle.format.specs.Tags.{inner_of, rows}
 use Rattle.format.proofs.Rows.{entry}
-use Rattle.format.proofs.tags.inner_at.Statement.{statement}
-use Rattle.format.proofs.tags.inner_at.Tie as tie
-
-array-read-result : tie.Need-array-read-result
-array-read-result c = search rules
+use Rattle.format.proofs.tags.inner_at.Goals as goal
 
 table : List ℕ
 table = 0 ∷ 0 ∷ 1 ∷ 0 ∷ 0 ∷ 0 ∷ 1 ∷ 2 ∷ 2 ∷ 0 ∷ 2 ∷ 0 ∷ 0 ∷ 0 ∷ 0 ∷ []
 
-returns : tie.Need-returns
+pub returns : goal.returns
 unfolding inner_of table rows
 returns c = λ t e. entry (λ r. r.inner) table (λ t. refl) tt _ t e
-
-pub inner-at-spec : {M : Type 1} → statement M
-inner-at-spec = tie.close (tie.spec array-read-result returns)

@@ -3,24 +3,13 @@
 use mathlib.Core.Path.{refl}
 use mathlib.Core.List.{List, [], ◌∷◌}
 use Prim.Native.Nat.{ℕ}
-use borrow.Author.Rules.{rules}
 use Rattle.format.specs.Tags.{most_of, rows}
 use Rattle.format.proofs.Rows.{entry}
-use Rattle.format.proofs.tags.most_at.Statement.{statement}
-use Rattle.format.proofs.tags.most_at.Tie as tie
-
-mul-result : tie.Need-overflow-mul-result
-mul-result c = search rules
-
-array-read-result : tie.Need-array-read-result
-array-read-result c = search rules
+use Rattle.format.proofs.tags.most_at.Goals as goal
 
 table : List ℕ
 table = 0 ∷ 20 ∷ 65535 ∷ 65535 ∷ 2 ∷ 0 ∷ 65535 ∷ 65535 ∷ 65535 ∷ 0 ∷ 65535 ∷ 2 ∷ 2 ∷ 4 ∷ 2 ∷ []
 
-returns : tie.Need-returns
+pub returns : goal.returns
 unfolding most_of table rows
 returns c = λ t e. entry (λ r. r.most) table (λ t. refl) tt _ t e
-
-pub most-at-spec : {M : Type 1} → statement M
-most-at-spec = tie.close (tie.spec mul-result array-read-result returns)
