@@ -16,7 +16,7 @@ use Rattle.notation.specs.Scans.{Mode}
 use Rattle.notation.specs.Scans as M
 use Rattle.notation.specs.Scans.{Scan}
 use Rattle.notation.specs.Letters.{IsDigit, is_digit}
-use Rattle.notation.specs.Marks.{Sign, semicolon, bar, star, Leaf, rule_leaf, id_leaf, empty_leaf, goal_leaf, tactic_leaf, Mark, leaf, sign, closing, sign_byte, no_more, more, Number, number, Spells, rule, identity, nothing, assertion, tactic, labelling, between, opens, closes, Spelled, ends, blanked}
+use Rattle.notation.specs.Marks.{Sign, semicolon, bar, star, Leaf, rule_leaf, id_leaf, empty_leaf, goal_leaf, tactic_leaf, Mark, leaf, sign, closing, sign_byte, no_more, Number, number, Spells, rule, identity, nothing, assertion, tactic, labelling, between, opens, closes, Spelled, ends, blanked}
 use Rattle.notation.specs.Passing.{Passes, rests, past_leaf, past_label, past_sign, past_opening, past_closing, mark_fields, field_marks, mark_size, sizes, MarkValue, MarkValues}
 use Rattle.notation.specs.Meets.{Viable, NoDigit, Unrefused, Numbered, of_rule, of_goal, of_tactic, of_label, head_of, Large, LastOf, FieldAt, a_leaf, a_label, a_sign, Full, Fits}
 use Rattle.notation.specs.Scans.{most_value, scanned, completes, begins_numbered, is_sign, on_due, on_had, leaf_ends, on_digits, label_ends, on_label_digits, on_begun, on_label_begun, on_half, step_in, finished, end_in, scan}

@@ -10,7 +10,7 @@ use borrow.Author.Tests.{leb-true, leb-false}
 use Rattle.format.specs.Terms.{Term, fields, size}
 use Rattle.format.specs.Encoding.{TermValues}
 use Rattle.notation.specs.Marks.{Sign, semicolon, bar, star, Leaf, rule_leaf, id_leaf, empty_leaf, goal_leaf, tactic_leaf, Mark, leaf, label_mark, sign, opening, closing, leaf_term, label_term, sign_term}
-use Rattle.notation.specs.Grammar.{Level, sequences, operand, End, closed, opened, Reads, one_leaf, brackets, labelled, one_operand, with_star, one_tensor, with_bar, one_alternation, with_semicolon}
+use Rattle.notation.specs.Grammar.{Level, sequences, End, closed, opened, Reads, one_leaf, brackets, labelled, one_operand, with_star, one_tensor, with_bar, one_alternation, with_semicolon}
 use Rattle.notation.specs.Written.{rank}
 use Rattle.notation.specs.Passing.{Passes, rests, past_leaf, past_label, past_sign, past_opening, past_closing, mark_fields, field_marks, mark_size, sizes, MarkValue, MarkValues}
 use Rattle.notation.proofs.WrittenLaws.{level_at, join_reads}

@@ -3,13 +3,12 @@
 use mathlib.Core.Path.{◌≡◌, refl, sym, ap, ◌∙◌, subst}
 use mathlib.Core.Bool.{Bool}
 use mathlib.Core.List.{List, [], ◌∷◌, ◌++◌, append_assoc}
-use Prim.Native.Nat.{ℕ, ◌+◌, ◌-◌, ◌<◌}
+use Prim.Native.Nat.{ℕ, ◌+◌, ◌<◌}
 use native.Mathlib.Omega.{arith}
 use lib.ListN.{length, length-append}
 use Rattle.format.specs.Limits.{most_term_fields}
 use Rattle.format.specs.Refusals.{Cause, limit_passed, text_wrong, value_too_large}
 use Rattle.format.specs.Results.{Result, gives, refused, and_then}
-use Rattle.format.specs.Terms.{fields, size}
 use Rattle.notation.specs.Scans as M
 use Rattle.notation.specs.Scans.{Scan}
 use Rattle.notation.specs.Letters.{is_digit}
