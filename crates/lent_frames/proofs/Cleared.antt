@@ -1,12 +1,11 @@
 -- Frames that are cleared from the front: so many are all zero, and the others are as they were.
 -- Assumes nothing.
 use mathlib.Core.Path.{◌≡◌, refl, sym, ap, subst}
-use mathlib.Core.List.{List, [], ◌∷◌, ◌++◌, append-nil}
-use Prim.Native.Nat.{ℕ, zero, suc, ◌+◌, ◌≤◌, ◌<◌}
+use mathlib.Core.List.{List, [], ◌∷◌, ◌++◌}
+use Prim.Native.Nat.{ℕ, zero, suc, ◌+◌, ◌<◌}
 use native.Mathlib.Nat.{not-suc-le-zero, le_of_suc-le-suc}
 use native.Mathlib.Numerals.{add-one}
-use native.Mathlib.Omega.{arith}
-use lib.ListN.{length, set, drop, replicate, drop_of_length-le}
+use lib.ListN.{length, set, drop, replicate}
 use Rattle.lent_frames.specs.declared.LentFrame.{LentFrame}
 use Rattle.lent_frames.specs.Frames.{no_frame}
 
@@ -20,13 +19,3 @@ one_more (suc n) (f ∷ fs) l = ap (λ (t : List LentFrame). no_frame ∷ t) (on
 
 pub clear_more : (n : ℕ) (fs : List LentFrame) → n < length fs → set (cleared n fs) n no_frame ≡ cleared (n + 1) fs
 clear_more n fs l = subst (λ (k : ℕ). set (cleared n fs) n no_frame ≡ cleared k fs) (sym (add-one n)) (one_more n fs l)
-
-pub clear_length : (n : ℕ) (fs : List LentFrame) → n ≤ length fs → length (cleared n fs) ≡ length fs
-clear_length zero fs l = refl
-clear_length (suc n) [] l = absurd (not-suc-le-zero l)
-clear_length (suc n) (f ∷ fs) l = ap suc (clear_length n fs (le_of_suc-le-suc l))
-
-pub clear_all : (n : ℕ) (fs : List LentFrame) → n ≡ length fs → cleared n fs ≡ replicate (length fs) no_frame
-clear_all n fs e =
-    let past : length fs ≤ n = omega arith in
-    rw (drop_of_length-le fs past, append-nil, e)
