@@ -1,9 +1,9 @@
 -- One term begun: a law for each form. A form that fails writes nothing; one that ends leaves its field; one that enters an inner term leaves its field, a node or both.
 -- Assumes nothing.
-use Prim.Native.Nat.{ℕ, zero, suc, ◌+◌, ◌*◌, ◌/◌, ◌%◌, ◌-◌, ◌≤◌, ◌<◌}
+use Prim.Native.Nat.{ℕ, ◌+◌, ◌*◌, ◌/◌, ◌%◌, ◌≤◌, ◌<◌}
 use mathlib.Core.Path.{◌≡◌, refl, sym, ap, subst, ◌∙◌}
-use mathlib.Core.List.{List, [], ◌∷◌, ◌++◌}
-use mathlib.Core.Option.{Option, none, some}
+use mathlib.Core.List.{List, ◌∷◌, ◌++◌}
+use mathlib.Core.Option.{Option, some}
 use native.Mathlib.Omega.{arith}
 use lib.ListN.{length, get_or, drop}
 use lib.Seq.{paste}
@@ -13,7 +13,7 @@ use Rattle.format.specs.declared.values.Goal.{Goal}
 use Rattle.format.specs.declared.values.Label.{Label}
 use Rattle.format.specs.declared.values.TacticNo.{TacticNo}
 use Rattle.format.specs.Goals.{goals_at}
-use Rattle.format.specs.Terms.{Term, atomic, id, label, sequence, tensor, empty, alternation, assert, defined, size}
+use Rattle.format.specs.Terms.{Term, atomic, id, label, sequence, empty, alternation, assert, defined, size}
 use Rattle.format.specs.Standing.{Stands}
 use Rattle.format.proofs.GoalsAt.{goals_paste}
 use Rattle.tables.specs.declared.lookup.RuleFound.{RuleFound}
@@ -21,7 +21,6 @@ use Rattle.tables.specs.declared.lookup.RuleFound.TheVariants as R
 use Rattle.tables.specs.declared.lookup.BodyFound.{BodyFound}
 use Rattle.tables.specs.declared.lookup.BodyFound.TheVariants as B
 use Rattle.tables.specs.Tables.{Table}
-use Rattle.tables.specs.Lookup.{find_body}
 use Rattle.tables.specs.Standing.{TableStands}
 use Rattle.tables.specs.Found.{rule_found, FindsRule, BodyStands, FindsBody}
 use Rattle.evaluation.specs.Outcomes.{one_goal, no_goal, assert_gives, found_premises, rule_gives}
@@ -41,11 +40,11 @@ use Rattle.search_machine.specs.declared.state.State.{State}
 use Rattle.search_machine.specs.Layout.{arena_low, node_size, step_room, arena_end}
 use Rattle.search_machine.specs.Nodes.{put_node}
 use Rattle.search_machine.specs.Outlines.{field, waiting_outline, OutlineIs}
-use Rattle.search_machine.specs.Shows.{GoalsIs, FrameIs, FramesAt, set_aside, Fits, ChoiceIs, ChoicesAt, Begun, Runs, Gave, Lost, Config, next, gave, lost, Holds}
+use Rattle.search_machine.specs.Shows.{GoalsIs, FrameIs, FramesAt, set_aside, ChoiceIs, ChoicesAt, Begun, Runs, Gave, Lost, Config, next, gave, lost, Holds}
 use Rattle.search_machine.specs.Moves.{failed, giving, noted, pushed, offered, entered, holding, Place}
 use Rattle.search_machine.specs.Begun.{gave_if, enter_if, Room, Stays, DoesIn, Does, leaf_next, sequence_next, alternation_next, label_next, defined_next, sequence_node, or_else_node}
 use Rattle.search_machine.proofs.KeepLaws.{Keeps, goals_kept_lem, outline_kept, frames_kept, waits_kept, choices_kept}
-use Rattle.search_machine.proofs.MoveLaws.{put-length, put_keeps, put_index, push_frames, push_choices, note_length, note_keeps, note_index, note_outlined}
+use Rattle.search_machine.proofs.MoveLaws.{put_keeps, put_index, push_frames, push_choices, note_length, note_keeps, note_index, note_outlined}
 
 -- what a state holds while a term is begun, by itself: its goals, the terms that wait, the outline and the choices
 pub record Held (table job w : List ℕ) (s : State) (g : List Goal) (k : List M.Frame) (c : List M.Choice) : Type 0 where

@@ -1,20 +1,19 @@
 -- What lies below a place stays as it was when only bytes from there on are written, and the outline when only bytes behind it are; and all of it lies below every later place, and
 -- holds after more steps. By induction over waiting terms and choices.
 -- Assumes nothing.
-use Prim.Native.Nat.{ℕ, ◌+◌, ◌*◌, ◌≤◌, ◌<◌}
+use Prim.Native.Nat.{ℕ, ◌+◌, ◌*◌, ◌≤◌}
 use mathlib.Core.Path.{◌≡◌, refl, sym, subst, ◌∙◌}
-use mathlib.Core.List.{List, [], ◌∷◌, ◌++◌}
+use mathlib.Core.List.{List, [], ◌∷◌}
 use native.Mathlib.Omega.{arith}
 use lib.ListN.{length}
 use Rattle.format.specs.declared.values.Goal.{Goal}
-use Rattle.format.specs.Terms.{Term}
 use Rattle.tactics.specs.Memory.{Same}
 use Rattle.tactics.proofs.MemoryLaws.{same_goals}
 use Rattle.outline.proofs.FieldLaws.{take-kept}
 use Rattle.search.specs.Machine as M
 use Rattle.search.specs.Machine.{labelled, sequence_left, sequence_right, tensor_left, tensor_right, or_else, next_split}
 use Rattle.search_machine.specs.declared.nodes.Node.{Node}
-use Rattle.search_machine.specs.Layout.{arena_low, node_size}
+use Rattle.search_machine.specs.Layout.{arena_low}
 use Rattle.search_machine.specs.Nodes.{node_at}
 use Rattle.search_machine.specs.Outlines.{OutlineIs}
 use Rattle.search_machine.specs.Shows.{GoalsIs, NodeBelow, FrameIs, FramesAt, Waits, Besides, ChoiceIs, ChoicesAt}

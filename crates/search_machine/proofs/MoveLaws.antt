@@ -1,10 +1,10 @@
 -- One node written at the top of the arena: a waiting term laid on the others, a choice on the others. One field added to the outline.
 -- Assumes nothing.
-use Prim.Native.Nat.{ℕ, ◌+◌, ◌≤◌, ◌<◌}
+use Prim.Native.Nat.{ℕ, ◌+◌, ◌≤◌}
 use mathlib.Core.Path.{◌≡◌, sym, ap, subst, ◌∙◌}
 use mathlib.Core.List.{List, ◌∷◌, ◌++◌}
 use native.Mathlib.Omega.{arith}
-use lib.ListN.{length, take, length-append}
+use lib.ListN.{length, length-append}
 use Rattle.tactics.specs.Memory.{Same}
 use Rattle.tactics.specs.Numbers.{put_header}
 use Rattle.tactics.proofs.NumberLaws.{only_header}

@@ -1,6 +1,6 @@
 -- A step: the term that stands there is begun as its form asks, by its tag; then the way to the next term.
 -- Assumes nothing.
-use Prim.Native.Nat.{ℕ, zero, suc, ◌+◌, ◌*◌, ◌/◌, ◌%◌, ◌≤◌, ◌<◌}
+use Prim.Native.Nat.{ℕ, zero, suc, ◌+◌, ◌/◌, ◌%◌, ◌≤◌, ◌<◌}
 use mathlib.Core.Path.{◌≡◌, refl, sym, ap, subst, ◌∙◌}
 use mathlib.Core.List.{List, [], ◌∷◌}
 use mathlib.Core.Option.{Option, none, some}
@@ -30,7 +30,7 @@ use Rattle.search.specs.Machine as M
 use Rattle.search.specs.Machine.{labelled, sequence_left, sequence_right, tensor_left, tensor_right, enter_or_back, level_or_back, give_if}
 use Rattle.search_machine.specs.declared.state.State.{State}
 use Rattle.search_machine.specs.Layout.{arena_low, definitions_place, rules_place}
-use Rattle.search_machine.specs.Shows.{FramesAt, ChoicesAt, Begun, Runs, Lost, Config, lost, Holds, settle, Shows}
+use Rattle.search_machine.specs.Shows.{FramesAt, Begun, Runs, Lost, Config, lost, Holds, settle, Shows}
 use Rattle.search_machine.specs.Moves.{counted, failed}
 use Rattle.search_machine.specs.Begun.{gave_if, enter_if, level, begun, Room, Stays, DoesIn, Does, leaf_next, sequence_next, alternation_next, label_next, tensor_next, defined_next}
 use Rattle.search_machine.specs.Popping.{Unwinding, Unwound}

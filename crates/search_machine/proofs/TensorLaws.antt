@@ -2,25 +2,22 @@
 -- Assumes nothing.
 use Prim.Native.Nat.{ℕ, zero, suc, ◌+◌, ◌*◌, ◌/◌, ◌%◌, ◌-◌, ◌≤◌, ◌<◌}
 use mathlib.Core.Path.{◌≡◌, refl, sym, ap, subst, ◌∙◌}
-use mathlib.Core.List.{List, [], ◌∷◌, ◌++◌}
+use mathlib.Core.List.{List, [], ◌∷◌}
 use native.Mathlib.Omega.{arith}
-use lib.ListN.{length, get_or}
+use lib.ListN.{length}
 use Rattle.format.specs.declared.values.Goal.{Goal}
 use Rattle.format.specs.Goals.{goals_at}
 use Rattle.format.specs.Terms.{Term, tensor, size}
 use Rattle.format.specs.Standing.{Stands}
-use Rattle.tactics.specs.Memory.{Same}
 use Rattle.tactics.specs.Numbers.{put_header}
 use Rattle.tactics.specs.Source.{source}
-use Rattle.outline.specs.Layout.{outline_end}
 use Rattle.search.specs.Machine as M
 use Rattle.search.specs.Machine.{tensor_left, next_split, with_next}
 use Rattle.search_machine.specs.declared.nodes.Node.{Node}
 use Rattle.search_machine.specs.declared.state.State.{State}
-use Rattle.search_machine.specs.Layout.{arena_low, node_size, step_room, arena_end}
+use Rattle.search_machine.specs.Layout.{arena_low, node_size}
 use Rattle.search_machine.specs.Nodes.{put_node}
-use Rattle.search_machine.specs.Outlines.{field, waiting_outline, OutlineIs}
-use Rattle.search_machine.specs.Shows.{GoalsIs, FramesAt, set_aside, Besides, ChoiceIs, ChoicesAt, Begun, Runs, Holds}
+use Rattle.search_machine.specs.Shows.{GoalsIs, ChoiceIs, ChoicesAt, Begun, Runs, Holds}
 use Rattle.search_machine.specs.Moves.{noted, pushed, offered, entered, Place}
 use Rattle.search_machine.specs.Begun.{splitting, Room, Stays, Does, tensor_next, tensor_node, split_node, Parts, PartRoom}
 use Rattle.search_machine.proofs.KeepLaws.{Keeps, goals_kept_lem, outline_kept, frames_kept}

@@ -4,7 +4,6 @@ use Rattle.format.specs.declared.values.Goal.{Goal}
 use Rattle.format.specs.Goals.{goals_at}
 use Rattle.format.specs.Terms.{Term}
 use Rattle.format.specs.Standing.{Stands}
-use Rattle.tactics.specs.Memory.{Same}
 use Rattle.tactics.specs.Source.{source}
 use Rattle.outline.specs.Outline.{outline_of}
 use Rattle.search.specs.Machine as M
