@@ -1,0 +1,67 @@
+-- `job::finish_found` meets its contract: the hiproof written into the work space, then by the length of the output space.
+-- Assumes nothing.
+use native.Mathlib.Omega.{arith}
+use Rattle.searcher.proofs.JobLaws.{write_given, finish_small, file_given, short_end, success_end}
+use Rattle.searcher.proofs.job.finish_found.Goals as goal
+
+pub write_outlined-from-requires : goal.write_outlined-from-requires
+write_outlined-from-requires c =
+    let a = c.args in
+    let p = c.requires in write_given a.job.now a.term a.work.now a.s p.0 p.1
+
+pub overflow_sub-bytes : goal.overflow_sub-bytes
+overflow_sub-bytes c =
+    let a = c.args in
+    let p = c.requires in
+    let z = finish_small a.job.now a.term a.work.now a.s p.0 p.1 _ c.write_outlined-from.result c.write_outlined-from.ensures in omega (arith, z)
+
+pub overflow_add-size : goal.overflow_add-size
+overflow_add-size c =
+    let a = c.args in
+    let p = c.requires in
+    let z = finish_small a.job.now a.term a.work.now a.s p.0 p.1 _ c.write_outlined-from.result c.write_outlined-from.ensures in omega (arith, z)
+
+pub overflow_add-size-2 : goal.overflow_add-size-2
+overflow_add-size-2 c =
+    let a = c.args in
+    let p = c.requires in
+    let z = finish_small a.job.now a.term a.work.now a.s p.0 p.1 _ c.write_outlined-from.result c.write_outlined-from.ensures in omega (arith, z)
+
+pub overflow_mul-size : goal.overflow_mul-size
+overflow_mul-size c =
+    let a = c.args in
+    let p = c.requires in
+    let z = finish_small a.job.now a.term a.work.now a.s p.0 p.1 _ c.write_outlined-from.result c.write_outlined-from.ensures in omega (arith, z)
+
+pub overflow_add-size-3 : goal.overflow_add-size-3
+overflow_add-size-3 c =
+    let a = c.args in
+    let p = c.requires in
+    let z = finish_small a.job.now a.term a.work.now a.s p.0 p.1 _ c.write_outlined-from.result c.write_outlined-from.ensures in omega (arith, z)
+
+pub refusal-requires : goal.refusal-requires
+refusal-requires c = (omega arith, omega (arith, c.requires.1.few_steps))
+
+pub returns-then-out-size : goal.returns-then-out-size
+returns-then-out-size c =
+    let a = c.args in
+    let p = c.requires in
+    short_end a.job.now a.term a.work.now a.s p.0 p.1 _ c.write_outlined-from.result c.write_outlined-from.ensures a.out.now _ (omega (arith, c.if-out-size.true)) c.refusal.ensures
+
+pub write_file-requires : goal.write_file-requires
+write_file-requires c =
+    let a = c.args in
+    let p = c.requires in
+    file_given a.job.now a.term a.work.now a.s p.0 p.1 _ c.write_outlined-from.result c.write_outlined-from.ensures a.out.now (omega (arith, c.if-out-size.false))
+
+pub wrote-requires : goal.wrote-requires
+wrote-requires c =
+    let a = c.args in
+    let p = c.requires in
+    let z = finish_small a.job.now a.term a.work.now a.s p.0 p.1 _ c.write_outlined-from.result c.write_outlined-from.ensures in (omega (arith, z), omega (arith, p.1.few_steps))
+
+pub returns : goal.returns
+returns c =
+    let a = c.args in
+    let p = c.requires in
+    success_end a.job.now a.term a.work.now a.s p.0 p.1 _ c.write_outlined-from.result c.write_outlined-from.ensures a.out.now _ _ (omega (arith, c.if-out-size.false)) c.write_file.ensures c.wrote.ensures
