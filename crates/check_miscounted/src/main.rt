@@ -1,6 +1,6 @@
 // The check program on goal 10 with term id * id: refused 34 at place 11.
 #![tactic(auto)]
 
-fn main() {
-    check_kit::run();
+fn main(rt: HostRuntime) -> std::io::Result<()> {
+    check_kit::run(&rt)
 }

@@ -1,6 +1,6 @@
 // The check program with a proof.hip of zero bytes: the empty proof, which is accepted in every table that reads.
 #![tactic(auto)]
 
-fn main() {
-    check_kit::run();
+fn main(rt: HostRuntime) -> std::io::Result<()> {
+    check_kit::run(&rt)
 }

@@ -1,6 +1,6 @@
 // The check program without table.kit, on a proof that needs no rule: zero bytes are a table with neither.
 #![tactic(auto)]
 
-fn main() {
-    check_kit::run();
+fn main(rt: HostRuntime) -> std::io::Result<()> {
+    check_kit::run(&rt)
 }

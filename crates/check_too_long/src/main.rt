@@ -1,6 +1,6 @@
 // The check program on a table of more than 65,535 bytes.
 #![tactic(auto)]
 
-fn main() {
-    check_kit::run();
+fn main(rt: HostRuntime) -> std::io::Result<()> {
+    check_kit::run(&rt)
 }

@@ -1,6 +1,6 @@
 // The check program on a table that is cut off in its second rule.
 #![tactic(auto)]
 
-fn main() {
-    check_kit::run();
+fn main(rt: HostRuntime) -> std::io::Result<()> {
+    check_kit::run(&rt)
 }
