@@ -13,9 +13,9 @@ mod load;
 
 use answers::Answer;
 use checker::check::check;
-use libc::STDOUT_FILENO;
 use line::put_line;
 use load::load;
+use std::io::Print;
 
 // The answer whose line is printed. Without a proof it is that of a proof of one byte, which is 2 at place 0 once the table is read.
 fn answer_for(table: &[u8], proof: &[u8], opened: bool, work: &mut [u8]) -> Answer
@@ -45,16 +45,16 @@ pub fn check_line(
 }
 
 // The whole program: loads both files, and writes the line of check_line once. A table.kit that cannot be opened counts as zero bytes; of proof.hip check_line is told whether it was opened.
-// What the C library reads and writes is outside the logic, so that no contract says it.
-pub fn run() {
-    let mut table = io::large_buffer();
-    let mut proof = io::large_buffer();
-    let mut work = io::large_buffer();
+// What the system reads and writes is outside the logic, so that no contract says it.
+pub fn run(rt: &HostRuntime) -> std::io::Result<()> {
+    let mut table = [0u8; 65536];
+    let mut proof = [0u8; 65536];
+    let mut work = [0u8; 65536];
     let mut line = [0u8; 80];
-    let kit = load(b"table.kit", &mut table);
-    let hip = load(b"proof.hip", &mut proof);
+    let kit = load(rt, "table.kit", &mut table);
+    let hip = load(rt, "proof.hip", &mut proof);
     let t = kit.count;
     let p = hip.count;
     let n = check_line(&table[..t], &proof[..p], hip.opened, &mut work, &mut line);
-    io::write_all(STDOUT_FILENO, &line[..n]);
+    rt.write_all(&line[..n])
 }
