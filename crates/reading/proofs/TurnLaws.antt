@@ -25,7 +25,6 @@ use Rattle.format.proofs.Lengths.{short_field}
 use Rattle.parts.specs.declared.state.State.{State}
 use Rattle.parts.specs.States.{refusing, stepped, end_of}
 use Rattle.reading.specs.Waiting.{reading_room, go_on, reads, closing, put_waiting, resumed, told, outcome, Waits, Going, weight, Held, Moved, Turned}
-use Rattle.reading.proofs.TermLaws.{within}
 use Rattle.reading.proofs.ShapeLaws.{reads_refused, reads-leaf, reads_inner}
 use Rattle.reading.proofs.WaitLaws.{resumed_refused, resumed_top, waits_top, waits_on, waits_lower, waits_inside, resumed_below, waits_below, waiting_kept, waiting-length, waiting_place, waiting_left}
 

@@ -1,0 +1,17 @@
+-- `reading::read_on`: the loop keeps what was reached from the first state, and the reader at the place of the state.
+use Rattle.std.proofs.Common.{◌≡◌}
+use Rattle.reading.specs.Waiting.{weight}
+use Rattle.reading.specs.Reading.{Reading, Reaches}
+use Rattle.reading.proofs.read_on.Given as goal
+
+abbrev pub invariant-loop-x : goal.invariant-loop-x
+invariant-loop-x l = record {
+  reached : Reaches l.file l.base l.initial.work l.initial.x l.work l.x;
+  reading : Reading l.file l.work l.base l.x;
+  file : l.reader.file.now ≡ l.file;
+  at : l.reader.at ≡ l.x.at;
+  end : l.reader.end ≡ l.x.end;
+}
+
+abbrev pub decreases-loop-x : goal.decreases-loop-x
+decreases-loop-x l = weight l.file l.x

@@ -1,0 +1,86 @@
+-- `waiting::enter` meets its contract: the header says which step it is.
+-- Assumes nothing.
+use mathlib.Core.Path.{◌≡◌, refl, sym, ◌∙◌}
+use mathlib.Core.List.{List}
+use Prim.Native.Nat.{ℕ, ◌+◌, ◌-◌, ◌≤◌, ◌<◌}
+use native.Mathlib.Omega.{arith}
+use lib.Dec.{leb}
+use lib.ListN.{length}
+use borrow.Author.Tests.{leb-false}
+use Rattle.format.specs.declared.headers.HeaderRead.{HeaderRead}
+use Rattle.format.specs.declared.headers.HeaderRead.TheVariants as H
+use Rattle.format.specs.Limits.{most_term_fields}
+use Rattle.format.specs.Results.{gives}
+use Rattle.format.specs.Tags.{hiproof_kind, least_of}
+use Rattle.format.specs.Headers.{header, header_at}
+use Rattle.format.proofs.HeaderLaws.{IsField, is_field, told-field}
+use Rattle.parts.specs.declared.state.State.{State}
+use Rattle.reading.specs.Waiting.{Enters}
+use Rattle.reading.proofs.TurnLaws.{gap_fits, enter_refused, enter-leaf, enter_inner}
+use Rattle.reading.proofs.waiting.enter.Goals as goal
+
+-- what is told of the field
+header_is : (s w : List ℕ) (high base : ℕ) (x : State) (h : HeaderRead) (tag len : ℕ) → Enters s w high base x h → h ≡ H.Field tag len → header_at s x.at x.end hiproof_kind high (leb most_term_fields x.fields) ≡ gives (header tag len)
+header_is s w high base x h tag len e is = told-field _ _ _ (sym e.header_is ∙ is)
+
+-- the sums and places that the field needs
+record Fits (w : List ℕ) (base : ℕ) (x : State) (tag len : ℕ) : Type 0 where
+  close : x.at + 3 + len ≤ x.end
+  fields : x.fields < 4096
+  depth : x.depth ≤ x.fields
+  room : base + 16384 ≤ length w
+  gap : x.at - x.top ≤ 65535
+  least : least_of tag ≤ len
+
+fits : (s w : List ℕ) (high base : ℕ) (x : State) (h : HeaderRead) (tag len : ℕ) → Enters s w high base x h → h ≡ H.Field tag len → Fits w base x tag len
+fits s w high base x h tag len e is =
+    let f : IsField s x.at x.end hiproof_kind high (leb most_term_fields x.fields) tag len = is_field _ _ _ _ _ _ _ _ (header_is s w high base x h tag len e is) in
+    record {
+      close = f.contents;
+      fields = leb-false _ _ f.room;
+      depth = e.going.few;
+      room = e.going.room;
+      gap = gap_fits _ _ _ _ e.going e.reading f.header-fits;
+      least = f.least;
+    }
+
+pub overflow_add-close : goal.overflow_add-close
+overflow_add-close c = omega (arith, fits _ _ _ _ _ _ _ _ c.requires.2 c.in-Field.is)
+
+pub overflow_add-close-in-Field : goal.overflow_add-close-in-Field
+overflow_add-close-in-Field c = omega (arith, fits _ _ _ _ _ _ _ _ c.requires.2 c.in-Field.is)
+
+pub overflow_add-fields : goal.overflow_add-fields
+overflow_add-fields c = omega (arith, fits _ _ _ _ _ _ _ _ c.requires.2 c.in-Field.is)
+
+pub overflow_mul-low : goal.overflow_mul-low
+overflow_mul-low c = omega (arith, fits _ _ _ _ _ _ _ _ c.requires.2 c.in-Field.is)
+
+pub overflow_add-low : goal.overflow_add-low
+overflow_add-low c = omega (arith, fits _ _ _ _ _ _ _ _ c.requires.2 c.in-Field.is)
+
+pub overflow_cast-at : goal.overflow_cast-at
+overflow_cast-at c = omega (arith, fits _ _ _ _ _ _ _ _ c.requires.2 c.in-Field.is)
+
+pub push-requires : goal.push-requires
+push-requires c = omega (arith, fits _ _ _ _ _ _ _ _ c.requires.2 c.in-Field.is)
+
+pub overflow_add-next : goal.overflow_add-next
+overflow_add-next c = omega (arith, fits _ _ _ _ _ _ _ _ c.requires.2 c.in-Field.is)
+
+pub overflow_add-next-in-Field : goal.overflow_add-next-in-Field
+overflow_add-next-in-Field c = omega (arith, fits _ _ _ _ _ _ _ _ c.requires.2 c.in-Field.is, c.least_at.ensures _ c.row_of-row.ensures.0)
+
+pub overflow_add-x : goal.overflow_add-x
+overflow_add-x c = omega (arith, fits _ _ _ _ _ _ _ _ c.requires.2 c.in-Field.is)
+
+pub returns-in-Refused : goal.returns-in-Refused
+returns-in-Refused c = λ s high b. rw c.refused.ensures (enter_refused _ _ _ _ _ b.going b.reading _ _ (sym b.header_is ∙ c.in-Refused.is))
+
+pub returns-then-inner-eq0 : goal.returns-then-inner-eq0
+returns-then-inner-eq0 c = λ s high b. rw c.stepped.ensures (enter-leaf _ _ _ _ _ b.going b.reading _ _ _ _ (header_is _ _ _ _ _ _ _ _ b c.in-Field.is) refl (c.inner_at-inner.ensures _ c.row_of-row.ensures.0) c.if-inner-eq0.true)
+
+pub returns-else-inner-eq0 : goal.returns-else-inner-eq0
+returns-else-inner-eq0 c =
+    let r = c.row_of-row.ensures.0 in
+    λ s high b. rw c.stepped-in-Field.ensures (enter_inner _ _ _ _ _ b.going b.reading _ _ _ _ (header_is _ _ _ _ _ _ _ _ b c.in-Field.is) refl (c.inner_at-inner.ensures _ r) _ (c.least_at.ensures _ r) c.if-inner-eq0.false _ c.push.ensures)
