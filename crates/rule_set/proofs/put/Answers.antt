@@ -28,7 +28,7 @@ overflow_add-w c =
     let byte : ℕ = get_or c.args.w.now (c.args.base + c.args.number / 8) 0 in
     let bit : ℕ = c.args.number % 8 in
     let not_set : bit_of byte bit ≡ 0 = omega (arith, c.if-byte-bit-eq1.false) in
-    let small : byte < 256 = omega (arith, c.slice_known-2-1.given (c.args.base + c.args.number / 8)) in
+    let small : byte < 256 = omega arith in
     omega (arith, shifted bit (omega arith), bit_fits byte bit (omega arith) small not_set)
 
 pub returns : goal.returns
