@@ -1,0 +1,16 @@
+-- `seen::mark_of` meets its contract, by the number.
+-- Assumes nothing.
+use mathlib.Core.Path.{sym, ap, ◌∙◌}
+use Prim.Native.Nat.{ℕ, ◌/◌}
+use native.Mathlib.Omega.{arith}
+use Rattle.seen.proofs.SeenLaws.{mark_nine, mark_seven}
+use Rattle.seen.proofs.mark_of.Goals as goal
+
+pub returns-then-number-eq9 : goal.returns-then-number-eq9
+returns-then-number-eq9 c = sym (mark_nine _ _ _ c.if-number-eq9.true)
+
+pub overflow_cast-result : goal.overflow_cast-result
+overflow_cast-result c = omega (arith, c.load16.ensures, c.requires.1.fits, mark_seven c.args.number c.args.s.now c.args.at c.if-number-eq9.false)
+
+pub returns : goal.returns
+returns c = ap (λ (k : ℕ). k / 2) c.load16.ensures ∙ sym (mark_seven _ _ _ c.if-number-eq9.false)
