@@ -4,7 +4,7 @@ ghost use Rattle.arities.specs.Layout.{space_end};
 ghost use Rattle.arities.specs.Rounds.{Updated, RoundGiven, Rounded, FillGiven, Settled, Cleared, Filled};
 
 use crate::arity::arity_of;
-use crate::layout::{FRAMES_END, TABLE_NOTES};
+use crate::layout::{FRAMES_END, SPACE_END};
 use format::values::{TacticNo, tactic_no_at};
 use words::{clear, load16, store16};
 
