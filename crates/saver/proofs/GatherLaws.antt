@@ -14,7 +14,7 @@ use Rattle.tactics.specs.Numbers.{triple}
 use Rattle.frames.specs.declared.Frame.{Frame}
 use Rattle.frames.specs.Frames.{frame_at}
 use Rattle.saver.specs.declared.gather.Gathered.{Gathered}
-use Rattle.saver.specs.Gather.{own_count_of, held_after, own_start, lent_frame, gathered_of, FrameFits, gathered, AllFit, GatherGiven, Gathers}
+use Rattle.saver.specs.Gather.{own_count_of, held_after, own_start, lent_frame, gathered_of, FrameFits, gathered, AllFit, Gathers}
 
 module _ (k c x : ℕ) where
   pub own_4 : k ≡ 4 → c ≡ own_count_of k c x
@@ -89,19 +89,6 @@ pub record GatherTurn (w : List ℕ) (fs₀ : List LentFrame) (top inside : ℕ)
   pub fit : AllFit w at x left
   pub same : take n fs ++ gathered w at x left ++ drop total fs ≡ gathered w top inside total ++ drop total fs₀
 
-pub gather_start : (w : List ℕ) (fs : List LentFrame) (top x : ℕ) → GatherGiven w fs top x → GatherTurn w fs top x fs 0 top x
-gather_start w fs top x h = record {
-  total = h.count;
-  left = h.count;
-  ends = h.ends;
-  ends_here = h.ends;
-  counted = omega arith;
-  room = h.room;
-  space = h.space;
-  fit = h.fit;
-  same = refl;
-}
-
 module _ (w : List ℕ) (fs₀ : List LentFrame) (top inside : ℕ) (fs : List LentFrame) (n at x : ℕ) (q : GatherTurn w fs₀ top inside fs n at x) where
   -- a frame is still to come
   one_left : at < frames_end → (k : ℕ) × (q.left ≡ suc k)
@@ -118,7 +105,7 @@ module _ (w : List ℕ) (fs₀ : List LentFrame) (top inside : ℕ) (fs : List L
   pub gather_at_given : at < frames_end → (at + 18 < length w) × FrameFits (frame_at w at) x
   gather_at_given h = let o = one_left h in (omega (arith, q.ends_here, o.1, q.space), (first_fits o.0 o.1).0)
 
-  pub gather_push_given : at < frames_end → n < length fs
+  gather_push_given : at < frames_end → n < length fs
   gather_push_given h = let o = one_left h in omega (arith, q.counted, q.room, o.1)
 
   pub gather_next : at < frames_end → (g : Gathered) → g ≡ gathered_of (frame_at w at) x → (n' : ℕ) → n' ≡ n + 1 → (fs' : List LentFrame) → fs' ≡ set fs n g.frame

@@ -43,10 +43,6 @@ contents_parts : (n : ℕ) (π : M.Place) (g : List Goal) (k : List M.Frame) →
 unfolding saved_contents head_bytes
 contents_parts n π g k = refl
 
--- a run that has ended saves nothing
-pub save_same : (w : List ℕ) (s : State) (end : ℕ) → (s.mode ≡ 0 → ⊥) → Saves w s end w
-save_same w s end n = record { ended = λ _. refl; halted = λ m. absurd (n m) }
-
 module _ (w : List ℕ) (fs : List LentFrame) (s : State) (q : SaveGiven w fs s) (m : s.mode ≡ 0) where
   abbrev h : Halts w s
   h = q.halts m

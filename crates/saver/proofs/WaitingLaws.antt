@@ -90,12 +90,9 @@ pub record WaitingTurn (w₀ : List ℕ) (fs : List LentFrame) (n to₀ : ℕ) (
   pub ends : to + length (frames_bytes w₀ (take left fs)) ≡ to₀ + length (frames_bytes w₀ (take n fs))
   pub same : put w to (frames_bytes w₀ (take left fs)) ≡ put w₀ to₀ (frames_bytes w₀ (take n fs))
 
-pub waiting-start : (w : List ℕ) (fs : List LentFrame) (n to : ℕ) → WaitingGiven w fs n to → WaitingTurn w fs n to w n to
-waiting-start w fs n to h = record { given = h; few = omega arith; same_length = refl; front = refl; further = omega arith; ends = refl; same = refl }
-
 module _ (w₀ : List ℕ) (fs : List LentFrame) (n to₀ : ℕ) (w : List ℕ) (left to : ℕ) (q : WaitingTurn w₀ fs n to₀ w left to) where
-  pub waiting-pop_given : 0 < left → left - 1 < length fs
-  waiting-pop_given h = omega (arith, h, q.few, q.given.lent)
+  waiting_pop_given : 0 < left → left - 1 < length fs
+  waiting_pop_given h = omega (arith, h, q.few, q.given.lent)
 
   module _ (h : 0 < left) (f : LentFrame) (is : f ≡ get_or fs (left - 1) no_frame) where
     frame_low : Low f
@@ -111,7 +108,7 @@ module _ (w₀ : List ℕ) (fs : List LentFrame) (n to₀ : ℕ) (w : List ℕ) 
     first_is =
         let s : left ≡ suc (left - 1) = omega (arith, h) in
         ap (λ (j : ℕ). frames_bytes w₀ (take j fs)) s
-        ∙ ap (frames_bytes w₀) (take-suc fs (left - 1) no_frame (waiting-pop_given h) ∙ ap (λ (x : LentFrame). take (left - 1) fs ++ (x ∷ [])) (sym is))
+        ∙ ap (frames_bytes w₀) (take-suc fs (left - 1) no_frame (waiting_pop_given h) ∙ ap (λ (x : LentFrame). take (left - 1) fs ++ (x ∷ [])) (sym is))
         ∙ frames_snoc w₀ (take (left - 1) fs) f
         ∙ ap (λ (a : List ℕ). a ++ frames_bytes w₀ (take (left - 1) fs)) (sym here_is)
 
