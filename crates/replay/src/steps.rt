@@ -9,7 +9,7 @@ use crate::records::{
     load_case, load32,
 };
 use crate::tally::{Tally, nothing, one_case, sum};
-use libc::STDOUT_FILENO;
+use crate::{print, print_decimal};
 
 // No vector file is longer.
 const LONGEST: usize = 1000000;
@@ -28,21 +28,21 @@ pub struct Progress {
 }
 
 // Names a case that differs, counted from 0 as the second engine does.
-fn print_difference(name: &[u8], number: u64) {
-    io::write_all(STDOUT_FILENO, name);
-    io::write_all(STDOUT_FILENO, b" case ");
-    io::print_decimal(STDOUT_FILENO, number);
-    io::write_all(STDOUT_FILENO, b" differs\n");
+fn print_difference(rt: &HostRuntime, name: &[u8], number: u64) {
+    print(rt, name);
+    print(rt, b" case ");
+    print_decimal(rt, number);
+    print(rt, b" differs\n");
 }
 
 // The counts with one case more, which is named if it differs.
-fn count_case(name: &[u8], before: Tally, case: Tally) -> Tally
+fn count_case(rt: &HostRuntime, name: &[u8], before: Tally, case: Tally) -> Tally
     requires { Below before 1000000 × Below case 1 }
     ensures { Sum before case result }
 {
     if case.differences != 0 {
         if before.differences < MOST_NAMED {
-            print_difference(name, before.cases);
+            print_difference(rt, name, before.cases);
         }
     }
     sum(before, case)
@@ -74,6 +74,7 @@ fn stopped(s: &[u8], p: Progress, ended: bool) -> Progress
 
 // A case record.
 fn step_case(
+    rt: &HostRuntime,
     name: &[u8],
     s: &[u8],
     table: &[u8],
@@ -103,7 +104,7 @@ fn step_case(
     let t = p.table;
     let o = p.other;
     let counted = replay_case(case, &table[..t], &other[..o], work);
-    let tally = count_case(name, p.tally, counted);
+    let tally = count_case(rt, name, p.tally, counted);
     Progress {
         at: at + size,
         table: t,
@@ -147,6 +148,7 @@ fn step_other(s: &[u8], other: &mut [u8], p: Progress) -> Progress
 
 // The record at the present place.
 fn step(
+    rt: &HostRuntime,
     name: &[u8],
     s: &[u8],
     table: &mut [u8],
@@ -166,7 +168,7 @@ fn step(
         return step_other(s, other, p);
     }
     if kind == CASE {
-        return step_case(name, s, table, other, work, p);
+        return step_case(rt, name, s, table, other, work, p);
     }
     // Nothing follows an end record.
     if kind != END {
@@ -177,6 +179,7 @@ fn step(
 
 // All records behind the header.
 fn replay_records(
+    rt: &HostRuntime,
     name: &[u8],
     s: &[u8],
     table: &mut [u8],
@@ -195,21 +198,18 @@ fn replay_records(
         tally: none,
     };
     while p.at < s.len() {
-        p = step(name, s, table, other, work, p);
+        p = step(rt, name, s, table, other, work, p);
     }
     p
 }
 
 // The counts with one difference more, for a vector file that is damaged or needs longer buffers.
-fn damaged(name: &[u8], tally: Tally) -> Tally
+fn damaged(rt: &HostRuntime, name: &[u8], tally: Tally) -> Tally
     requires { Below tally 1000000 }
     ensures { Below result 1000001 }
 {
-    io::write_all(STDOUT_FILENO, name);
-    io::write_all(
-        STDOUT_FILENO,
-        b" is damaged, or gives a file longer than the buffer\n",
-    );
+    print(rt, name);
+    print(rt, b" is damaged, or gives a file longer than the buffer\n");
     Tally {
         cases: tally.cases,
         reading: tally.reading,
@@ -220,27 +220,34 @@ fn damaged(name: &[u8], tally: Tally) -> Tally
 }
 
 // A whole vector file. The table and the other file are expanded into the lent buffers; cases lend at most the work space.
-pub fn replay(name: &[u8], s: &[u8], table: &mut [u8], other: &mut [u8], work: &mut [u8]) -> Tally
+pub fn replay(
+    rt: &HostRuntime,
+    name: &[u8],
+    s: &[u8],
+    table: &mut [u8],
+    other: &mut [u8],
+    work: &mut [u8],
+) -> Tally
     ensures { Below result 1000001 }
 {
     if s.len() < HEADER {
-        return damaged(name, nothing());
+        return damaged(rt, name, nothing());
     }
     if LONGEST < s.len() {
-        return damaged(name, nothing());
+        return damaged(rt, name, nothing());
     }
     let right = begins_right(s);
     if !right {
-        return damaged(name, nothing());
+        return damaged(rt, name, nothing());
     }
     let cases = load32(s, 10);
-    let p = replay_records(name, s, table, other, work);
+    let p = replay_records(rt, name, s, table, other, work);
     let tally = p.tally;
     if !p.ended {
-        return damaged(name, tally);
+        return damaged(rt, name, tally);
     }
     if tally.cases != cases as u64 {
-        return damaged(name, tally);
+        return damaged(rt, name, tally);
     }
     tally
 }

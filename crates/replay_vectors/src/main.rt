@@ -1,6 +1,6 @@
 // Replays the vector files of data/ against the engine: the gate compares what it prints with stdout.
 #![tactic(auto)]
 
-fn main() {
-    replay::run();
+fn main(rt: HostRuntime) {
+    replay::run(&rt);
 }

@@ -1,0 +1,13 @@
+-- `calls::flatten_agrees` meets its contract: the answer is the definition's for the filled spaces, and what is told is the same.
+-- Assumes nothing.
+use mathlib.Core.Path.{sym, ◌∙◌}
+use Rattle.entries.specs.Check as entry
+use Rattle.replay.proofs.calls.flatten_agrees.Goals as goal
+
+pub returns : goal.returns
+returns c e =
+    let a = c.args in
+    let w = c.fill.ensures in
+    let o = c.fill-2.ensures in
+    sym (c.flatten-answer.ensures.answer ∙ (λ i. (entry.flatten a.table.now a.proof.now (w i) (o i)).answer))
+    ∙ c.wrote_as_told.ensures e

@@ -1,0 +1,9 @@
+-- `calls::replay_call` meets its contract: the part that it lends is within the work space.
+-- Assumes nothing.
+use mathlib.Core.Path.{sym}
+use lib.Seq.{length-take-le}
+use borrow.Author.Rules.{rules}
+use Rattle.replay.proofs.calls.replay_call.Goals as goal
+
+pub slice_bounds-call_in_array-end-2 : goal.slice_bounds-call_in_array-end-2
+slice_bounds-call_in_array-end-2 c = sym (length-take-le _ _ (search rules))
