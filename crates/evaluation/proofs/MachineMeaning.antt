@@ -59,7 +59,7 @@ module _ (T : Table) (rules : UniqueRules T) (definitions : UniqueDefinitions T)
   run-ending b n f q = let (e, r, p, h) = run_traced T definitions b π t g n f q in (e, p, r)
 
   -- SPENT: the machine still runs when b steps are taken exactly if the rules have no end within the budget (and its steps are
-  -- then the budget: `spent-steps` of RunLaws).
+  -- then the budget: `spent_steps` of RunLaws).
   pub running↔no_end : (b : ℕ) → Running (run T b (start π t g)).control ↔ ((n : ℕ) (e : End) → Ends T FewHeld 0 g t n e → n ≤ b → ⊥)
   running↔no_end b = (
     (λ r n e s h. subst (λ (σ : State). Running σ.control) (ends_run s h) r),

@@ -47,6 +47,6 @@ unfoldable pub arity_after : (unfoldings : ℕ) → List Definition → TacticNo
 arity_after zero ds n = none
 arity_after (suc k) ds n = body_arity (arity_after k ds) (find_body_in ds n)
 
--- As many unfoldings as there are definitions give every arity that finitely many give (`arity-all` of proofs/UnfoldingLaws).
+-- As many unfoldings as there are definitions give every arity that finitely many give (`arity_all` of proofs/UnfoldingLaws).
 unfoldable pub tactic_arity : Table → Term → Option ℕ
 tactic_arity T t = arity_in (arity_after (length T.definitions) T.definitions) t

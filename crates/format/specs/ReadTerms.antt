@@ -51,7 +51,7 @@ unfoldable pub term_of : (rec : ℕ → ℕ → ℕ → Result ParsedTerm) → L
 term_of rec s at n h = contents rec s at h.tag (at + 3 + h.len) (n + 1) (inner_of h.tag)
 
 -- The term at a place, within what ends at `end`, where count term fields were begun before it; kinds up to high may stand in it.
--- The first argument bounds how deep terms stand in one another: any above end - at does (`Depth.same-depth`).
+-- The first argument bounds how deep terms stand in one another: any above end - at does (`Depth.same_depth`).
 unfoldable pub read_term : (depth : ℕ) → List ℕ → (high at end count : ℕ) → Result ParsedTerm
 read_term zero s high at end n = refused field_torn at
 read_term (suc d) s high at end n = and_then (header_at s at end hiproof_kind high (leb most_term_fields n)) (term_of (read_term d s high) s at n)

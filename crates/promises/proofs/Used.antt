@@ -1,4 +1,4 @@
--- The rules used in a proof that validates, and in a flat derivation, are those whose numbers hitac's `walkedRules` and `flatRules` list: so the count of different numbers is the size of the set of them.
+-- The rules used in a proof that validates, and in a flat derivation, are those whose numbers hitac's `walked_rules` and `flat_rules` list: so the count of different numbers is the size of the set of them.
 -- Assumes nothing.
 use Prim.Native.Nat.{ℕ, ◌≤◌}
 use native.Mathlib.Omega.{arith}

@@ -20,7 +20,7 @@ pub record FieldsCounted (s : List ℕ) (at before : ℕ) (x : ParsedTerm) : Typ
   -- the reader's own count, by which it refuses with 5, goes up by the same number
   pub read_count : (n : ℕ) → Counted s at x.next n ↔ (before + n ≡ x.count)
 
--- "For every term the reader takes it is exactly the number of term fields in it": in any file, and within any other term, since an inner term is read by the same `readTerm`
+-- "For every term the reader takes it is exactly the number of term fields in it": in any file, and within any other term, since an inner term is read by the same `read_term`
 abbrev pub Count-reads : Type 0
 Count-reads = (depth : ℕ) (s : List ℕ) (high at end before : ℕ) (x : ParsedTerm) → high ≤ tactic_kind → end ≤ length s → read_term depth s high at end before ≡ gives x → FieldsCounted s at before x
 

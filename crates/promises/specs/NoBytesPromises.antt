@@ -20,7 +20,7 @@ use Rattle.entries.specs.CheckProgram.{check_program}
 use Rattle.entries.specs.Worked.{no_goals_proof, no_bytes_line, unopened_line}
 use Rattle.promises.specs.WriteProofPromises.{wrote}
 
--- "no goals, the empty hiproof and none remaining": said here once more, so that what is stated of it holds `emptyProof` to these words
+-- "no goals, the empty hiproof and none remaining": said here once more, so that what is stated of it holds `empty_proof` to these words
 abbrev pub no_goals : Proof
 no_goals = record { goals = []; term = empty; remaining = [] }
 

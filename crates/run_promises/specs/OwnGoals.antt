@@ -6,7 +6,7 @@ use Rattle.evaluation.specs.Machine.{Frame}
 use Rattle.evaluation.specs.Halts.{stage, own_goals, held_of, rebuilt, IsWhole}
 use Rattle.run_promises.specs.HaltingPromises.{HaltsAfter}
 
--- From the innermost waiting term on, by the stage and the goals that `waitingTerms` writes of each, and the goals rebuilt inside it.
+-- From the innermost waiting term on, by the stage and the goals that `waiting_terms` writes of each, and the goals rebuilt inside it.
 unfoldable pub Rebuilds : (held : ℕ) → (inside : List Goal) → List Frame → Type 0
 Rebuilds x y [] = Unit {0}
 Rebuilds x y (f ∷ w) = IsWhole f (rebuilt y (stage f) (own_goals x f)) × Rebuilds (held_of x f) (rebuilt y (stage f) (own_goals x f)) w

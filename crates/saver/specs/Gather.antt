@@ -6,7 +6,7 @@ use Rattle.frames.specs.declared.Frame.{Frame}
 use Rattle.frames.specs.Frames.{frame_at}
 use Rattle.saver.specs.declared.gather.Gathered.{Gathered}
 
--- how many of a waiting term's goals no term inside it holds (evaluation's `ownGoals`)
+-- how many of a waiting term's goals no term inside it holds (evaluation's `own_goals`)
 unfoldable pub own_count_of : (kind count inside : ℕ) → ℕ
 own_count_of k c x = cond (eqb k 4) c (cond (eqb k 5) c (cond (eqb k 6) (c - x) 0))
 

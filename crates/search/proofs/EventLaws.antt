@@ -1,4 +1,4 @@
--- Laws of `forEach` and of what is found among events, by induction over the events.
+-- Laws of `for_each` and of what is found among events, by induction over the events.
 -- Assumes nothing.
 use Prim.Native.Nat.{ℕ}
 use mathlib.Core.Path.{◌≡◌, refl, ap, sym, ◌∙◌, subst⁻¹}

@@ -5,7 +5,7 @@ use Rattle.index.specs.Layout.{rules_room}
 use Rattle.seen.specs.Layout.{seen_room}
 use Rattle.whole_table.specs.Layout.{reading_scratch}
 
--- First the outline of the hiproof so far, `outlineEnd` of crate outline: a term that is begun adds at most one field, of three bytes. Behind it comes what writing the hiproof needs.
+-- First the outline of the hiproof so far, `outline_end` of crate outline: a term that is begun adds at most one field, of three bytes. Behind it comes what writing the hiproof needs.
 
 -- the index over the definitions, and the one over the rules
 abbrev pub definitions_place : ℕ

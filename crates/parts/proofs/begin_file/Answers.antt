@@ -1,4 +1,4 @@
--- `parts::begin_file` meets its contract: the test of the length says which case of `begunFile` holds.
+-- `parts::begin_file` meets its contract: the test of the length says which case of `begun_file` holds.
 -- Assumes nothing.
 use mathlib.Core.Path.{◌≡◌, ap, ◌∙◌}
 use native.Mathlib.Omega.{arith}

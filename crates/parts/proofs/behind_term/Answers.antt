@@ -1,4 +1,4 @@
--- `parts::behind_term` meets its contract: the tests of the part and of the place say which case of `behindTerm` holds.
+-- `parts::behind_term` meets its contract: the tests of the part and of the place say which case of `behind_term` holds.
 -- Assumes nothing.
 use mathlib.Core.Path.{ap, ◌∙◌}
 use Prim.Native.Nat.{◌+◌}

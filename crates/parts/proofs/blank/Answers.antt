@@ -1,4 +1,4 @@
--- `parts::blank` meets its contract: the state is what `blankState` says.
+-- `parts::blank` meets its contract: the state is what `blank_state` says.
 -- Assumes nothing.
 use mathlib.Core.Path.{refl}
 use Rattle.parts.specs.States.{blank_state}

@@ -1,4 +1,4 @@
--- `parts::entry` meets its contract: the test of the tag says which case of `entryTaken` holds.
+-- `parts::entry` meets its contract: the test of the tag says which case of `entry_taken` holds.
 -- Assumes nothing.
 use native.Mathlib.Omega.{arith}
 use borrow.Author.Tests.{eq-eqb, ne_eqb}

@@ -1,4 +1,4 @@
--- `parts::goal_list` meets its contract: the tests of the count and of the part say which case of `listTaken` holds.
+-- `parts::goal_list` meets its contract: the tests of the count and of the part say which case of `list_taken` holds.
 -- Assumes nothing.
 use mathlib.Core.Path.{◌≡◌, ap, ◌∙◌}
 use mathlib.Core.Bool.{true, false}

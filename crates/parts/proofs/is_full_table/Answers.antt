@@ -1,4 +1,4 @@
--- `parts::is_full_table` meets its contract: the test of the tag says which case of `fullTable` holds.
+-- `parts::is_full_table` meets its contract: the test of the tag says which case of `full_table` holds.
 -- Assumes nothing.
 use borrow.Author.Tests.{eq-eqb, ne_eqb}
 use Rattle.format.specs.Next.{full_table}

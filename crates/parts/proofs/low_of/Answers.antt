@@ -1,4 +1,4 @@
--- `parts::low_of` meets its contract: the tests of the part say which case of `lowOf` holds.
+-- `parts::low_of` meets its contract: the tests of the part say which case of `low_of` holds.
 -- Assumes nothing.
 use native.Mathlib.Omega.{arith}
 use borrow.Author.Tests.{lt-ltb, le-ltb, eq-eqb, ne_eqb}

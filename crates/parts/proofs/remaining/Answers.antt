@@ -1,4 +1,4 @@
--- `parts::remaining` meets its contract: the test of the end says which case of `remainingTaken` holds.
+-- `parts::remaining` meets its contract: the test of the end says which case of `remaining_taken` holds.
 -- Assumes nothing.
 use mathlib.Core.Path.{ap, ◌∙◌}
 use native.Mathlib.Omega.{arith}

@@ -1,4 +1,4 @@
--- `parts::table_field` meets its contract: the test of the tag says which case of `tableField` holds.
+-- `parts::table_field` meets its contract: the test of the tag says which case of `table_field` holds.
 -- Assumes nothing.
 use mathlib.Core.Path.{ap, ◌∙◌}
 use Prim.Native.Nat.{◌+◌}

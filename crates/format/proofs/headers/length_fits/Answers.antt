@@ -1,4 +1,4 @@
--- `headers::length_fits` meets its contract: at each `return` the tests that led there say which case of `lengthFits` holds.
+-- `headers::length_fits` meets its contract: at each `return` the tests that led there say which case of `length_fits` holds.
 -- Assumes nothing.
 use mathlib.Core.Path.{◌≡◌, sym, ◌∙◌}
 use mathlib.Core.Bool.{true}

@@ -1,4 +1,4 @@
--- `fields::read_fields` meets its contract: every turn of the reading keeps what the state means, so the last state tells the table (`StateLaws.whole-table`).
+-- `fields::read_fields` meets its contract: every turn of the reading keeps what the state means, so the last state tells the table (`StateLaws.whole_table`).
 -- Assumes nothing.
 use mathlib.Core.Path.{◌∙◌}
 use Rattle.reading.proofs.BegunTable.{begun_table_lem}

@@ -1,4 +1,4 @@
--- `labels::label_count_wrong` meets its contract: the tag says which case of `labelCountWrong` holds.
+-- `labels::label_count_wrong` meets its contract: the tag says which case of `label_count_wrong` holds.
 -- Assumes nothing.
 use native.Mathlib.Omega.{arith}
 use Rattle.format.proofs.StandsLaws.{known}
