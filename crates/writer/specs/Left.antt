@@ -2,7 +2,7 @@
 use Rattle.std.specs.Prelude.{ℕ, List}
 use Rattle.tables.specs.Tables.{Table}
 use Rattle.files.specs.Derivations.{Derivation}
-use Rattle.entries.specs.Outcomes.{Outcome, in_file, done, other_file}
+use Rattle.entries.specs.Outcomes.{in_file, done, other_file}
 use Rattle.entries.specs.LentSpace.{Written}
 use Rattle.entries.specs.Left.{left_in}
 use Rattle.entries.specs.CheckFlat.{written_file}
