@@ -5,11 +5,5 @@ use native.Mathlib.Omega.{arith}
 use Rattle.outline.proofs.PutLaws.{header_of}
 use Rattle.outline.proofs.fields.put_pair.Goals as goal
 
-pub overflow_add-len : goal.overflow_add-len
-overflow_add-len c = omega (arith, c.load16-right.ensures, c.requires.3)
-
-pub overflow_add-result-2 : goal.overflow_add-result-2
-overflow_add-result-2 c = omega (arith, c.load16-right.ensures, c.requires.3)
-
 pub returns : goal.returns
 returns c = record { work_after = header_of _ _ _ _ _ _ _ c.put_header.ensures c.load16-right.ensures; front_value = (omega (arith, c.requires.0), refl, omega (arith, c.load16-right.ensures)) }

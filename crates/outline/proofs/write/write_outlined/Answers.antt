@@ -7,17 +7,11 @@ use Rattle.outline.proofs.write.write_outlined.Goals as goal
 pub loop-at-init : goal.loop-at-init
 loop-at-init c = let p = c.requires in turn-start _ _ _ p.0 p.1
 
-pub overflow_sub-at : goal.overflow_sub-at
-overflow_sub-at c = omega (arith, c.loop-at.invariant.left_is, c.loop-at-test.true)
-
 pub put_field-held-requires : goal.put_field-held-requires
 put_field-held-requires c =
     let p = c.requires in
     let t = c.loop-at.invariant in
     (_, _, turn_given _ _ _ p.0 p.1 _ _ _ _ _ t _ (omega (arith, t.left_is, c.loop-at-test.true)))
-
-pub loop-at-smaller : goal.loop-at-smaller
-loop-at-smaller c = omega (arith, c.loop-at-test.true)
 
 pub loop-at-preserved : goal.loop-at-preserved
 loop-at-preserved c =
