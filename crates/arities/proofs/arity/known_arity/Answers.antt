@@ -8,6 +8,5 @@ use Rattle.arities.proofs.arity.known_arity.Goals as goal
 pub returns : goal.returns
 returns c =
     let a = c.args in
-    let p = c.requires in
     let b : a.tactic.0 < 65536 = search rules in
     λ known h. c.load16.ensures ∙ h a.tactic.0 b

@@ -37,5 +37,4 @@ overflow_cast-result-2 c =
 pub returns : goal.returns
 returns c =
     let a = c.args in
-    let p = c.requires in
     λ t u q. omega (arith, right_place a.src.now a.at t u q, c.load16.ensures)

@@ -12,5 +12,4 @@ settle_arities-requires c =
 pub returns : goal.returns
 returns c =
     let a = c.args in
-    let p = c.requires in
     fill_all a.table.now a.first a.definitions a.work.now _ _ c.clear_arities.ensures c.settle_arities.ensures

@@ -8,7 +8,6 @@ use Rattle.arities.proofs.rounds.settle_arities.Goals as goal
 pub loop-left-init : goal.loop-left-init
 loop-left-init c =
     let a = c.args in
-    let p = c.requires in
     fill_start a.table.now a.first a.definitions a.work.now
 
 pub round-changes-requires : goal.round-changes-requires
@@ -18,43 +17,22 @@ round-changes-requires c =
     round_given a.table.now a.first a.definitions a.work.now c.loop-left.work c.loop-left.left p c.loop-left.invariant
 
 pub shape_of-work-then-changes-eq0 : goal.shape_of-work-then-changes-eq0
-shape_of-work-then-changes-eq0 c =
-    let a = c.args in
-    let p = c.requires in
-    c.round-changes.ensures.same_length ∙ c.loop-left.invariant.same_length
+shape_of-work-then-changes-eq0 c = c.round-changes.ensures.same_length ∙ c.loop-left.invariant.same_length
 
 pub returns-then-changes-eq0 : goal.returns-then-changes-eq0
 returns-then-changes-eq0 c =
     let a = c.args in
-    let p = c.requires in
     fill_settled a.table.now a.first a.definitions a.work.now c.loop-left.work _ c.loop-left.left c.round-changes.result c.if-changes-eq0.true c.loop-left.invariant c.round-changes.ensures
-
-pub overflow_sub-left : goal.overflow_sub-left
-overflow_sub-left c =
-    let a = c.args in
-    let p = c.requires in
-    omega (arith, c.loop-left-test.true)
-
-pub loop-left-smaller : goal.loop-left-smaller
-loop-left-smaller c =
-    let a = c.args in
-    let p = c.requires in
-    omega (arith, c.loop-left-test.true)
 
 pub loop-left-preserved : goal.loop-left-preserved
 loop-left-preserved c =
     let a = c.args in
-    let p = c.requires in
     fill_next a.table.now a.first a.definitions a.work.now c.loop-left.work _ c.loop-left.left c.round-changes.result (omega (arith, c.loop-left-test.true)) c.loop-left.invariant c.round-changes.ensures
 
 pub shape_of-work : goal.shape_of-work
-shape_of-work c =
-    let a = c.args in
-    let p = c.requires in
-    c.loop-left.invariant.same_length
+shape_of-work c = c.loop-left.invariant.same_length
 
 pub returns : goal.returns
 returns c =
     let a = c.args in
-    let p = c.requires in
     fill_out a.table.now a.first a.definitions a.work.now c.loop-left.work c.loop-left.left (omega (arith, c.loop-left-test.false)) c.loop-left.invariant

@@ -7,11 +7,9 @@ use Rattle.arities.proofs.rounds.update.Goals as goal
 pub returns-then-load16-arity : goal.returns-then-load16-arity
 returns-then-load16-arity c =
     let a = c.args in
-    let p = c.requires in
     not_updated a.work.now a.tactic.0 a.arity (sym c.load16.ensures ∙ c.if-load16-arity.true)
 
 pub returns : goal.returns
 returns c =
     let a = c.args in
-    let p = c.requires in
     updated a.work.now a.tactic.0 a.arity _ c.store16.ensures
