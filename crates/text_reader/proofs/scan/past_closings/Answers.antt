@@ -15,21 +15,6 @@ shape_of-work-then-depth-eq0 c = c.loop-at.invariant.2
 pub returns-then-depth-eq0 : goal.returns-then-depth-eq0
 returns-then-depth-eq0 c = closed_other _ _ c.args.here _ _ _ _ c.moved.ensures c.loop-at.invariant.0 c.loop-at.invariant.1 (not_both _ 41 32 c.if-b-eq41.true (λ e. omega arith)) (λ e. omega (arith, c.if-depth-eq0.true))
 
-pub overflow_mul-entry : goal.overflow_mul-entry
-overflow_mul-entry c = omega arith
-
-pub bounds-work-entry : goal.bounds-work-entry
-bounds-work-entry c = omega arith
-
-pub overflow_add-count : goal.overflow_add-count
-overflow_add-count c = omega arith
-
-pub overflow_add-at : goal.overflow_add-at
-overflow_add-at c = omega arith
-
-pub loop-at-smaller-then-b-eq41 : goal.loop-at-smaller-then-b-eq41
-loop-at-smaller-then-b-eq41 c = omega arith
-
 pub loop-at-preserved-then-b-eq41 : goal.loop-at-preserved-then-b-eq41
 loop-at-preserved-then-b-eq41 c = (closing_stands_here _ _ c.args.here _ _ _ c.loop-at.invariant.0 c.loop-at-test.true c.requires.1 c.if-b-eq41.true (λ e. omega (arith, c.if-depth-eq0.false)) (omega arith), omega (arith, c.loop-at.invariant.1), simp length-set c.loop-at.invariant.2)
 
@@ -38,15 +23,6 @@ shape_of-work-then-b-ne32 c = c.loop-at.invariant.2
 
 pub returns-then-b-ne32 : goal.returns-then-b-ne32
 returns-then-b-ne32 c = closed_other _ _ c.args.here _ _ _ _ c.moved-then-b-ne32.ensures c.loop-at.invariant.0 c.loop-at.invariant.1 c.if-b-ne32.true (λ e. absurd (c.if-b-eq41.false e))
-
-pub overflow_add-at-in-loop-at : goal.overflow_add-at-in-loop-at
-overflow_add-at-in-loop-at c = omega arith
-
-pub past_blanks-at-requires : goal.past_blanks-at-requires
-past_blanks-at-requires c = omega arith
-
-pub loop-at-smaller : goal.loop-at-smaller
-loop-at-smaller c = omega arith
 
 pub loop-at-preserved : goal.loop-at-preserved
 loop-at-preserved c = (blank_stands _ _ c.args.here _ _ _ c.loop-at.invariant.0 c.loop-at-test.true _ c.if-b-ne32.false c.past_blanks-at.ensures, omega (arith, c.loop-at.invariant.1, c.past_blanks-at.ensures.rises), c.loop-at.invariant.2)

@@ -9,24 +9,6 @@ use Rattle.text_reader.proofs.scan.past_openings.Goals as goal
 pub loop-at-init : goal.loop-at-init
 loop-at-init c = (run_starts _ _ _ c.requires.0.standing, omega arith, refl)
 
-pub overflow_mul-entry : goal.overflow_mul-entry
-overflow_mul-entry c = omega arith
-
-pub bounds-work-entry : goal.bounds-work-entry
-bounds-work-entry c = omega arith
-
-pub overflow_add-depth : goal.overflow_add-depth
-overflow_add-depth c = omega arith
-
-pub overflow_add-count : goal.overflow_add-count
-overflow_add-count c = omega arith
-
-pub overflow_add-at : goal.overflow_add-at
-overflow_add-at c = omega arith
-
-pub loop-at-smaller-then-b-eq40 : goal.loop-at-smaller-then-b-eq40
-loop-at-smaller-then-b-eq40 c = omega arith
-
 pub loop-at-preserved-then-b-eq40 : goal.loop-at-preserved-then-b-eq40
 loop-at-preserved-then-b-eq40 c = (opening_stands_here _ _ c.args.here _ _ _ c.loop-at.invariant.0 c.loop-at-test.true c.requires.1 c.if-b-eq40.true (omega arith), omega (arith, c.loop-at.invariant.1), simp length-set c.loop-at.invariant.2)
 
@@ -35,15 +17,6 @@ shape_of-work-then-b-ne32 c = c.loop-at.invariant.2
 
 pub returns-then-b-ne32 : goal.returns-then-b-ne32
 returns-then-b-ne32 c = opened_other _ _ c.args.here _ _ _ _ c.moved.ensures c.loop-at.invariant.0 c.loop-at.invariant.1 c.if-b-ne32.true c.if-b-eq40.false
-
-pub overflow_add-at-in-loop-at : goal.overflow_add-at-in-loop-at
-overflow_add-at-in-loop-at c = omega arith
-
-pub past_blanks-at-requires : goal.past_blanks-at-requires
-past_blanks-at-requires c = omega arith
-
-pub loop-at-smaller : goal.loop-at-smaller
-loop-at-smaller c = omega arith
 
 pub loop-at-preserved : goal.loop-at-preserved
 loop-at-preserved c = (blank_stands _ _ c.args.here _ _ _ c.loop-at.invariant.0 c.loop-at-test.true _ c.if-b-ne32.false c.past_blanks-at.ensures, omega (arith, c.loop-at.invariant.1, c.past_blanks-at.ensures.rises), c.loop-at.invariant.2)

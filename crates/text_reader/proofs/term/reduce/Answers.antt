@@ -17,7 +17,6 @@ reduce_one-here-requires c =
     let k = c.loop-more.invariant.3 p.0 p.1 p.2 p.3 in
     let e = c.loop-more-test.true in
     let f = taken_first _ _ _ _ _ _ _ _ _ k e in
-    let l = c.loop-more.invariant.0 in
     (taken_ahead _ _ _ _ _ _ _ _ _ k e, q.0, omega (arith, q.1), (k.term, f.sign, f.term, f.rest, taken_shown _ _ _ _ _ _ _ _ _ k e))
 
 pub loop-more-smaller : goal.loop-more-smaller

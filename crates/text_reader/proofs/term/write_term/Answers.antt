@@ -8,18 +8,12 @@ use Rattle.text_reader.proofs.term.write_term.Goals as goal
 pub loop-at-init : goal.loop-at-init
 loop-at-init c = (omega arith, refl, refl, λ ms p. (p.stand, shown_start _ _ _ _ p _ _ refl))
 
-pub overflow_sub-at : goal.overflow_sub-at
-overflow_sub-at c = omega (arith, c.loop-at-test.true)
-
 pub on_mark-held-requires : goal.on_mark-held-requires
 on_mark-held-requires c =
     let p = c.requires in
     let l = c.loop-at.invariant in
     let k = l.3 p.0 p.1 in
     (p.0, ready_at _ _ _ _ p.1 _ _ _ _ _ _ c.loop-at-test.true l.0 l.2 l.1 k.0 k.1)
-
-pub loop-at-smaller : goal.loop-at-smaller
-loop-at-smaller c = omega (arith, c.loop-at-test.true)
 
 pub loop-at-preserved : goal.loop-at-preserved
 loop-at-preserved c =
