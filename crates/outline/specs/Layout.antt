@@ -9,6 +9,6 @@ outline_end = 12288
 abbrev pub sizes_end : ℕ
 sizes_end = 20480
 
--- no field has more than five bytes of its own (`outline-size`)
+-- no field has more than five bytes of its own (`outline_size`)
 abbrev pub most_size : ℕ
 most_size = 20480
