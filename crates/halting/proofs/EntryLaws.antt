@@ -2,10 +2,8 @@
 -- Assumes nothing.
 use Prim.Native.Nat.{ℕ, ◌≤◌}
 use mathlib.Core.Path.{◌≡◌, refl, ap, ◌∙◌}
-use mathlib.Core.Bool.{Bool, not}
+use mathlib.Core.Bool.{Bool, true, false}
 use mathlib.Core.List.{List}
-use native.Mathlib.Omega.{arith}
-use lib.Dec.{T}
 use lib.ListN.{length, replicate}
 use Rattle.answers.specs.declared.Answer.{Answer}
 use Rattle.answers.specs.Answers as said
@@ -13,16 +11,15 @@ use Rattle.lent_frames.specs.declared.LentFrame.{LentFrame}
 use Rattle.lent_frames.specs.Frames.{no_frame}
 use Rattle.entries.specs.SavedState.{saved_size}
 use Rattle.entries.specs.Halting.{halting_outcome, resume_outcome, halting_work, most_frames, Halting, cleared_frames, any_short, run_halting, resume_run}
-use Rattle.arities.specs.Layout.{space_end}
 use Rattle.machine.specs.declared.state.State.{State}
 use Rattle.saver.specs.Save.{SaveGiven, Saves}
 use Rattle.halting.specs.declared.halted.Halted.{Halted}
 use Rattle.halting.specs.Halted.{Comes}
 use Rattle.halting.specs.Again.{Again}
 use Rattle.halting.specs.GoOn.{GoOnGiven}
-use Rattle.halting.specs.Finish.{HandGiven, handed}
+use Rattle.halting.specs.Finish.{handed}
 use Rattle.halting.proofs.ShortLaws.{short_leaves, enough}
-use Rattle.halting.proofs.EndLaws.{save_given, finish_given, finished, again_save_given, again_size, go_on_given}
+use Rattle.halting.proofs.EndLaws.{finished, again_save_given, again_size, go_on_given}
 
 -- the five clauses
 abbrev pub Is : Halting → Answer → List ℕ → List LentFrame → (out state : List ℕ) → Type 0
@@ -34,32 +31,22 @@ cleared-after fs gs hs l e = e ∙ ap (λ (n : ℕ). replicate n no_frame) l
 
 module _ (work : List ℕ) (frames : List LentFrame) (out state : List ℕ) (short : Bool) (told : short ≡ any_short work frames state) where
   -- a space is too short
-  pub halting_short : (t j : List ℕ) (b : ℕ) → T short → (r : Answer) → r ≡ said.refusal 29 0 0 0 → Is (run_halting t j b work frames out state) r work frames out state
+  pub halting_short : (t j : List ℕ) (b : ℕ) → short ≡ true → (r : Answer) → r ≡ said.refusal 29 0 0 0 → Is (run_halting t j b work frames out state) r work frames out state
   unfolding run_halting
   halting_short t j b h r e = short_leaves work frames out state short told h (halting_outcome t j b) r e
 
-  pub resume_short : (t j saved : List ℕ) (b : ℕ) → T short → (r : Answer) → r ≡ said.refusal 29 0 0 0 → Is (resume_run t j saved b work frames out state) r work frames out state
+  pub resume_short : (t j saved : List ℕ) (b : ℕ) → short ≡ true → (r : Answer) → r ≡ said.refusal 29 0 0 0 → Is (resume_run t j saved b work frames out state) r work frames out state
   unfolding resume_run
   resume_short t j saved b h r e = short_leaves work frames out state short told h (resume_outcome t j saved b) r e
 
-  module _ (long : T (not short)) where
+  module _ (long : short ≡ false) where
     spaces : (halting_work ≤ length work) × (most_frames ≤ length frames) × (saved_size ≤ length state)
     spaces = enough work frames out state short told long
 
-    -- of first_run and of run_again
-    pub run_given : space_end ≤ length work
-    run_given = omega (arith, spaces.0)
-
     -- run_halting: h = first_run(..), s = state_of(h)
     module _ (t j : List ℕ) (b : ℕ) (w₁ : List ℕ) (h : Halted) (u : List ℕ) (c : Comes (halting_outcome t j b) work out w₁ h u) (s : State) (e : s ≡ h.state) where
-      pub halting_save_given : SaveGiven w₁ frames s
-      halting_save_given = save_given work frames out state spaces (halting_outcome t j b) work w₁ h u c refl s e frames refl
-
       -- end = save(s, ..)
       module _ (end : ℕ) (w₂ : List ℕ) (saves : Saves w₁ s end w₂) where
-        pub halting_finish_given : HandGiven h.state end w₂ state
-        halting_finish_given = finish_given work frames out state spaces (halting_outcome t j b) work w₁ h u c refl s e end w₂ saves
-
         -- clear_frames(..), finish(h, end, ..)
         pub halting_end : (fs gs : List LentFrame) → length fs ≡ length frames → gs ≡ cleared_frames fs → (r : Answer) (w₃ x : List ℕ) → r ≡ h.answer → w₃ ≡ replicate (length w₂) 0 → x ≡ handed h.state end w₂ state
             → Is (run_halting t j b work frames out state) r w₃ gs u x
@@ -81,14 +68,8 @@ module _ (work : List ℕ) (frames : List LentFrame) (out state : List ℕ) (sho
 
         -- g = go_on(h, end, ..), q = state_of(g)
         module _ (w₃ : List ℕ) (g : Halted) (u : List ℕ) (c : Comes (resume_outcome t j saved b) w₂ out w₃ g u) (q : State) (f : q ≡ g.state) where
-          pub resume_second_given : (fs : List LentFrame) → length fs ≡ length frames → SaveGiven w₃ fs q
-          resume_second_given = save_given work frames out state spaces (resume_outcome t j saved b) w₂ w₃ g u c same_work q f
-
           -- last = save(q, ..)
           module _ (last : ℕ) (w₄ : List ℕ) (saves' : Saves w₃ q last w₄) where
-            pub resume_finish_given : HandGiven g.state last w₄ state
-            resume_finish_given = finish_given work frames out state spaces (resume_outcome t j saved b) w₂ w₃ g u c same_work q f last w₄ saves'
-
             -- clear_frames(..), finish(g, last, ..)
             pub resume_end : (fs gs : List LentFrame) → length fs ≡ length frames → gs ≡ cleared_frames fs → (r : Answer) (w₅ x : List ℕ) → r ≡ g.answer → w₅ ≡ replicate (length w₄) 0 → x ≡ handed g.state last w₄ state
                 → Is (resume_run t j saved b work frames out state) r w₅ gs u x

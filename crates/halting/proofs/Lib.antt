@@ -11,4 +11,3 @@ pub mod SavedLaws
 pub mod ShortLaws
 pub mod EndLaws
 pub mod EntryLaws
-pub mod Cited

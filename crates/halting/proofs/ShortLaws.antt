@@ -2,7 +2,7 @@
 -- Assumes nothing.
 use Prim.Native.Nat.{ℕ, ◌≤◌, ◌<◌}
 use mathlib.Core.Path.{◌≡◌, refl, sym, ap, subst, ◌∙◌}
-use mathlib.Core.Bool.{Bool, true, false, not, ◌||◌}
+use mathlib.Core.Bool.{Bool, true, false, ◌||◌}
 use mathlib.Core.List.{List}
 use lib.Dec.{T, ltb}
 use lib.ListN.{length}
@@ -13,10 +13,6 @@ use Rattle.lent_frames.specs.declared.LentFrame.{LentFrame}
 use Rattle.entries.specs.SavedState.{saved_size}
 use Rattle.entries.specs.Halting.{HaltingOutcome, halting_work, most_frames, Halting, any_short, halt_in}
 use Rattle.entries.proofs.HaltingLaws.{lent_short}
-
-fails : (x : Bool) → T (not x) → x ≡ false
-fails true h = absurd h
-fails false h = refl
 
 neither : (a b : Bool) → (a || b) ≡ false → (a ≡ false) × (b ≡ false)
 neither true b e = let z : ◌≡◌ {A = Bool} true false = e in absurd (subst T z tt)
@@ -46,13 +42,13 @@ module _ (work : List ℕ) (frames : List LentFrame) (out state : List ℕ) wher
       × ((fs ≡ (halt_in work frames out state o).frames) × ((u ≡ (halt_in work frames out state o).out) × (x ≡ (halt_in work frames out state o).state))))
 
   module _ (short : Bool) (told : short ≡ any_short work frames state) where
-    pub short_leaves : T short → (o : HaltingOutcome) (r : Answer) → r ≡ said.refusal 29 0 0 0 → Leaves o r work frames out state
+    pub short_leaves : short ≡ true → (o : HaltingOutcome) (r : Answer) → r ≡ said.refusal 29 0 0 0 → Leaves o r work frames out state
     short_leaves h o r e =
-        let q = sym (lent_short work frames out state (λ l. subst T (told ∙ none_short (length work) (length frames) (length state) l.0 l.1 l.2) h) o) in
+        let q = sym (lent_short work frames out state (λ l. let z : ◌≡◌ {A = Bool} true false = sym h ∙ told ∙ none_short (length work) (length frames) (length state) l.0 l.1 l.2 in absurd (subst T z tt)) o) in
         (e ∙ ap (λ (x : Halting). x.answer) q, (ap (λ (x : Halting). x.work) q, (ap (λ (x : Halting). x.frames) q, (ap (λ (x : Halting). x.out) q, ap (λ (x : Halting). x.state) q))))
 
-    pub enough : T (not short) → (halting_work ≤ length work) × (most_frames ≤ length frames) × (saved_size ≤ length state)
+    pub enough : short ≡ false → (halting_work ≤ length work) × (most_frames ≤ length frames) × (saved_size ≤ length state)
     enough h =
-        let x = neither _ (ltb (length state) saved_size) (sym told ∙ fails short h) in
+        let x = neither _ (ltb (length state) saved_size) (sym told ∙ h) in
         let y = neither (ltb (length work) halting_work) (ltb (length frames) most_frames) x.0 in
         (ltb-false (length work) halting_work y.0, ltb-false (length frames) most_frames y.1, ltb-false (length state) saved_size x.1)
