@@ -9,19 +9,22 @@ pub returns-then-self-ne1 : goal.returns-then-self-ne1
 returns-then-self-ne1 c =
     let a = c.args in
     let p = c.requires in
-    record { begun = (assert_many_end a.work.now a.self p.0 a.goal.0 _ c.if-self-ne1.true c.lose.ensures).0; grown = (assert_many_end a.work.now a.self p.0 a.goal.0 _ c.if-self-ne1.true c.lose.ensures).1 }
+    let e = assert_many_end a.work.now a.self p.0 a.goal.0 _ c.if-self-ne1.true c.lose.ensures in
+    record { begun = e.0; grown = e.1 }
 
 pub returns-then-here-goal : goal.returns-then-here-goal
 returns-then-here-goal c =
     let a = c.args in
     let p = c.requires in
-    record { begun = (assert_other_end a.work.now a.self p.0 a.goal.0 _ (λ e. c.if-here-goal.true (c.goal_at-here.ensures ∙ e)) c.lose-then-here-goal.ensures).0; grown = (assert_other_end a.work.now a.self p.0 a.goal.0 _ (λ e. c.if-here-goal.true (c.goal_at-here.ensures ∙ e)) c.lose-then-here-goal.ensures).1 }
+    let e = assert_other_end a.work.now a.self p.0 a.goal.0 _ (λ e. c.if-here-goal.true (c.goal_at-here.ensures ∙ e)) c.lose-then-here-goal.ensures in
+    record { begun = e.0; grown = e.1 }
 
 pub returns-then-self-ge-MOST_HELD : goal.returns-then-self-ge-MOST_HELD
 returns-then-self-ge-MOST_HELD c =
     let a = c.args in
     let p = c.requires in
-    record { begun = (assert_exceeds a.work.now a.self p.0 a.goal.0 _ c.if-self-ne1.false (sym c.goal_at-here.ensures ∙ c.if-here-goal.false) (omega (arith, c.if-self-ge-MOST_HELD.true)) c.lose-then-self-ge-MOST_HELD.ensures).0; grown = (assert_exceeds a.work.now a.self p.0 a.goal.0 _ c.if-self-ne1.false (sym c.goal_at-here.ensures ∙ c.if-here-goal.false) (omega (arith, c.if-self-ge-MOST_HELD.true)) c.lose-then-self-ge-MOST_HELD.ensures).1 }
+    let e = assert_exceeds a.work.now a.self p.0 a.goal.0 _ c.if-self-ne1.false (sym c.goal_at-here.ensures ∙ c.if-here-goal.false) (omega (arith, c.if-self-ge-MOST_HELD.true)) c.lose-then-self-ge-MOST_HELD.ensures in
+    record { begun = e.0; grown = e.1 }
 
 pub keep-requires : goal.keep-requires
 keep-requires c = (c.requires.0, omega (arith, c.if-self-ge-MOST_HELD.false))
@@ -30,9 +33,6 @@ pub returns : goal.returns
 returns c =
     let a = c.args in
     let p = c.requires in
-    record {
-      begun = (assert_end a.work.now a.self p.0 a.goal.0 _ _ c.if-self-ne1.false (sym c.goal_at-here.ensures ∙ c.if-here-goal.false) (omega (arith, c.if-self-ge-MOST_HELD.false))
-          c.keep.ensures.written c.keep.ensures.kept).0;
-      grown = (assert_end a.work.now a.self p.0 a.goal.0 _ _ c.if-self-ne1.false (sym c.goal_at-here.ensures ∙ c.if-here-goal.false) (omega (arith, c.if-self-ge-MOST_HELD.false))
-          c.keep.ensures.written c.keep.ensures.kept).1;
-    }
+    let e = assert_end a.work.now a.self p.0 a.goal.0 _ _ c.if-self-ne1.false (sym c.goal_at-here.ensures ∙ c.if-here-goal.false) (omega (arith, c.if-self-ge-MOST_HELD.false))
+    c.keep.ensures.written c.keep.ensures.kept in
+    record { begun = e.0; grown = e.1 }
