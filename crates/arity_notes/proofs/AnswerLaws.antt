@@ -1,7 +1,7 @@
 -- An arity told to the last term that waits, by its kind.
 -- Assumes nothing.
-use Prim.Native.Nat.{ℕ, suc, ◌+◌, ◌*◌, ◌-◌, ◌≤◌, ◌<◌}
-use mathlib.Core.Path.{◌≡◌, refl, sym, ap, subst, ◌∙◌}
+use Prim.Native.Nat.{ℕ, ◌+◌, ◌*◌, ◌-◌, ◌≤◌, ◌<◌}
+use mathlib.Core.Path.{◌≡◌, sym, ap, subst, ◌∙◌}
 use mathlib.Core.Bool.{true, false}
 use mathlib.Core.List.{List, [], ◌∷◌}
 use mathlib.Core.Option.{Option}
@@ -12,7 +12,6 @@ use Rattle.format.specs.declared.values.TacticNo.{TacticNo}
 use Rattle.format.specs.Terms.{Term, size}
 use Rattle.format.proofs.StandsLaws.{known}
 use Rattle.tables.specs.Tables.{Table}
-use Rattle.evaluation.specs.TacticArity.{sum_arity, common_arity}
 use Rattle.input_arities.specs.Threads.{slot}
 use Rattle.tactics.specs.Numbers.{put_header}
 use Rattle.arities.specs.Layout.{frames_end, notes_room, definitions_place, regions_end}
@@ -24,7 +23,7 @@ use Rattle.arity_notes.specs.Asked.{Known, Turn, asks, tells, TurnIs, turn_weigh
 use Rattle.arity_notes.specs.Cells.{unwalked}
 use Rattle.arity_notes.specs.Walks.{Mode, Walking, Turned, Given, Turns}
 use Rattle.arity_notes.proofs.AskLaws.{not_both}
-use Rattle.arity_notes.proofs.TurnLaws.{top_most, told_arity, last_stack, combines, roots, body_small, learns, turns_right}
+use Rattle.arity_notes.proofs.TurnLaws.{top_most, told_arity, combines, roots, body_small, learns, turns_right}
 
 -- the note of the right term lies in the room of the notes
 pub right_note : (src : List ℕ) (at : ℕ) (t u : Term) → Pair src at t u → length src < 65536 → (r : ℕ) → r ≡ at + 3 + size t → slot r + 2 ≤ notes_room

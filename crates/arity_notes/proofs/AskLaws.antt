@@ -1,10 +1,10 @@
 -- A term asked for its arity, by its tag: what was said of the form is said of every walk that may stand there.
 -- Assumes nothing.
-use Prim.Native.Nat.{ℕ, suc, ◌+◌, ◌*◌, ◌-◌, ◌≤◌, ◌<◌}
+use Prim.Native.Nat.{ℕ, ◌+◌, ◌*◌, ◌-◌, ◌≤◌, ◌<◌}
 use mathlib.Core.Path.{◌≡◌, refl, sym, ap, subst, ◌∙◌}
 use mathlib.Core.Bool.{Bool, true, false}
-use mathlib.Core.List.{List, [], ◌∷◌}
-use mathlib.Core.Option.{Option, none, some}
+use mathlib.Core.List.{List}
+use mathlib.Core.Option.{none}
 use native.Mathlib.Omega.{arith}
 use lib.ListN.{length, get_or}
 use Rattle.words.specs.Word.{word, put_word}
@@ -17,22 +17,21 @@ use Rattle.tables.specs.declared.lookup.BodyFound.{BodyFound}
 use Rattle.tables.specs.declared.lookup.BodyFound.TheVariants as B
 use Rattle.tables.specs.Tables.{Table}
 use Rattle.tables.specs.Lookup.{find_body}
-use Rattle.tables.specs.Standing.{TableStands}
-use Rattle.tables.specs.Found.{FindsBody, BodyStands, BodyPlaced}
-use Rattle.evaluation.specs.TacticArity.{arity_in, body_arity, arity_after}
+use Rattle.tables.specs.Found.{FindsBody, BodyStands}
+use Rattle.evaluation.specs.TacticArity.{arity_in, body_arity}
 use Rattle.evaluation.proofs.UnfoldingLaws.{after_fixed}
 use Rattle.tactics.specs.Numbers.{put_header}
 use Rattle.arities.specs.Layout.{frames_end, regions_end}
 use Rattle.arities.specs.Arities.{arity_code, arities}
 use Rattle.arities.proofs.ArityLaws.{pair_of}
 use Rattle.arity_notes.specs.declared.walk.Walk.{Walk}
-use Rattle.arity_notes.specs.Waits.{Both, sums, commons, combine, Wait, left_kind}
-use Rattle.arity_notes.specs.Asked.{Known, Asked, Turn, asks, tells, asked_by, TurnIs, turn_weight, stack_weight}
+use Rattle.arity_notes.specs.Waits.{sums, commons, combine, Wait, left_kind}
+use Rattle.arity_notes.specs.Asked.{Turn, asks, tells, asked_by, TurnIs, turn_weight, stack_weight}
 use Rattle.arity_notes.specs.Cells.{cell, unwalked}
 use Rattle.arity_notes.specs.Noting.{AskedNoted}
 use Rattle.arity_notes.specs.Walks.{Mode, Walking, Turned, Given, Turns, TacticGiven, TacticTurns}
 use Rattle.arity_notes.proofs.CellLaws.{cell_tells}
-use Rattle.arity_notes.proofs.TurnLaws.{asked_stands, asked_top, told, leads, waits, enters}
+use Rattle.arity_notes.proofs.TurnLaws.{asked_top, told, leads, waits, enters}
 
 -- a walk does not ask and tell at once
 is_true : Bool → Type 0

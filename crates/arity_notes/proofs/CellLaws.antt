@@ -8,23 +8,22 @@ use mathlib.Core.Option.{Option, none, some, none-ne-some}
 use mathlib.Core.Logic.{◌⊎◌, inl, inr}
 use native.Mathlib.Omega.{arith}
 use native.Mathlib.Decide.{ℕ_discrete, dec_lt}
-use lib.Dec.{ltb, eqb}
-use lib.ListN.{length, get_or}
+use lib.Dec.{ltb}
+use lib.ListN.{length}
 use borrow.Author.Tests.{ltb-true, lt-ltb, eqb-true}
-use Rattle.words.specs.Word.{word, put_word}
-use Rattle.words.proofs.WordLaws.{length-put_word, word_same, word_other}
+use Rattle.words.specs.Word.{put_word}
+use Rattle.words.proofs.WordLaws.{word_same, word_other}
 use Rattle.format.specs.declared.values.TacticNo.{TacticNo}
 use Rattle.format.specs.Values.{tactic_no}
 use Rattle.format.specs.Terms.{Term, size}
 use Rattle.tables.specs.Tables.{Definition, Table}
-use Rattle.tables.specs.Lookup.{same_tactic, find_body, find_body_in}
-use Rattle.evaluation.specs.TacticArity.{arity_in, body_arity}
+use Rattle.tables.specs.Lookup.{same_tactic, find_body_in}
 use Rattle.tactics.specs.Memory.{Same}
 use Rattle.tactics.proofs.MemoryLaws.{same_word}
 use Rattle.arities.specs.Layout.{frames_end, space_end, regions_end}
 use Rattle.arities.specs.Arities.{arity_code, arities}
-use Rattle.arity_notes.specs.Waits.{Wait, for_left, for_right, for_body, for_root, Walked}
-use Rattle.arity_notes.specs.Asked.{Known, Asked}
+use Rattle.arity_notes.specs.Waits.{Wait, for_body, Walked}
+use Rattle.arity_notes.specs.Asked.{Asked}
 use Rattle.arity_notes.specs.Cells.{cell, Cell, unknown, walked, found, Cells, AllKnown, if_unknown, unwalked}
 use Rattle.arity_notes.proofs.CycleLaws.{cycle_none}
 

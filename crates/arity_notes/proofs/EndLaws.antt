@@ -1,7 +1,7 @@
 -- A walk from its beginning to its end: what holds between its turns.
 -- Assumes nothing.
 use Prim.Native.Nat.{ℕ, ◌+◌, ◌≤◌, ◌<◌}
-use mathlib.Core.Path.{◌≡◌, refl, sym, subst, ◌∙◌}
+use mathlib.Core.Path.{◌≡◌, refl, ◌∙◌}
 use mathlib.Core.List.{List, [], ◌∷◌}
 use native.Mathlib.Omega.{arith}
 use lib.ListN.{length, get_or}
@@ -11,7 +11,7 @@ use Rattle.arity_notes.specs.declared.walk.Walk.{Walk}
 use Rattle.arity_notes.specs.Waits.{Wait, StackAt}
 use Rattle.arity_notes.specs.Asked.{Turn, asks, tells, turn_weight, stack_weight, Standing, Told}
 use Rattle.arity_notes.specs.Cells.{cell, unwalked}
-use Rattle.arity_notes.specs.Walks.{Mode, Walking, Turned, Given, Turns, Ended, Walks}
+use Rattle.arity_notes.specs.Walks.{Mode, Walking, Given, Turns, Ended, Walks}
 
 module _ (bytes : List ℕ) (first : ℕ) (src : List ℕ) (base : ℕ) (w₀ : List ℕ) (from : Walk) where
   -- where a walk stands that began there, with so many turns left

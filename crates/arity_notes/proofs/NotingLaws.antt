@@ -1,27 +1,24 @@
 -- A walk that notes: each turn leaves fewer notes ahead, and those that it has made stay.
 -- Assumes nothing.
-use Prim.Native.Nat.{ℕ, zero, suc, ◌+◌, ◌*◌, ◌≤◌, ◌<◌}
-use mathlib.Core.Path.{◌≡◌, refl, sym, ap, subst, ◌∙◌}
+use Prim.Native.Nat.{ℕ, ◌+◌, ◌≤◌, ◌<◌}
+use mathlib.Core.Path.{◌≡◌, sym, subst, ◌∙◌}
 use mathlib.Core.List.{List, [], ◌∷◌}
 use mathlib.Core.Option.{Option}
 use mathlib.Core.Logic.{◌⊎◌, inl, inr}
 use native.Mathlib.Omega.{arith}
-use lib.ListN.{length, get_or}
-use Rattle.words.specs.Word.{word, put_word}
-use Rattle.words.proofs.WordLaws.{word_same}
+use lib.ListN.{get_or}
+use Rattle.words.specs.Word.{word}
 use Rattle.format.specs.Terms.{Term, size}
 use Rattle.tables.specs.Tables.{Table}
 use Rattle.evaluation.specs.TacticArity.{arity_in}
 use Rattle.input_arities.specs.Threads.{slot}
 use Rattle.input_arities.proofs.ThreadLaws.{slot_rises, slot_apart}
-use Rattle.tactics.specs.Memory.{Same}
 use Rattle.tactics.proofs.MemoryLaws.{same_word}
 use Rattle.arities.specs.Layout.{frames_end, space_end}
 use Rattle.arities.specs.Arities.{arity_code, arities}
 use Rattle.arities.specs.Notes.{NotedLeft}
 use Rattle.arity_notes.specs.Waits.{Both, Wait, for_left, for_right, for_body, for_root}
 use Rattle.arity_notes.specs.Asked.{Known, Turn, asks, tells}
-use Rattle.arity_notes.specs.Cells.{AllKnown}
 use Rattle.arity_notes.specs.Noting.{AskedNoted, StackAhead, TurnAhead, turn_low, turn_end, Beyond, Noting}
 use Rattle.arity_notes.proofs.CellLaws.{known_same}
 

@@ -1,10 +1,10 @@
 -- The stack of terms that wait: as long as there are terms, at most as many as there is left to do, and the same where its bytes are the same.
 -- Assumes nothing.
-use Prim.Native.Nat.{ℕ, zero, suc, ◌+◌, ◌*◌, ◌≤◌, ◌<◌}
-use mathlib.Core.Path.{◌≡◌, refl, sym, ap, ap₂, subst, ◌∙◌}
+use Prim.Native.Nat.{ℕ, ◌+◌, ◌*◌, ◌≤◌, ◌<◌}
+use mathlib.Core.Path.{◌≡◌, sym, ap₂, subst}
 use mathlib.Core.List.{List, [], ◌∷◌}
 use native.Mathlib.Omega.{arith}
-use lib.ListN.{length, get_or}
+use lib.ListN.{get_or}
 use Rattle.words.specs.Word.{word}
 use Rattle.arity_notes.specs.Waits.{Wait, for_left, for_right, for_body, for_root, WaitIs, StackAt}
 use Rattle.arity_notes.specs.Asked.{stack_weight}

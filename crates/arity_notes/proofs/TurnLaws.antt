@@ -1,10 +1,10 @@
 -- The turns of a walk, one law for each: where it stands afterwards.
 -- Assumes nothing.
-use Prim.Native.Nat.{ℕ, zero, suc, ◌+◌, ◌*◌, ◌-◌, ◌≤◌, ◌<◌}
+use Prim.Native.Nat.{ℕ, suc, ◌+◌, ◌*◌, ◌≤◌, ◌<◌}
 use mathlib.Core.Path.{◌≡◌, refl, sym, ap, subst, ◌∙◌}
 use mathlib.Core.Bool.{true, false}
 use mathlib.Core.List.{List, [], ◌∷◌}
-use mathlib.Core.Option.{Option, none, some, none-ne-some}
+use mathlib.Core.Option.{Option, some, none-ne-some}
 use mathlib.Core.Logic.{◌⊎◌, inl, inr}
 use native.Mathlib.Omega.{arith}
 use lib.ListN.{length, get_or}
@@ -13,22 +13,21 @@ use Rattle.words.specs.Kept.{Kept}
 use Rattle.words.proofs.WordLaws.{length-put_word, word_same}
 use Rattle.format.specs.declared.values.TacticNo.{TacticNo}
 use Rattle.format.specs.Values.{tactic_no}
-use Rattle.format.specs.Terms.{Term, atomic, id, label, sequence, tensor, empty, alternation, assert, defined, size}
+use Rattle.format.specs.Terms.{Term, sequence, defined, size}
 use Rattle.format.specs.Standing.{Stands}
 use Rattle.format.proofs.StandsLaws.{known}
 use Rattle.tables.specs.Tables.{Table}
 use Rattle.tables.specs.Lookup.{find_body}
 use Rattle.index.specs.Build.{DefinitionsIndexed}
 use Rattle.index.proofs.IndexKept.{indexed_before}
-use Rattle.evaluation.specs.TacticArity.{arity_in, body_arity, arity_after}
+use Rattle.evaluation.specs.TacticArity.{arity_in, body_arity}
 use Rattle.evaluation.proofs.UnfoldingLaws.{after_fixed}
 use Rattle.input_arities.specs.Threads.{slot}
-use Rattle.input_arities.proofs.ThreadLaws.{slot_rises, slot_apart}
 use Rattle.tactics.specs.Memory.{Same, Only}
 use Rattle.tactics.specs.Numbers.{put_header}
-use Rattle.tactics.proofs.MemoryLaws.{only_word, only_then, only_wider, same_word}
+use Rattle.tactics.proofs.MemoryLaws.{only_word, same_word}
 use Rattle.tactics.proofs.NumberLaws.{only_header, header_tag, header-length}
-use Rattle.arities.specs.Layout.{frames_end, space_end, notes_room, definitions_place, regions_end}
+use Rattle.arities.specs.Layout.{frames_end, space_end, definitions_place, regions_end}
 use Rattle.arities.specs.Arities.{arity_code, arities, Pair}
 use Rattle.arities.specs.Notes.{NotedLeft}
 use Rattle.arities.proofs.NoteLaws.{slot_inside}
@@ -36,12 +35,12 @@ use Rattle.arity_notes.specs.declared.walk.Walk.{Walk}
 use Rattle.arity_notes.specs.Waits.{Both, combine, Wait, for_left, for_right, for_body, for_root, left_kind, right_kind, WaitIs, StackAt, Walked}
 use Rattle.arity_notes.specs.Asked.{Known, Asked, Turn, asks, tells, asked_by, TurnIs, turn_weight, stack_weight, Standing}
 use Rattle.arity_notes.specs.Cells.{cell, Cells, unwalked}
-use Rattle.arity_notes.specs.Noting.{AskedNoted, StackAhead, TurnAhead, turn_low, turn_end, Beyond, Noting}
+use Rattle.arity_notes.specs.Noting.{AskedNoted, StackAhead, TurnAhead, turn_low, turn_end, Beyond}
 use Rattle.arity_notes.specs.Walks.{Mode, finds, notes, ModeIs, Walking, Turned}
 use Rattle.arity_notes.proofs.CycleLaws.{code_most}
 use Rattle.arity_notes.proofs.StackLaws.{stack_most, stack_same}
-use Rattle.arity_notes.proofs.CellLaws.{cell_same, cells_same, unwalked_same, cells_stack, cell_tells, cells_begun, cells_learnt, put-here, put_other, put_grows, put-unwalked, begun-unwalked}
-use Rattle.arity_notes.proofs.NotingLaws.{beyond_from, quiet, note_room, noting}
+use Rattle.arity_notes.proofs.CellLaws.{cell_same, cells_same, unwalked_same, cells_stack, cells_begun, cells_learnt, put_grows, put-unwalked, begun-unwalked}
+use Rattle.arity_notes.proofs.NotingLaws.{beyond_from, quiet, noting}
 
 -- the index over the definitions stays
 pub index_still : (bytes : List ℕ) (first : ℕ) (w v : List ℕ) → length v ≡ length w → ((i : ℕ) → definitions_place ≤ i → get_or v i 0 ≡ get_or w i 0) → DefinitionsIndexed bytes first w definitions_place → DefinitionsIndexed bytes first v definitions_place

@@ -3,7 +3,7 @@ use Rattle.std.specs.Prelude.{ℕ, ◌+◌, ◌≡◌, List, [], ◌∷◌, ◌�
 use Rattle.std.proofs.Math.Option.{Option}
 use Rattle.words.specs.Word.{word}
 use Rattle.format.specs.declared.values.TacticNo.{TacticNo}
-use Rattle.format.specs.Terms.{Term, size}
+use Rattle.format.specs.Terms.{Term}
 use Rattle.evaluation.specs.TacticArity.{sum_arity, common_arity}
 use Rattle.arities.specs.Arities.{arity_code, Pair}
 
