@@ -1,4 +1,3 @@
 pub mod ArityLaws
-pub mod NoteLaws
 pub mod RoundLaws
 pub mod FillLaws

@@ -4,5 +4,4 @@
 
 pub mod arity;
 pub mod layout;
-pub mod notes;
 pub mod rounds;
