@@ -18,9 +18,6 @@ begin_id-requires c =
     let p = c.requires in
     given_room a.table.now a.first a.src.now a.work.now a.self p
 
-pub shape_of-work-then-tag-eq17 : goal.shape_of-work-then-tag-eq17
-shape_of-work-then-tag-eq17 c = c.begin_id.ensures.grown.same_length
-
 pub returns-then-tag-eq17 : goal.returns-then-tag-eq17
 returns-then-tag-eq17 c =
     let a = c.args in
@@ -31,9 +28,6 @@ begin_empty-requires c =
     let a = c.args in
     let p = c.requires in
     given_room a.table.now a.first a.src.now a.work.now a.self p
-
-pub shape_of-work-then-tag-eq21 : goal.shape_of-work-then-tag-eq21
-shape_of-work-then-tag-eq21 c = c.begin_empty.ensures.grown.same_length
 
 pub returns-then-tag-eq21 : goal.returns-then-tag-eq21
 returns-then-tag-eq21 c =
@@ -57,9 +51,6 @@ begin_atomic-requires c =
     let a = c.args in
     let p = c.requires in
     (given_room a.table.now a.first a.src.now a.work.now a.self p, (p.table, p.table_stands), given_goals_lem a.table.now a.first a.src.now a.work.now a.self p)
-
-pub shape_of-work-then-tag-eq16 : goal.shape_of-work-then-tag-eq16
-shape_of-work-then-tag-eq16 c = c.begin_atomic.ensures.grown.same_length
 
 pub returns-then-tag-eq16 : goal.returns-then-tag-eq16
 returns-then-tag-eq16 c =
@@ -86,9 +77,6 @@ begin_label-requires c =
       omega (arith, value_room a.src.now a.self.at p.term (given_stands a.table.now a.first a.src.now a.work.now a.self p) c.if-tag-eq17.false c.if-tag-eq21.false, p.src_small),
     )
 
-pub shape_of-work-then-tag-eq18 : goal.shape_of-work-then-tag-eq18
-shape_of-work-then-tag-eq18 c = c.begin_label.ensures.grown.same_length
-
 pub returns-then-tag-eq18 : goal.returns-then-tag-eq18
 returns-then-tag-eq18 c =
     let a = c.args in
@@ -111,9 +99,6 @@ begin_assert-requires c =
     let a = c.args in
     let p = c.requires in
     (given_room a.table.now a.first a.src.now a.work.now a.self p, given_goals_lem a.table.now a.first a.src.now a.work.now a.self p)
-
-pub shape_of-work-then-tag-eq23 : goal.shape_of-work-then-tag-eq23
-shape_of-work-then-tag-eq23 c = c.begin_assert.ensures.grown.same_length
 
 pub returns-then-tag-eq23 : goal.returns-then-tag-eq23
 returns-then-tag-eq23 c =
@@ -148,9 +133,6 @@ begin_pair-requires c =
     let a = c.args in
     let p = c.requires in
     given_pair a.table.now a.first a.src.now a.work.now a.self p _ refl c.if-tag-eq17.false c.if-tag-eq21.false c.if-tag-eq16.false c.if-tag-eq18.false c.if-tag-eq23.false c.if-tag-eq24.false
-
-pub shape_of-work : goal.shape_of-work
-shape_of-work c = c.begin_pair.ensures.grown.same_length
 
 pub returns : goal.returns
 returns c =

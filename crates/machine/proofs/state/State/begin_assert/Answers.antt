@@ -9,25 +9,22 @@ pub returns-then-self-ne1 : goal.returns-then-self-ne1
 returns-then-self-ne1 c =
     let a = c.args in
     let p = c.requires in
-    let x =
-    assert_many_end a.work.now a.self p.0 a.goal.0 _ c.if-self-ne1.true c.lose.ensures in
-    record { begun = x.0; grown = x.1 }
+    let e = assert_many_end a.work.now a.self p.0 a.goal.0 _ c.if-self-ne1.true c.lose.ensures in
+    record { begun = e.0; grown = e.1 }
 
 pub returns-then-here-goal : goal.returns-then-here-goal
 returns-then-here-goal c =
     let a = c.args in
     let p = c.requires in
-    let x =
-    assert_other_end a.work.now a.self p.0 a.goal.0 _ (λ e. c.if-here-goal.true (c.goal_at-here.ensures ∙ e)) c.lose-then-here-goal.ensures in
-    record { begun = x.0; grown = x.1 }
+    let e = assert_other_end a.work.now a.self p.0 a.goal.0 _ (λ e. c.if-here-goal.true (c.goal_at-here.ensures ∙ e)) c.lose-then-here-goal.ensures in
+    record { begun = e.0; grown = e.1 }
 
 pub returns-then-self-ge-MOST_HELD : goal.returns-then-self-ge-MOST_HELD
 returns-then-self-ge-MOST_HELD c =
     let a = c.args in
     let p = c.requires in
-    let x =
-    assert_exceeds a.work.now a.self p.0 a.goal.0 _ c.if-self-ne1.false (sym c.goal_at-here.ensures ∙ c.if-here-goal.false) (omega (arith, c.if-self-ge-MOST_HELD.true)) c.lose-then-self-ge-MOST_HELD.ensures in
-    record { begun = x.0; grown = x.1 }
+    let e = assert_exceeds a.work.now a.self p.0 a.goal.0 _ c.if-self-ne1.false (sym c.goal_at-here.ensures ∙ c.if-here-goal.false) (omega (arith, c.if-self-ge-MOST_HELD.true)) c.lose-then-self-ge-MOST_HELD.ensures in
+    record { begun = e.0; grown = e.1 }
 
 pub keep-requires : goal.keep-requires
 keep-requires c = (c.requires.0, omega (arith, c.if-self-ge-MOST_HELD.false))
@@ -36,7 +33,6 @@ pub returns : goal.returns
 returns c =
     let a = c.args in
     let p = c.requires in
-    let x =
-    assert_end a.work.now a.self p.0 a.goal.0 _ _ c.if-self-ne1.false (sym c.goal_at-here.ensures ∙ c.if-here-goal.false) (omega (arith, c.if-self-ge-MOST_HELD.false))
+    let e = assert_end a.work.now a.self p.0 a.goal.0 _ _ c.if-self-ne1.false (sym c.goal_at-here.ensures ∙ c.if-here-goal.false) (omega (arith, c.if-self-ge-MOST_HELD.false))
     c.keep.ensures.written c.keep.ensures.kept in
-    record { begun = x.0; grown = x.1 }
+    record { begun = e.0; grown = e.1 }

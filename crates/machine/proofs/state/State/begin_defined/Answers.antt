@@ -1,24 +1,18 @@
 -- `begin_defined` meets its contract: by what is found.
 -- Assumes nothing.
-use native.Mathlib.Omega.{arith}
 use Rattle.machine.proofs.FormLaws.{body_missing, body_found}
 use Rattle.machine.proofs.state.State.begin_defined.Goals as goal
-
-pub overflow_add-result : goal.overflow_add-result
-overflow_add-result c = omega (arith, c.requires)
 
 pub returns-in-Missing : goal.returns-in-Missing
 returns-in-Missing c =
     let a = c.args in
     let p = c.requires in
-    let x =
-    body_missing a.work.now a.self p.0 a.table.now a.first a.number c.find_body-found.result c.find_body-found.ensures _ c.in-Missing.is c.lose.ensures in
-    record { begun = x.0; grown = x.1 }
+    let e = body_missing a.work.now a.self p.0 a.table.now a.first a.number c.find_body-found.result c.find_body-found.ensures _ c.in-Missing.is c.lose.ensures in
+    record { begun = e.0; grown = e.1 }
 
 pub returns-in-At : goal.returns-in-At
 returns-in-At c =
     let a = c.args in
     let p = c.requires in
-    let x =
-    body_found a.work.now a.self p.0 a.table.now a.first a.number c.find_body-found.result c.find_body-found.ensures _ c.in-At.is in
-    record { begun = x.0; grown = x.1 }
+    let e = body_found a.work.now a.self p.0 a.table.now a.first a.number c.find_body-found.result c.find_body-found.ensures _ c.in-At.is in
+    record { begun = e.0; grown = e.1 }

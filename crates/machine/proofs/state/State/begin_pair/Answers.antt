@@ -16,9 +16,6 @@ begin_sequence-requires c =
     let p = c.requires in
     (p.room, pair_at a.src.now a.work.now a.self a.tag p)
 
-pub shape_of-work-then-tag-eq19 : goal.shape_of-work-then-tag-eq19
-shape_of-work-then-tag-eq19 c = c.begin_sequence.ensures.grown.same_length
-
 pub returns-then-tag-eq19 : goal.returns-then-tag-eq19
 returns-then-tag-eq19 c =
     let a = c.args in
@@ -43,9 +40,6 @@ begin_tensor-requires c =
     let p = c.requires in
     (p.room, pair_at a.src.now a.work.now a.self a.tag p, pair_goals a.src.now a.work.now a.self a.tag p)
 
-pub shape_of-work-then-tag-eq20 : goal.shape_of-work-then-tag-eq20
-shape_of-work-then-tag-eq20 c = c.begin_tensor.ensures.grown.same_length
-
 pub returns-then-tag-eq20 : goal.returns-then-tag-eq20
 returns-then-tag-eq20 c =
     let a = c.args in
@@ -57,9 +51,6 @@ begin_alternation-requires c =
     let a = c.args in
     let p = c.requires in
     (p.room, pair_at a.src.now a.work.now a.self a.tag p, pair_goals a.src.now a.work.now a.self a.tag p)
-
-pub shape_of-work : goal.shape_of-work
-shape_of-work c = c.begin_alternation.ensures.grown.same_length
 
 pub returns : goal.returns
 returns c =

@@ -15,9 +15,8 @@ pub returns-then-held-ge-MOST_HELD : goal.returns-then-held-ge-MOST_HELD
 returns-then-held-ge-MOST_HELD c =
     let a = c.args in
     let p = c.requires in
-    let x =
-    exceed_end a.work.now a.self a.f p.2 p.3 p.0 p.1 _ (omega (arith, c.if-held-ge-MOST_HELD.true)) c.limit.ensures in
-    record { popped = x.0; smaller = x.1 }
+    let e = exceed_end a.work.now a.self a.f p.2 p.3 p.0 p.1 _ (omega (arith, c.if-held-ge-MOST_HELD.true)) c.limit.ensures in
+    record { popped = e.0; smaller = e.1 }
 
 pub overflow_add-mark : goal.overflow_add-mark
 overflow_add-mark c =
@@ -65,6 +64,5 @@ pub returns : goal.returns
 returns c =
     let a = c.args in
     let p = c.requires in
-    let x =
-    close_end a.work.now a.self a.f p.2 p.3 p.0 p.1 (omega (arith, c.if-held-ge-MOST_HELD.false)) _ c.store16.ensures in
-    record { popped = x.0; smaller = x.1 }
+    let e = close_end a.work.now a.self a.f p.2 p.3 p.0 p.1 (omega (arith, c.if-held-ge-MOST_HELD.false)) _ c.store16.ensures in
+    record { popped = e.0; smaller = e.1 }

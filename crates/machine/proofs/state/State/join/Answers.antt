@@ -5,9 +5,6 @@ use Rattle.machine.proofs.WaitingLaws.{waiting-held}
 use Rattle.machine.proofs.JoinLaws.{joins, fits, overflow_end, exceed_end, join_end}
 use Rattle.machine.proofs.state.State.join.Goals as goal
 
-pub overflow_cast-left : goal.overflow_cast-left
-overflow_cast-left c = omega (arith, c.requires)
-
 pub overflow_add-left : goal.overflow_add-left
 overflow_add-left c =
     let a = c.args in
@@ -25,9 +22,8 @@ pub returns-then-left-right-gt256 : goal.returns-then-left-right-gt256
 returns-then-left-right-gt256 c =
     let a = c.args in
     let p = c.requires in
-    let x =
-    overflow_end a.work.now a.self p.3 p.0 a.f p.2 p.1 _ (omega (arith, c.if-left-right-gt256.true)) c.limit.ensures in
-    record { popped = x.0; smaller = x.1 }
+    let e = overflow_end a.work.now a.self p.3 p.0 a.f p.2 p.1 _ (omega (arith, c.if-left-right-gt256.true)) c.limit.ensures in
+    record { popped = e.0; smaller = e.1 }
 
 pub limit-requires-then-self-ge-MOST_HELD : goal.limit-requires-then-self-ge-MOST_HELD
 limit-requires-then-self-ge-MOST_HELD c =
@@ -39,9 +35,8 @@ pub returns-then-self-ge-MOST_HELD : goal.returns-then-self-ge-MOST_HELD
 returns-then-self-ge-MOST_HELD c =
     let a = c.args in
     let p = c.requires in
-    let x =
-    exceed_end a.work.now a.self p.3 p.0 a.f p.2 p.1 _ (omega (arith, c.if-left-right-gt256.false)) (omega (arith, c.if-self-ge-MOST_HELD.true)) c.limit-then-self-ge-MOST_HELD.ensures in
-    record { popped = x.0; smaller = x.1 }
+    let e = exceed_end a.work.now a.self p.3 p.0 a.f p.2 p.1 _ (omega (arith, c.if-left-right-gt256.false)) (omega (arith, c.if-self-ge-MOST_HELD.true)) c.limit-then-self-ge-MOST_HELD.ensures in
+    record { popped = e.0; smaller = e.1 }
 
 pub join_goals-requires : goal.join_goals-requires
 join_goals-requires c =
@@ -133,6 +128,5 @@ pub returns : goal.returns
 returns c =
     let a = c.args in
     let p = c.requires in
-    let x =
-    join_end a.work.now a.self p.3 p.0 a.f p.2 p.1 (omega (arith, c.if-left-right-gt256.false)) (omega (arith, c.if-self-ge-MOST_HELD.false)) _ c.join_goals.ensures _ c.store16.ensures in
-    record { popped = x.0; smaller = x.1 }
+    let e = join_end a.work.now a.self p.3 p.0 a.f p.2 p.1 (omega (arith, c.if-left-right-gt256.false)) (omega (arith, c.if-self-ge-MOST_HELD.false)) _ c.join_goals.ensures _ c.store16.ensures in
+    record { popped = e.0; smaller = e.1 }

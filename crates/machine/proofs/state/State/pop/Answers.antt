@@ -13,6 +13,5 @@ leave-requires c =
 pub returns : goal.returns
 returns c =
     let a = c.args in
-    let x =
-    ended_end a.work.now a.self _ c.if-self-eq-PROVED.false c.if-self-eq-FAILED.false c.leave.ensures in
-    record { popped = x.0; smaller = x.1 }
+    let e = ended_end a.work.now a.self _ c.if-self-eq-PROVED.false c.if-self-eq-FAILED.false c.leave.ensures in
+    record { popped = e.0; smaller = e.1 }

@@ -21,18 +21,8 @@ pub returns-then-f-ne-ALTERNATION_LEFT : goal.returns-then-f-ne-ALTERNATION_LEFT
 returns-then-f-ne-ALTERNATION_LEFT c =
     let a = c.args in
     let p = c.requires in
-    let x =
-    failed_end a.work.now a.self c.load_frame-f.result c.load_frame-f.ensures _ p.0 c.if-f-ne-ALTERNATION_LEFT.true c.leave.ensures in
-    record { popped = x.0; smaller = x.1 }
-
-pub overflow_cast-held : goal.overflow_cast-held
-overflow_cast-held c = omega (arith, c.requires)
-
-pub overflow_cast-result : goal.overflow_cast-result
-overflow_cast-result c = omega (arith, c.requires)
-
-pub overflow_cast-result-2 : goal.overflow_cast-result-2
-overflow_cast-result-2 c = omega (arith, c.requires)
+    let e = failed_end a.work.now a.self c.load_frame-f.result c.load_frame-f.ensures _ p.0 c.if-f-ne-ALTERNATION_LEFT.true c.leave.ensures in
+    record { popped = e.0; smaller = e.1 }
 
 pub overflow_add-result : goal.overflow_add-result
 overflow_add-result c =
@@ -44,6 +34,5 @@ pub returns : goal.returns
 returns c =
     let a = c.args in
     let p = c.requires in
-    let x =
-    alternative_end a.work.now a.self c.load_frame-f.result c.load_frame-f.ensures p.0 c.if-f-ne-ALTERNATION_LEFT.false in
-    record { popped = x.0; smaller = x.1 }
+    let e = alternative_end a.work.now a.self c.load_frame-f.result c.load_frame-f.ensures p.0 c.if-f-ne-ALTERNATION_LEFT.false in
+    record { popped = e.0; smaller = e.1 }

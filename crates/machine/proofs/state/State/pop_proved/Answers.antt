@@ -21,9 +21,8 @@ pub returns-then-kind-eq-ALTERNATION_LEFT : goal.returns-then-kind-eq-ALTERNATIO
 returns-then-kind-eq-ALTERNATION_LEFT c =
     let a = c.args in
     let p = c.requires in
-    let x =
-    chosen_end a.work.now a.self c.load_frame-f.result c.load_frame-f.ensures _ p.0 c.if-kind-eq-ALTERNATION_LEFT.true c.leave.ensures in
-    record { popped = x.0; smaller = x.1 }
+    let e = chosen_end a.work.now a.self c.load_frame-f.result c.load_frame-f.ensures _ p.0 c.if-kind-eq-ALTERNATION_LEFT.true c.leave.ensures in
+    record { popped = e.0; smaller = e.1 }
 
 pub close-requires : goal.close-requires
 close-requires c =

@@ -14,15 +14,11 @@ step_in-requires c =
     let p = c.requires in
     subst (λ (b : List ℕ). Given a.table.now a.first b a.work.now a.self) (from_table a.table.now a.job.now a.self.file c.if-self-eq0.true) p
 
-pub shape_of-work-then-self-eq0 : goal.shape_of-work-then-self-eq0
-shape_of-work-then-self-eq0 c = c.step_in.ensures.grown.same_length
-
 pub returns-then-self-eq0 : goal.returns-then-self-eq0
 returns-then-self-eq0 c =
     let a = c.args in
-    let e = c.step_in.ensures in
-    let x = in_source a.table.now a.first a.work.now a.self _ c.step_in.result a.table.now _ (from_table a.table.now a.job.now a.self.file c.if-self-eq0.true) (e.steps, e.grown) in
-    record { steps = x.0; grown = x.1 }
+    let e = in_source a.table.now a.first a.work.now a.self _ c.step_in.result a.table.now _ (from_table a.table.now a.job.now a.self.file c.if-self-eq0.true) (c.step_in.ensures.steps, c.step_in.ensures.grown) in
+    record { steps = e.0; grown = e.1 }
 
 pub step_in-requires-2 : goal.step_in-requires-2
 step_in-requires-2 c =
@@ -30,12 +26,8 @@ step_in-requires-2 c =
     let p = c.requires in
     subst (λ (b : List ℕ). Given a.table.now a.first b a.work.now a.self) (from_job a.table.now a.job.now a.self.file c.if-self-eq0.false) p
 
-pub shape_of-work : goal.shape_of-work
-shape_of-work c = c.step_in-2.ensures.grown.same_length
-
 pub returns : goal.returns
 returns c =
     let a = c.args in
-    let e = c.step_in-2.ensures in
-    let x = in_source a.table.now a.first a.work.now a.self _ c.step_in-2.result a.job.now _ (from_job a.table.now a.job.now a.self.file c.if-self-eq0.false) (e.steps, e.grown) in
-    record { steps = x.0; grown = x.1 }
+    let e = in_source a.table.now a.first a.work.now a.self _ c.step_in-2.result a.job.now _ (from_job a.table.now a.job.now a.self.file c.if-self-eq0.false) (c.step_in-2.ensures.steps, c.step_in-2.ensures.grown) in
+    record { steps = e.0; grown = e.1 }

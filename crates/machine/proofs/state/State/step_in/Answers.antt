@@ -1,11 +1,7 @@
 -- `step_in` meets its contract: the next term is there, or the frames are unwound.
 -- Assumes nothing.
-use mathlib.Core.Path.{◌∙◌}
 use Rattle.machine.proofs.StepLaws.{steps_next, unwinding, steps_end, grown_end}
 use Rattle.machine.proofs.state.State.step_in.Goals as goal
-
-pub shape_of-work-then-s-eq-RUNNING : goal.shape_of-work-then-s-eq-RUNNING
-shape_of-work-then-s-eq-RUNNING c = c.begin-s.ensures.grown.same_length
 
 pub returns-then-s-eq-RUNNING : goal.returns-then-s-eq-RUNNING
 returns-then-s-eq-RUNNING c =
@@ -17,9 +13,6 @@ unwind-requires c =
     let a = c.args in
     let p = c.requires in
     unwinding a.table.now a.first a.src.now a.work.now a.self _ _ c.begin-s.ensures.begun c.if-s-eq-RUNNING.false p c.begin-s.ensures.grown
-
-pub shape_of-work : goal.shape_of-work
-shape_of-work c = c.unwind.ensures.fewer.same_length ∙ c.begin-s.ensures.grown.same_length
 
 pub returns : goal.returns
 returns c =

@@ -18,13 +18,9 @@ store_frame-requires c =
     let b = stored_small a.work.now a.self p.3 p.0 a.f p.2 in
     (omega (arith, waiting_top a.work.now a.self p.3, p.3.space), b.0, b.1, b.2)
 
-pub overflow_cast-result : goal.overflow_cast-result
-overflow_cast-result c = omega (arith, c.requires)
-
 pub returns : goal.returns
 returns c =
     let a = c.args in
     let p = c.requires in
-    let x =
-    turn_end a.work.now a.self p.3 p.0 a.f p.2 _ p.1 c.store_frame.ensures in
-    record { popped = x.0; smaller = x.1 }
+    let e = turn_end a.work.now a.self p.3 p.0 a.f p.2 _ p.1 c.store_frame.ensures in
+    record { popped = e.0; smaller = e.1 }
