@@ -12,15 +12,12 @@ pub returns-then-work-lt-SPACE_END : goal.returns-then-work-lt-SPACE_END
 unfolding run_tactic
 returns-then-work-lt-SPACE_END c =
     let a = c.args in
-    let x = unbegun_end run_work a.work.now a.out.now (run_outcome a.table.now a.job.now a.budget) _ c.if-work-lt-SPACE_END.true c.refusal.ensures in
-    record { value = x.0; work_after = x.1.0; out_after = x.1.1 }
+    let e = unbegun_end run_work a.work.now a.out.now (run_outcome a.table.now a.job.now a.budget) _ c.if-work-lt-SPACE_END.true c.refusal.ensures in
+    record { value = e.0; work_after = e.1.0; out_after = e.1.1 }
 
 pub returns : goal.returns
 unfolding run_tactic
 returns c =
     let a = c.args in
-    let r = c.run_budget-answer in
-    let x =
-    begun_end run_work a.work.now a.out.now (run_outcome a.table.now a.job.now a.budget) _ _ _ c.if-work-lt-SPACE_END.false (ap (λ (x : Written). x.answer) r.ensures)
-    (c.clear.ensures ∙ ap (λ (n : ℕ). replicate n 0) r.auto.work) (ap (λ (x : Written). x.out) r.ensures) in
-    record { value = x.0; work_after = x.1.0; out_after = x.1.1 }
+    let e = begun_end run_work a.work.now a.out.now (run_outcome a.table.now a.job.now a.budget) _ _ _ c.if-work-lt-SPACE_END.false (ap (λ (x : Written). x.answer) c.run_budget-answer.ensures) (c.clear.ensures ∙ ap (λ (n : ℕ). replicate n 0) c.run_budget-answer.auto.work) (ap (λ (x : Written). x.out) c.run_budget-answer.ensures) in
+    record { value = e.0; work_after = e.1.0; out_after = e.1.1 }

@@ -34,15 +34,9 @@ run_job-s-requires c =
     let size : length c.read_job-file.new.work ≡ length c.args.work.now = c.read_job-file.auto.work ∙ c.read_table-read.auto.w in
     job_given _ _ _ c.requires.0 _ _ _ both _ (omega (arith, c.requires.1, size))
 
-pub shape_of-work-in-Refused : goal.shape_of-work-in-Refused
-shape_of-work-in-Refused c = c.read_table-read.auto.w
-
 pub returns-in-Refused : goal.returns-in-Refused
 unfolding Reaches
 returns-in-Refused c = table_refused _ c.args.job.now _ _ _ (sym c.read_table-read.ensures.answer ∙ c.in-Refused.is) c.refusal-answer.ensures
-
-pub shape_of-work-in-Refused-file : goal.shape_of-work-in-Refused-file
-shape_of-work-in-Refused-file c = c.read_job-file.auto.work ∙ c.read_table-read.auto.w
 
 pub returns-in-Refused-file : goal.returns-in-Refused-file
 unfolding Reaches

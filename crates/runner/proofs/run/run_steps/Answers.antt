@@ -9,10 +9,6 @@ loop-left-init c =
     let a = c.args in
     way_start a.table.now a.first a.job.now a.work.now a.from a.budget
 
-pub shape_of-work-then-s-ne-RUNNING : goal.shape_of-work-then-s-ne-RUNNING
-shape_of-work-then-s-ne-RUNNING c =
-    c.loop-left.invariant.same_length
-
 pub returns-then-s-ne-RUNNING : goal.returns-then-s-ne-RUNNING
 returns-then-s-ne-RUNNING c =
     let a = c.args in
@@ -25,21 +21,15 @@ step-s-requires c =
     given a.table.now a.first a.job.now a.work.now a.from a.budget c.loop-left.work c.loop-left.s c.loop-left.left c.loop-left.invariant (omega (arith, c.loop-left-test.true)) c.if-s-ne-RUNNING.false p
 
 pub overflow_sub-left : goal.overflow_sub-left
-overflow_sub-left c =
-    omega (arith, c.loop-left-test.true)
+overflow_sub-left c = omega (arith, c.loop-left-test.true)
 
 pub loop-left-smaller : goal.loop-left-smaller
-loop-left-smaller c =
-    omega (arith, c.loop-left-test.true)
+loop-left-smaller c = omega (arith, c.loop-left-test.true)
 
 pub loop-left-preserved : goal.loop-left-preserved
 loop-left-preserved c =
     let a = c.args in
     way_next a.table.now a.first a.job.now a.work.now a.from a.budget c.loop-left.work c.loop-left.s c.loop-left.left c.loop-left.invariant (omega (arith, c.loop-left-test.true)) c.if-s-ne-RUNNING.false _ c.step-s.result c.step-s.ensures.steps c.step-s.ensures.grown
-
-pub shape_of-work : goal.shape_of-work
-shape_of-work c =
-    c.loop-left.invariant.same_length
 
 pub returns : goal.returns
 returns c =
