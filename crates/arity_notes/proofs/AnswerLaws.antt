@@ -14,9 +14,10 @@ use Rattle.format.proofs.StandsLaws.{known}
 use Rattle.tables.specs.Tables.{Table}
 use Rattle.input_arities.specs.Threads.{slot}
 use Rattle.tactics.specs.Numbers.{put_header}
-use Rattle.arities.specs.Layout.{frames_end, notes_room, definitions_place, regions_end}
+use Rattle.arities.specs.Layout.{frames_end}
+use Rattle.arity_notes.specs.Regions.{notes_room, definitions_place, regions_end}
 use Rattle.arities.specs.Arities.{arity_code, arities, Pair}
-use Rattle.arities.proofs.NoteLaws.{slot_inside}
+use Rattle.arity_notes.proofs.NoteLaws.{slot_inside}
 use Rattle.arity_notes.specs.declared.walk.Walk.{Walk}
 use Rattle.arity_notes.specs.Waits.{Both, sums, commons, combine, Wait, for_left, for_right, for_body, for_root, left_kind, right_kind, WaitIs, StackAt}
 use Rattle.arity_notes.specs.Asked.{Known, Turn, asks, tells, TurnIs, turn_weight, stack_weight}

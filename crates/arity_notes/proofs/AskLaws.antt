@@ -21,7 +21,8 @@ use Rattle.tables.specs.Found.{FindsBody, BodyStands}
 use Rattle.evaluation.specs.TacticArity.{arity_in, body_arity}
 use Rattle.evaluation.proofs.UnfoldingLaws.{after_fixed}
 use Rattle.tactics.specs.Numbers.{put_header}
-use Rattle.arities.specs.Layout.{frames_end, regions_end}
+use Rattle.arities.specs.Layout.{frames_end}
+use Rattle.arity_notes.specs.Regions.{regions_end}
 use Rattle.arities.specs.Arities.{arity_code, arities}
 use Rattle.arities.proofs.ArityLaws.{pair_of}
 use Rattle.arity_notes.specs.declared.walk.Walk.{Walk}

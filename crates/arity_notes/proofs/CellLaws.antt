@@ -20,7 +20,8 @@ use Rattle.tables.specs.Tables.{Definition, Table}
 use Rattle.tables.specs.Lookup.{same_tactic, find_body_in}
 use Rattle.tactics.specs.Memory.{Same}
 use Rattle.tactics.proofs.MemoryLaws.{same_word}
-use Rattle.arities.specs.Layout.{frames_end, space_end, regions_end}
+use Rattle.arities.specs.Layout.{frames_end, space_end}
+use Rattle.arity_notes.specs.Regions.{regions_end}
 use Rattle.arities.specs.Arities.{arity_code, arities}
 use Rattle.arity_notes.specs.Waits.{Wait, for_body, Walked}
 use Rattle.arity_notes.specs.Asked.{Asked}

@@ -6,7 +6,7 @@ use mathlib.Core.List.{List, [], ◌∷◌}
 use native.Mathlib.Omega.{arith}
 use lib.ListN.{length, get_or}
 use Rattle.tables.specs.Tables.{Table}
-use Rattle.arities.specs.Layout.{definitions_place}
+use Rattle.arity_notes.specs.Regions.{definitions_place}
 use Rattle.arity_notes.specs.declared.walk.Walk.{Walk}
 use Rattle.arity_notes.specs.Waits.{Wait, StackAt}
 use Rattle.arity_notes.specs.Asked.{Turn, asks, tells, turn_weight, stack_weight, Standing, Told}

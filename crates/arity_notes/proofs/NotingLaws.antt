@@ -16,7 +16,7 @@ use Rattle.input_arities.proofs.ThreadLaws.{slot_rises, slot_apart}
 use Rattle.tactics.proofs.MemoryLaws.{same_word}
 use Rattle.arities.specs.Layout.{frames_end, space_end}
 use Rattle.arities.specs.Arities.{arity_code, arities}
-use Rattle.arities.specs.Notes.{NotedLeft}
+use Rattle.arity_notes.specs.Notes.{NotedLeft}
 use Rattle.arity_notes.specs.Waits.{Both, Wait, for_left, for_right, for_body, for_root}
 use Rattle.arity_notes.specs.Asked.{Known, Turn, asks, tells}
 use Rattle.arity_notes.specs.Noting.{AskedNoted, StackAhead, TurnAhead, turn_low, turn_end, Beyond, Noting}

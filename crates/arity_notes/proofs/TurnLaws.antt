@@ -27,10 +27,11 @@ use Rattle.tactics.specs.Memory.{Same, Only}
 use Rattle.tactics.specs.Numbers.{put_header}
 use Rattle.tactics.proofs.MemoryLaws.{only_word, same_word}
 use Rattle.tactics.proofs.NumberLaws.{only_header, header_tag, header-length}
-use Rattle.arities.specs.Layout.{frames_end, space_end, definitions_place, regions_end}
+use Rattle.arities.specs.Layout.{frames_end, space_end}
+use Rattle.arity_notes.specs.Regions.{definitions_place, regions_end}
 use Rattle.arities.specs.Arities.{arity_code, arities, Pair}
-use Rattle.arities.specs.Notes.{NotedLeft}
-use Rattle.arities.proofs.NoteLaws.{slot_inside}
+use Rattle.arity_notes.specs.Notes.{NotedLeft}
+use Rattle.arity_notes.proofs.NoteLaws.{slot_inside}
 use Rattle.arity_notes.specs.declared.walk.Walk.{Walk}
 use Rattle.arity_notes.specs.Waits.{Both, combine, Wait, for_left, for_right, for_body, for_root, left_kind, right_kind, WaitIs, StackAt, Walked}
 use Rattle.arity_notes.specs.Asked.{Known, Asked, Turn, asks, tells, asked_by, TurnIs, turn_weight, stack_weight, Standing}

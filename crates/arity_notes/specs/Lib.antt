@@ -1,3 +1,6 @@
+pub mod Regions
+pub mod Notes
+pub mod Ready
 pub mod Waits
 pub mod Asked
 pub mod Cells

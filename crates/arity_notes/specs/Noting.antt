@@ -5,7 +5,7 @@ use Rattle.tables.specs.Tables.{Table}
 use Rattle.input_arities.specs.Threads.{slot}
 use Rattle.arities.specs.Layout.{frames_end}
 use Rattle.arities.specs.Arities.{arities}
-use Rattle.arities.specs.Notes.{NotedLeft}
+use Rattle.arity_notes.specs.Notes.{NotedLeft}
 use Rattle.arity_notes.specs.Waits.{Wait, for_left, for_right, for_body, for_root}
 use Rattle.arity_notes.specs.Asked.{Known, Turn, asks, tells}
 use Rattle.arity_notes.specs.Cells.{AllKnown}

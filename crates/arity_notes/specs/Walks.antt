@@ -5,7 +5,8 @@ use Rattle.format.specs.Terms.{Term, defined}
 use Rattle.tables.specs.Tables.{Table}
 use Rattle.tables.specs.Standing.{TableStands}
 use Rattle.index.specs.Build.{DefinitionsIndexed}
-use Rattle.arities.specs.Layout.{notes_room, space_end, definitions_place, regions_end}
+use Rattle.arities.specs.Layout.{space_end}
+use Rattle.arity_notes.specs.Regions.{notes_room, definitions_place, regions_end}
 use Rattle.arity_notes.specs.declared.walk.Walk.{Walk}
 use Rattle.arity_notes.specs.Waits.{Wait, StackAt}
 use Rattle.arity_notes.specs.Asked.{Asked, Turn, asks, asked_by, TurnIs, turn_weight, stack_weight, Standing, Told}

@@ -4,7 +4,8 @@ ghost use Rattle.words.specs.Word.{put_word};
 ghost use Rattle.format.specs.Terms.{Term, size};
 ghost use Rattle.input_arities.specs.Threads.{slot};
 ghost use Rattle.tactics.specs.Numbers.{put_header};
-ghost use Rattle.arities.specs.Layout.{frames_end, notes_room, regions_end};
+ghost use Rattle.arities.specs.Layout.{frames_end};
+ghost use Rattle.arity_notes.specs.Regions.{notes_room, regions_end};
 ghost use Rattle.arities.specs.Arities.{Pair};
 ghost use Rattle.arity_notes.specs.Walks.{Given, Turns};
 

@@ -3,11 +3,13 @@ ghost use Rattle.std.specs.Prelude.{◌≡◌, true, ◌+◌, ◌*◌, ◌<◌, 
 ghost use Rattle.std.proofs.Math.Option.{some};
 ghost use Rattle.words.specs.Word.{put_word};
 ghost use Rattle.tactics.specs.Numbers.{put_header};
-ghost use Rattle.arities.specs.Layout.{frames_end, regions_end};
+ghost use Rattle.arities.specs.Layout.{frames_end};
+ghost use Rattle.arity_notes.specs.Regions.{regions_end};
 ghost use Rattle.arity_notes.specs.Walks.{Given, Turns, TacticGiven, TacticTurns};
 
+use crate::regions::DEFINITIONS_PLACE;
 use crate::walk::{BODY, COMMON_LEFT, SUM_LEFT, Walk};
-use arities::layout::{DEFINITIONS_PLACE, FRAMES_END};
+use arities::layout::FRAMES_END;
 use format::values::{TacticNo, tactic_no_at};
 use index::lookup::find_body;
 use tables::lookup::BodyFound;

@@ -5,5 +5,7 @@
 pub mod answer;
 pub mod ask;
 pub mod codes;
+pub mod notes;
+pub mod regions;
 pub mod walk;
 pub mod walks;
