@@ -5,8 +5,8 @@ ghost use Rattle.std.specs.Prelude.{◌+◌, ◌≤◌, length};
 ghost use Rattle.io.specs.Counts.{IsPrefixLen};
 
 pub mod calls;
+pub mod findings;
 pub mod lent;
-pub mod reading;
 pub mod records;
 pub mod steps;
 pub mod tally;

@@ -3,7 +3,7 @@ ghost use Rattle.std.specs.Prelude.{◌+◌, ◌≤◌, ◌<◌, length};
 ghost use Rattle.replay.specs.Bounds.{Below, Placed, Sum};
 
 use crate::calls::replay_call;
-use crate::reading::replay_reading;
+use crate::findings::replay_reading;
 use crate::records::{
     CASE, CASE_BYTES, Case, END, HEADER, OTHER, SEARCH, TABLE, begins_right, case_bytes, expand,
     load_case, load32,
