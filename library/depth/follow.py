@@ -63,7 +63,7 @@ LAST_OPERAND = re.compile(
     r"|v?mov(aps|apd|ups|upd|dqa|dqu|d|q|ss|sd|hps|lps|hlps|lhps|hpd|lpd|mskps|mskpd|ntps|ntdq|ddup|shdup|sldup)"
     r"|v?(andn?|x?or|unpck[lh]|shuf|add|sub|mul|div|min|max|sqrt|blend)(ps|pd|ss|sd)|v?cvt\w+"
     r"|v?p(add|sub|andn?|x?or|cmpeq|cmpgt|unpck[lh]|shuf|sll|srl|sra|ack[su]s|min|max|mul|madd|avg|sad|insr|extr|movmsk|mov[sz]x"
-    r"|blend|alignr|abs|hadd|sign|broadcast|perm)\w*|v?(insert|extract)ps"
+    r"|blend|alignr|abs|hadd|sign|broadcast|perm)\w*"
 )
 PRODUCT = re.compile(r"(i?mul|i?div)[bwlq]?|cqto|cltd|cltq|cwt[ld]")
 STRINGS = re.compile(r"(stos|lods|scas|cmps|movs)[bwlq]?")
