@@ -75,6 +75,7 @@ module _ (t f : List ℕ) (b : ℕ) (T : Table) (j : Job) (l : b ≤ most_steps)
   pub still_running : (κ : Control) → Running κ → (n : ℕ) → run_end j n κ ≡ refusal budget_spent 0 0 n
   unfolding run_end
   still_running (running π u h w) r n = refl
+  still_running (stopped _) r n = elim r [ ]
 
   spent_so : ((n : ℕ) (x : End) → Ends T FewHeld 0 j.goals j.term n x → n ≤ b → ⊥) → run_outcome t f b ≡ refusal budget_spent 0 0 b
   unfolding run_result
