@@ -7,14 +7,12 @@ use Rattle.entries.specs.CheckProgram.{check_program}
 use Rattle.entries.proofs.ProofFiles.{opened_checks, unopened_checks}
 use Rattle.check_kit.proofs.answer_for.Goals as goal
 
--- PORT: in outcome: `opened` is not applied to a place
 pub returns-then-opened : goal.returns-then-opened
 returns-then-opened c =
     let outcome : (opened : Bool) → Checked = (λ b. check_program c.args.table.now c.args.proof.now b c.args.work.now) in
     let e = ap outcome c.if-opened.true ∙ opened_checks c.args.table.now c.args.proof.now c.args.work.now in
     record { value = c.check.ensures.value ∙ ap (λ (x : Checked). x.answer) (sym e); work_after = c.check.ensures.work_after ∙ ap (λ (x : Checked). x.work) (sym e) }
 
--- PORT: in outcome: `opened` is not applied to a place
 pub returns : goal.returns
 returns c =
     let outcome : (opened : Bool) → Checked = (λ b. check_program c.args.table.now c.args.proof.now b c.args.work.now) in
