@@ -36,14 +36,10 @@ pub fn pop(frames: &[LentFrame], n: usize) -> LentFrame
 pub fn clear_frames(frames: &mut [LentFrame])
     ensures { frames.new ≡ replicate (length frames.old) no_frame }
 {
-    let none = LentFrame {
+    frames.fill(LentFrame {
         term: 0,
         goals: 0,
         count: 0,
         stage: 0,
-    };
-    let mut i: usize = 0;
-    while i < frames.len() {
-        i = push(frames, i, none);
-    }
+    });
 }
