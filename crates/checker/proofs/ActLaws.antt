@@ -8,7 +8,7 @@ use lib.Dec.{ltb}
 use lib.ListN.{length, take, drop, length-map}
 use Rattle.format.specs.declared.values.Goal.{Goal}
 use Rattle.format.specs.Limits.{most_joined}
-use Rattle.format.specs.Refusals.{goals_too_few}
+use Rattle.format.specs.Refusals.{GoalsTooFew}
 use Rattle.format.specs.Results.{Result, gives, refused, and_then}
 use Rattle.format.specs.Values.{goal}
 use Rattle.format.specs.Terms.{Term, atomic, id, label, sequence, tensor, empty, alternation, assert, defined, size}
@@ -98,9 +98,9 @@ module _ (T : Table) where
       let left : walk_of (goal_act T) s (p + 3) A (take (input_arity s) ns) ≡ of_goals B (walk T s (p + 3) g) = walks_goals A s (p + 3) (take (input_arity s) ns) ∙ ap (λ (l : List Goal). of_goals (A ++ walked_rules T s l) (walk T s (p + 3) l)) (take_goals (input_arity s) ns) in
       let right : walk_of (goal_act T) t (p + 3 + size s) B (drop (input_arity s) ns) ≡ of_goals (A ++ (walked_rules T s g ++ walked_rules T t k)) (walk T t (p + 3 + size s) k) =
       walks_goals B t (p + 3 + size s) (drop (input_arity s) ns) ∙ ap (λ (l : List Goal). of_goals (B ++ walked_rules T t l) (walk T t (p + 3 + size s) l)) (drop_goals (input_arity s) ns) ∙ ap (λ (C : List ℕ). of_goals C (walk T t (p + 3 + size s) k)) (append_assoc A (walked_rules T s g) (walked_rules T t k)) in
-      ap₂ (λ (b : Bool) (x : Result (Out ℕ)). cond b (refused goals_too_few p) x) (ap (λ (k : ℕ). ltb k (input_arity s)) (sym (length-map ns goal)))
+      ap₂ (λ (b : Bool) (x : Result (Out ℕ)). cond b (refused GoalsTooFew p) x) (ap (λ (k : ℕ). ltb k (input_arity s)) (sym (length-map ns goal)))
       (ap (λ (x : Result (Out ℕ)). and_then x (λ o. and_then (walk_of (goal_act T) t (p + 3 + size s) o.made (drop (input_arity s) ns)) (joined_values p o.values))) left ∙ after-right B _ t p (p + 3 + size s) (drop (input_arity s) ns) _ right (walk T s (p + 3) g))
-      ∙ of_cond _ (ltb (length (map goal ns)) (input_arity s)) (refused goals_too_few p) _
+      ∙ of_cond _ (ltb (length (map goal ns)) (input_arity s)) (refused GoalsTooFew p) _
   walks_goals A empty p ns = refl
   walks_goals A (alternation s t) p ns = refl
   walks_goals A (assert γ) p ns = refl

@@ -13,7 +13,7 @@ use Rattle.words.proofs.KeptLaws.{kept_copy, kept_put, kept_same}
 use Rattle.format.specs.declared.values.RuleName.{RuleName}
 use Rattle.format.specs.declared.values.Goal.{Goal}
 use Rattle.format.specs.declared.values.TacticNo.{TacticNo}
-use Rattle.format.specs.Refusals.{Cause, number, rule_missing, goal_count_wrong}
+use Rattle.format.specs.Refusals.{Cause, number, RuleMissing, GoalCountWrong}
 use Rattle.format.specs.Results.{Result, gives, refused}
 use Rattle.format.specs.Values.{rule_name, goal}
 use Rattle.format.specs.Terms.{Term, atomic, id, empty, alternation, assert, defined}
@@ -34,7 +34,7 @@ use Rattle.checker.specs.declared.leaf.Acted.TheVariants as A
 use Rattle.checker.specs.Layout.{set_place, set_end}
 use Rattle.checker.specs.Acts.{goals_in, walk_in, LeafReady, Acts}
 
-not_one : (f : Goal → Result (List Goal)) (p : ℕ) (w : List ℕ) (top count : ℕ) → (count ≡ 1 → ⊥) → on_one_goal p f (goals_at w top count) ≡ refused goal_count_wrong p
+not_one : (f : Goal → Result (List Goal)) (p : ℕ) (w : List ℕ) (top count : ℕ) → (count ≡ 1 → ⊥) → on_one_goal p f (goals_at w top count) ≡ refused GoalCountWrong p
 unfolding goals_at on_one_goal
 not_one f p w top zero h = refl
 not_one f p w top (suc zero) h = absurd (h refl)
@@ -46,7 +46,7 @@ one f p w top zero h = absurd (omega arith)
 one f p w top (suc zero) h = refl
 one f p w top (suc (suc k)) h = absurd (omega arith)
 
-not_none : (p : ℕ) (w : List ℕ) (top count : ℕ) → (count ≡ 0 → ⊥) → on_no_goal p (goals_at w top count) ≡ refused goal_count_wrong p
+not_none : (p : ℕ) (w : List ℕ) (top count : ℕ) → (count ≡ 0 → ⊥) → on_no_goal p (goals_at w top count) ≡ refused GoalCountWrong p
 unfolding goals_at on_no_goal
 not_none p w top zero h = absurd (h refl)
 not_none p w top (suc k) h = refl
@@ -78,11 +78,11 @@ module _ (T : Table) (at : ℕ) (w : List ℕ) (n : Next) where
 
   pub atomic_not_one : (a : RuleName) → (n.count ≡ 1 → ⊥) → Acts T (atomic a) at w w n (A.Refused 34)
   unfolding walk number
-  atomic_not_one a h = refuses (atomic a) goal_count_wrong 34 refl (not_one (λ γ. premises_or rule_missing at (find_rule T a γ)) at w n.top n.count h)
+  atomic_not_one a h = refuses (atomic a) GoalCountWrong 34 refl (not_one (λ γ. premises_or RuleMissing at (find_rule T a γ)) at w n.top n.count h)
 
   pub atomic_missing : (a : RuleName) → n.count ≡ 1 → find_rule T a (goal (word w n.top)) ≡ none → Acts T (atomic a) at w w n (A.Refused 20)
   unfolding walk number premises_or
-  atomic_missing a h e = refuses (atomic a) rule_missing 20 refl (one (λ γ. premises_or rule_missing at (find_rule T a γ)) at w n.top n.count h ∙ ap (premises_or rule_missing at) e)
+  atomic_missing a h e = refuses (atomic a) RuleMissing 20 refl (one (λ γ. premises_or RuleMissing at (find_rule T a γ)) at w n.top n.count h ∙ ap (premises_or RuleMissing at) e)
 
   -- the premises of a rule, copied from the table
   module _ (a : RuleName) (table : List ℕ) (number place k : ℕ) (v w' : List ℕ) (size : length v ≡ length w) (in_set : Kept w v set_place set_end) (more : (A : List ℕ) → RuleSet w set_place A → RuleSet v set_place (number ∷ A))
@@ -107,14 +107,14 @@ module _ (T : Table) (at : ℕ) (w : List ℕ) (n : Next) where
           in_set = in_set;
           kept = copied_kept;
           rules = λ A s. subst (λ (l : List ℕ). RuleSet w' set_place (A ++ l)) (sym its_rule) (set_before v w' set_place _ n.low (n.top + n.count * 2) copied_length copied_kept (omega arith) (set-turned v set_place number A (more A s)));
-          outcome = one (λ γ. premises_or rule_missing at (find_rule T a γ)) at w n.top n.count one_goal_lem ∙ ap (premises_or rule_missing at) found ∙ ap gives (sym there);
+          outcome = one (λ γ. premises_or RuleMissing at (find_rule T a γ)) at w n.top n.count one_goal_lem ∙ ap (premises_or RuleMissing at) found ∙ ap gives (sym there);
           used_is = refl;
           few = omega arith;
         }
 
   pub id_not_one : (n.count ≡ 1 → ⊥) → Acts T id at w w n (A.Refused 34)
   unfolding walk number
-  id_not_one h = refuses id goal_count_wrong 34 refl (not_one (λ γ. gives (γ ∷ [])) at w n.top n.count h)
+  id_not_one h = refuses id GoalCountWrong 34 refl (not_one (λ γ. gives (γ ∷ [])) at w n.top n.count h)
 
   pub id_one : (v : ℕ) (w' : List ℕ) → n.count ≡ 1 → v ≡ word w n.top → w' ≡ put_word w n.low v → length w' ≡ length w → n.low ≤ n.top → n.top + n.count * 2 ≤ stack_end → arities_end ≤ length w → Acts T id at w w' n (A.Gives 1 0)
   unfolding Acts walk walked_rules atomics
@@ -133,7 +133,7 @@ module _ (T : Table) (at : ℕ) (w : List ℕ) (n : Next) where
 
   pub empty_not_none : (n.count ≡ 0 → ⊥) → Acts T empty at w w n (A.Refused 34)
   unfolding walk number
-  empty_not_none h = refuses empty goal_count_wrong 34 refl (not_none at w n.top n.count h)
+  empty_not_none h = refuses empty GoalCountWrong 34 refl (not_none at w n.top n.count h)
 
   pub empty_none : n.count ≡ 0 → Acts T empty at w w n (A.Gives 0 0)
   unfolding Acts walk walked_rules atomics goals_at
@@ -150,15 +150,15 @@ module _ (T : Table) (at : ℕ) (w : List ℕ) (n : Next) where
   -- a term that stands in no hiproof
   pub other_alternation : (t u : Term) → Acts T (alternation t u) at w w n (A.Refused 34)
   unfolding walk number
-  other_alternation t u = refuses (alternation t u) goal_count_wrong 34 refl refl
+  other_alternation t u = refuses (alternation t u) GoalCountWrong 34 refl refl
 
   pub other_assert : (γ : Goal) → Acts T (assert γ) at w w n (A.Refused 34)
   unfolding walk number
-  other_assert γ = refuses (assert γ) goal_count_wrong 34 refl refl
+  other_assert γ = refuses (assert γ) GoalCountWrong 34 refl refl
 
   pub other_defined : (m : TacticNo) → Acts T (defined m) at w w n (A.Refused 34)
   unfolding walk number
-  other_defined m = refuses (defined m) goal_count_wrong 34 refl refl
+  other_defined m = refuses (defined m) GoalCountWrong 34 refl refl
 
 -- an atomic that is ready: where its name is, and its room
 pub some_atomic : (s : List ℕ) (at : ℕ) (w : List ℕ) (n : Next) (t : Term) → LeafReady s at t w n → get_or s at 0 ≡ 16 → (at + 4 < length s) × (n.low + 14 ≤ n.top)

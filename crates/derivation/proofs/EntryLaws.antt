@@ -11,7 +11,7 @@ use borrow.Author.Tests.{eq-eqb, ne_eqb}
 use Rattle.words.specs.Word.{word}
 use Rattle.format.specs.declared.values.RuleName.{RuleName}
 use Rattle.format.specs.declared.values.Goal.{Goal}
-use Rattle.format.specs.Refusals.{entry_wrong}
+use Rattle.format.specs.Refusals.{EntryWrong}
 use Rattle.format.specs.Results.{refused, and_then}
 use Rattle.format.specs.Values.{goal}
 use Rattle.tables.specs.Tables.{Table}
@@ -30,7 +30,7 @@ entry_goal (open_entry γ) = γ
 
 module _ (T : Table) (p : ℕ) where
   -- another goal than the first, or none pending
-  pub stops_other : (g : List Goal) (e : Entry) (es : List Entry) → carries_first (entry_goal e) g ≡ false → flat_walk T p g (e ∷ es) ≡ refused entry_wrong p
+  pub stops_other : (g : List Goal) (e : Entry) (es : List Entry) → carries_first (entry_goal e) g ≡ false → flat_walk T p g (e ∷ es) ≡ refused EntryWrong p
   unfolding flat_walk carries_first
   stops_other [] (use_entry a γ) es t = refl
   stops_other [] (open_entry γ) es t = refl
@@ -44,7 +44,7 @@ module _ (T : Table) (p : ℕ) where
   steps_open (δ ∷ g) γ es t = rw t
 
   -- a use without its rule
-  pub stops_missing : (g : List Goal) (a : RuleName) (γ : Goal) (es : List Entry) → carries_first γ g ≡ true → find_rule T a γ ≡ none → flat_walk T p g (use_entry a γ ∷ es) ≡ refused entry_wrong p
+  pub stops_missing : (g : List Goal) (a : RuleName) (γ : Goal) (es : List Entry) → carries_first γ g ≡ true → find_rule T a γ ≡ none → flat_walk T p g (use_entry a γ ∷ es) ≡ refused EntryWrong p
   unfolding flat_walk carries_first and_then premises_or
   stops_missing [] a γ es t f = refl
   stops_missing (δ ∷ g) a γ es t f = rw (t, f)

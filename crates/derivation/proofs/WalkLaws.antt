@@ -14,7 +14,7 @@ use Rattle.words.proofs.KeptLaws.{kept_same, kept_both}
 use Rattle.format.specs.declared.values.RuleName.{RuleName}
 use Rattle.format.specs.declared.values.Goal.{Goal}
 use Rattle.format.specs.Limits.{most_uses}
-use Rattle.format.specs.Refusals.{entry_wrong}
+use Rattle.format.specs.Refusals.{EntryWrong}
 use Rattle.format.specs.Results.{Result, refused}
 use Rattle.format.specs.Values.{rule_name, goal}
 use Rattle.format.specs.Goals.{goals_at}
@@ -138,7 +138,7 @@ module _ (T : Table) (flat w : List ℕ) (all : List Entry) (whole : Result (Lis
   pub lists_few : lists ≤ most_uses
   lists_few = omega (arith, r.few, r.bound)
 
-  stops_here : at < length flat → whole ≡ refused entry_wrong at → (g : List Goal) → StopsAt flat whole at g
+  stops_here : at < length flat → whole ≡ refused EntryWrong at → (g : List Goal) → StopsAt flat whole at g
   unfolding walked
   stops_here l e g = e ∙ rw (lt-ltb at (length flat) l)
 

@@ -4,7 +4,7 @@ use Rattle.words.specs.Word.{word}
 use Rattle.words.specs.Kept.{Kept}
 use Rattle.format.specs.declared.values.Goal.{Goal}
 use Rattle.format.specs.Limits.{most_bytes, most_uses}
-use Rattle.format.specs.Refusals.{entry_wrong}
+use Rattle.format.specs.Refusals.{EntryWrong}
 use Rattle.format.specs.Results.{Result, gives, refused}
 use Rattle.format.specs.Values.{goal}
 use Rattle.format.specs.Goals.{goals_at}
@@ -32,7 +32,7 @@ pub record EntryInside (s : List ℕ) (at : ℕ) : Type 0 where
 
 -- what the walk comes to, by where it stopped: an entry that is wrong, or at the file's end the goals that are still pending
 unfoldable pub walked : (end place : ℕ) → (pending : List Goal) → Result (List Goal)
-walked end place g = cond (ltb place end) (refused entry_wrong place) (gives g)
+walked end place g = cond (ltb place end) (refused EntryWrong place) (gives g)
 
 -- a table and entries that stand in the two files, within the limit of uses
 pub record Given (table : List ℕ) (rules : ℕ) (flat : List ℕ) (roots : ℕ) (T : Table) (es : List Entry) : Type 0 where

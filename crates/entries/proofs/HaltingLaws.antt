@@ -11,7 +11,7 @@ use lib.Dec.{ltb}
 use lib.ListN.{length}
 use borrow.Author.Tests.{lt-ltb, le-ltb}
 use Rattle.format.specs.Limits.{most_steps}
-use Rattle.format.specs.Refusals.{Cause, number, budget_too_large, state_not_genuine}
+use Rattle.format.specs.Refusals.{Cause, number, BudgetTooLarge, StateNotGenuine}
 use Rattle.format.specs.Results.{Result, gives, refused}
 use Rattle.tables.specs.Tables.{Table}
 use Rattle.tables.specs.ReadTables.{read_table}
@@ -73,7 +73,7 @@ module _ (work : List ℕ) (frames : List LentFrame) (out state : List ℕ) wher
 module _ (t f : List ℕ) where
   module _ (n : ℕ) (next : Table → Job → HaltingOutcome) where
     -- 25
-    pub over_limit : most_steps < n → within_limit n t f next ≡ unbegun (refusal budget_too_large 0 0 0)
+    pub over_limit : most_steps < n → within_limit n t f next ≡ unbegun (refusal BudgetTooLarge 0 0 0)
     unfolding within_limit
     over_limit l = rw (lt-ltb most_steps n l)
 
@@ -102,8 +102,8 @@ module _ (t f : List ℕ) where
   halting_run b = go (ltb most_steps b) (read_table t) (read_job f)
     where
       go : (x : Bool) (r : Result Table) (q : Result Job)
-          → (cond x (unbegun (refusal budget_too_large 0 0 0)) (with_files r q (λ T j. ran_for T j b))).outcome
-          ≡ cond x (refusal budget_too_large 0 0 0) (in_file 1 r (λ T. in_file 2 q (λ j. run_result j (run T b (begins j)))))
+          → (cond x (unbegun (refusal BudgetTooLarge 0 0 0)) (with_files r q (λ T j. ran_for T j b))).outcome
+          ≡ cond x (refusal BudgetTooLarge 0 0 0) (in_file 1 r (λ T. in_file 2 q (λ j. run_result j (run T b (begins j)))))
       go true r q = refl
       go false (gives T) (gives j) = refl
       go false (gives T) (refused c p) = refl
@@ -124,6 +124,6 @@ module _ (T : Table) (j : Job) (s : List ℕ) where
   unfolding going_on
   genuine_goes_on c q = rw q refl
 
-  pub not_genuine : (c : ℕ) → genuine T j s ≡ false → going_on s c T j ≡ unbegun (refusal state_not_genuine 0 0 0)
+  pub not_genuine : (c : ℕ) → genuine T j s ≡ false → going_on s c T j ≡ unbegun (refusal StateNotGenuine 0 0 0)
   unfolding going_on
   not_genuine c q = rw q refl

@@ -7,7 +7,7 @@ use native.Mathlib.Omega.{arith}
 use lib.ListN.{length, replicate, length-replicate}
 use borrow.Author.Tests.{lt-ltb}
 use Rattle.format.specs.Limits.{most_bytes}
-use Rattle.format.specs.Refusals.{input_too_long}
+use Rattle.format.specs.Refusals.{InputTooLong}
 use Rattle.entries.specs.Outcomes.{refusal, table_file}
 use Rattle.words.specs.Word.{word}
 use Rattle.format.specs.Encoding.{term_bytes, goal_bytes}
@@ -67,7 +67,7 @@ unfolding word term_bytes goal_bytes goals_at goals_of read_goals header_at leaf
 starred = refl & refl & refl & refl & refl & refl & refl & refl & refl & refl & refl & refl & refl & no_more
 
 -- a table of more bytes than a file may have is refused unread
-too_long_lem : (s p : List ℕ) → most_bytes < length s → on_proof proof_counts s p ≡ refusal input_too_long table_file 0 0
+too_long_lem : (s p : List ℕ) → most_bytes < length s → on_proof proof_counts s p ≡ refusal InputTooLong table_file 0 0
 unfolding on_proof read_table
 too_long_lem s p h = rw (lt-ltb most_bytes (length s) h)
 

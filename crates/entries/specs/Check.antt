@@ -1,7 +1,7 @@
 -- Document 01, "Checking a hiproof": the entry check, and "Flat derivations": the entry flatten.
 use Rattle.std.specs.Prelude.{ℕ, Bool, true, false, cond, ◌&&◌, List, [], ◌∷◌, length}
 use Rattle.format.specs.declared.values.Goal.{Goal}
-use Rattle.format.specs.Refusals.{remaining_differ}
+use Rattle.format.specs.Refusals.{RemainingDiffer}
 use Rattle.format.specs.Results.{Result, gives, refused, and_then}
 use Rattle.format.specs.Terms.{fields}
 use Rattle.rule_set.specs.Different.{different}
@@ -26,7 +26,7 @@ same_goals (γ ∷ g) (δ ∷ h) = same_goal γ δ && same_goals g h
 
 -- "the list given at the end is that of the stated remaining goals"; "21: stated remaining goals differ; place of that list"
 unfoldable pub remaining_are : {A : Type 0} → Proof → A → List Goal → Result A
-remaining_are p a h = cond (same_goals h p.remaining) (gives a) (refused remaining_differ (remaining_place p))
+remaining_are p a h = cond (same_goals h p.remaining) (gives a) (refused RemainingDiffer (remaining_place p))
 
 -- the walk on the stated goals, with its 20, 22, 34 and 35, then 21
 unfoldable pub checked : {A : Type 0} → Table → Proof → A → Result A

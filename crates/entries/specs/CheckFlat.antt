@@ -2,7 +2,7 @@
 use Rattle.std.specs.Prelude.{ℕ, cond, List, [], ◌∷◌, ltb, length}
 use Rattle.format.specs.declared.values.Goal.{Goal}
 use Rattle.format.specs.Limits.{most_entries}
-use Rattle.format.specs.Refusals.{goals_pending, entries_too_many}
+use Rattle.format.specs.Refusals.{GoalsPending, EntriesTooMany}
 use Rattle.format.specs.Results.{Result, gives, refused, and_then}
 use Rattle.rule_set.specs.Different.{different}
 use Rattle.tables.specs.Tables.{Table}
@@ -20,7 +20,7 @@ use Rattle.entries.specs.LentSpace.{Counts, Checked, check_in, Written, write_in
 -- "nothing is pending at its end"; "27: flat file wrong; .. the file's length if goals are pending"
 unfoldable pub none_pending : {A : Type 0} → (end : ℕ) → A → List Goal → Result A
 none_pending end a [] = gives a
-none_pending end a (γ ∷ g) = refused goals_pending end
+none_pending end a (γ ∷ g) = refused GoalsPending end
 
 -- "every entry applies and nothing is pending at its end", in a file that ends at `end`
 unfoldable pub right : {A : Type 0} → Table → Derivation → (end : ℕ) → A → Result A
@@ -42,7 +42,7 @@ written_proof T d = record { goals = d.roots; term = written T d.entries; remain
 
 -- "28: over 2,048 entries when writing a proof; file 2, place 0", "28 before 27"
 unfoldable pub written_file : Table → Derivation → (end : ℕ) → Result (List ℕ)
-written_file T d end = cond (ltb most_entries (length d.entries)) (refused entries_too_many 0) (right T d end (proof_bytes (written_proof T d)))
+written_file T d end = cond (ltb most_entries (length d.entries)) (refused EntriesTooMany 0) (right T d end (proof_bytes (written_proof T d)))
 
 unfoldable pub write_outcome : (table flat : List ℕ) → Outcome (List ℕ)
 write_outcome table flat =

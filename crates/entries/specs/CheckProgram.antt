@@ -1,6 +1,6 @@
 -- Document 01, "A table and its edges": what the check program prints the line of. Document 02, P7, tells a proof.hip that cannot be opened from one of zero bytes.
 use Rattle.std.specs.Prelude.{ℕ, Bool, cond, List}
-use Rattle.format.specs.Refusals.{field_torn}
+use Rattle.format.specs.Refusals.{FieldTorn}
 use Rattle.tables.specs.ReadTables.{read_table}
 use Rattle.entries.specs.Outcomes.{Outcome, refusal, in_file, table_file, other_file}
 use Rattle.entries.specs.LentSpace.{Counts, Checked, check_in}
@@ -8,7 +8,7 @@ use Rattle.entries.specs.Check.{on_proof, proof_counts, check_work}
 
 -- "When the check program can't open proof.hip it still prints 2 at place 0 of file 2, the table's refusals coming first."
 unfoldable pub without_proof : (table : List ℕ) → Outcome Counts
-without_proof table = in_file table_file (read_table table) (λ T. refusal field_torn other_file 0 0)
+without_proof table = in_file table_file (read_table table) (λ T. refusal FieldTorn other_file 0 0)
 
 -- the bytes of both files, and whether proof.hip was opened; if it was, what check comes to
 unfoldable pub program_outcome : (table proof : List ℕ) → (opened : Bool) → Outcome Counts

@@ -3,7 +3,7 @@ use Rattle.std.specs.Prelude.{ℕ, ◌+◌, Bool, true, false, cond, ◌&&◌, �
 use Rattle.std.proofs.Math.Option.{Option, none, some}
 use Rattle.words.specs.Word.{word}
 use Rattle.format.specs.Limits.{most_steps}
-use Rattle.format.specs.Refusals.{number, budget_too_large, work_too_short, state_not_genuine}
+use Rattle.format.specs.Refusals.{number, BudgetTooLarge, WorkTooShort, StateNotGenuine}
 use Rattle.format.specs.Results.{Result, gives, refused}
 use Rattle.tables.specs.Tables.{Table}
 use Rattle.tables.specs.ReadTables.{read_table}
@@ -43,7 +43,7 @@ with_files (refused c p) r next = unbegun (refusal c table_file p 0)
 
 -- "25 .. before any reading": so many steps in all are within the limit, and then the files
 unfoldable pub within_limit : (steps : ℕ) → (table job : List ℕ) → (Table → Job → HaltingOutcome) → HaltingOutcome
-within_limit n table job next = cond (ltb most_steps n) (unbegun (refusal budget_too_large no_file 0 0)) (with_files (read_table table) (read_job job) next)
+within_limit n table job next = cond (ltb most_steps n) (unbegun (refusal BudgetTooLarge no_file 0 0)) (with_files (read_table table) (read_job job) next)
 
 -- "Makers want to halt a run after some steps"
 unfoldable pub halting_outcome : (table job : List ℕ) → (budget : ℕ) → HaltingOutcome
@@ -71,7 +71,7 @@ genuine T j s = is_saved (saved_state (run T (steps_of s) (begins j))) s
 
 -- "Refused: 30, a saved state of another size or not genuine .., tested after both files are read and before any step"; else "the answer of a single run with b + c"
 unfoldable pub going_on : (saved : List ℕ) → (budget : ℕ) → Table → Job → HaltingOutcome
-going_on s c T j = cond (genuine T j s) (ran_for T j (steps_of s + c)) (unbegun (refusal state_not_genuine no_file 0 0))
+going_on s c T j = cond (genuine T j s) (ran_for T j (steps_of s + c)) (unbegun (refusal StateNotGenuine no_file 0 0))
 
 -- "b + c over" the limit (P12: 16,384, "also for the sum in P1") "is 25, tested where 25 now is"
 unfoldable pub resume_outcome : (table job saved : List ℕ) → (budget : ℕ) → HaltingOutcome
@@ -112,7 +112,7 @@ any_short work frames state = ltb (length work) halting_work || ltb (length fram
 unfoldable pub halt_in : (work : List ℕ) → List LentFrame → (out state : List ℕ) → HaltingOutcome → Halting
 halt_in work frames out state h =
     cond (any_short work frames state)
-    (record { answer = answer.refusal (number work_too_short) no_file 0 0; work = work; frames = frames; out = out; state = state })
+    (record { answer = answer.refusal (number WorkTooShort) no_file 0 0; work = work; frames = frames; out = out; state = state })
     (spaces_after (write_out work out h.outcome) (cleared_frames frames) (save_in state h.saved))
 
 unfoldable pub run_halting : (table job : List ℕ) → (budget : ℕ) → (work : List ℕ) → List LentFrame → (out state : List ℕ) → Halting

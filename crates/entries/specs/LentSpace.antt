@@ -1,6 +1,6 @@
 -- Document 01, "What the bytes bring about" and "What the state brings about": the answer, and every byte of lent space afterwards.
 use Rattle.std.specs.Prelude.{ℕ, cond, List, ◌++◌, ltb, length, drop, replicate}
-use Rattle.format.specs.Refusals.{number, output_too_short, work_too_short}
+use Rattle.format.specs.Refusals.{number, OutputTooShort, WorkTooShort}
 use Rattle.answers.specs.declared.Answer.{Answer}
 use Rattle.answers.specs.Answers as answer
 use Rattle.entries.specs.Outcomes.{Outcome, success, refusal, no_file}
@@ -29,7 +29,7 @@ counted_answer (refusal c f p k) = answer.refusal (number c) f p k
 unfoldable pub check_in : (size : ℕ) → (work : List ℕ) → Outcome Counts → Checked
 check_in size work o =
     cond (ltb (length work) size)
-    (record { answer = answer.refusal (number work_too_short) no_file 0 0; work = work })
+    (record { answer = answer.refusal (number WorkTooShort) no_file 0 0; work = work })
     (record { answer = counted_answer o; work = cleared work })
 
 -- A call of an entry that writes: its answer, and both lent spaces afterwards.
@@ -43,12 +43,12 @@ unfoldable pub write_out : (work out : List ℕ) → Outcome (List ℕ) → Writ
 write_out work out (refusal c f p k) = record { answer = answer.refusal (number c) f p k; work = cleared work; out = out }
 write_out work out (success bytes k) =
     cond (ltb (length out) (length bytes))
-    (record { answer = answer.refusal (number output_too_short) no_file 0 k; work = cleared work; out = out })
+    (record { answer = answer.refusal (number OutputTooShort) no_file 0 k; work = cleared work; out = out })
     (record { answer = answer.wrote (length bytes) k; work = cleared work; out = bytes ++ drop (length bytes) out })
 
 -- 29 first, and then both spaces are untouched
 unfoldable pub write_in : (size : ℕ) → (work out : List ℕ) → Outcome (List ℕ) → Written
 write_in size work out o =
     cond (ltb (length work) size)
-    (record { answer = answer.refusal (number work_too_short) no_file 0 0; work = work; out = out })
+    (record { answer = answer.refusal (number WorkTooShort) no_file 0 0; work = work; out = out })
     (write_out work out o)

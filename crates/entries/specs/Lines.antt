@@ -1,7 +1,7 @@
 -- Document 01, "A table and its edges": a worked line is a call on bytes and what it comes to.
 use Rattle.std.specs.Prelude.{ℕ, ◌≡◌, Bool, List, [], ◌∷◌, length}
 use Rattle.std.proofs.Math.Option.{Option, some}
-use Rattle.format.specs.Refusals.{budget_spent}
+use Rattle.format.specs.Refusals.{BudgetSpent}
 use Rattle.format.specs.Results.{Result}
 use Rattle.tables.specs.Tables.{Table}
 use Rattle.files.specs.Derivations.{Derivation}
@@ -46,7 +46,7 @@ pub data Line : Type 0 where
 
 -- a halt after so many steps, with these bytes and zeros behind them
 abbrev pub halted_with : (steps : ℕ) → (contents : List ℕ) → HaltingOutcome
-halted_with n s = record { outcome = refusal budget_spent no_file 0 n; saved = some (zeros_to saved_size s) }
+halted_with n s = record { outcome = refusal BudgetSpent no_file 0 n; saved = some (zeros_to saved_size s) }
 
 -- what the line says
 unfoldable pub Holds : Line → Type 0

@@ -1,6 +1,6 @@
 -- Document 01, "A table and its edges": the starred lines, and one line for each refusal and some edges, over bytes. `proofs/Worked.antt` proves them.
 use Rattle.std.specs.Prelude.{ℕ, zero, suc, true, false, List, [], ◌∷◌, ◌++◌, replicate}
-use Rattle.format.specs.Refusals.{input_too_long, field_torn, tag_not_allowed, length_wrong, limit_passed, rule_repeated, premise_count_differs, tactic_redefined, label_repeated, goal_count_wrong, remaining_differ, joined_too_long, tactic_failed, budget_spent, budget_too_large, entry_wrong, goals_pending, entries_too_many, text_wrong, no_evaluation, height_outside}
+use Rattle.format.specs.Refusals.{InputTooLong, FieldTorn, TagNotAllowed, LengthWrong, LimitPassed, RuleRepeated, PremiseCountDiffers, TacticRedefined, LabelRepeated, GoalCountWrong, RemainingDiffer, JoinedTooLong, TacticFailed, BudgetSpent, BudgetTooLarge, EntryWrong, GoalsPending, EntriesTooMany, TextWrong, NoEvaluation, HeightOutside}
 use Rattle.format.specs.Results.{refused}
 use Rattle.format.specs.Values.{goal}
 use Rattle.format.specs.Terms.{id, alternation}
@@ -65,7 +65,7 @@ starred_lines =
     -- "a file of 51 bytes"
     ∷ of_bytes proof_t3 51
     -- "Budget 18: 24 after 18."
-    ∷ runs table_a (3 ∷ 0 ∷ 2 ∷ 0 ∷ 10 ∷ 24 ∷ 0 ∷ 2 ∷ 0 ∷ 3 ∷ []) 18 (refusal budget_spent no_file 0 18)
+    ∷ runs table_a (3 ∷ 0 ∷ 2 ∷ 0 ∷ 10 ∷ 24 ∷ 0 ∷ 2 ∷ 0 ∷ 3 ∷ []) 18 (refusal BudgetSpent no_file 0 18)
     -- "Its flat uses: 1 on 10, 2 on 20, 3 on 30."
     ∷ flattens table_a proof_t3 (done flat_t3)
     -- "Written back: 1 ; (2 ⊗ 3), 5 term fields."
@@ -77,7 +77,7 @@ starred_lines =
     -- "On two: id ⊗ (id ⊗ empty), 12 steps."
     ∷ runs table_a (3 ∷ 0 ∷ 4 ∷ 0 ∷ 10 ∷ 0 ∷ 20 ∷ 24 ∷ 0 ∷ 2 ∷ 0 ∷ 4 ∷ []) 12 (success (3 ∷ 0 ∷ 4 ∷ 0 ∷ 10 ∷ 0 ∷ 20 ∷ 20 ∷ 0 ∷ 12 ∷ 17 ∷ 0 ∷ 0 ∷ 20 ∷ 0 ∷ 6 ∷ 17 ∷ 0 ∷ 0 ∷ 21 ∷ 0 ∷ 0 ∷ 3 ∷ 0 ∷ 4 ∷ 0 ∷ 10 ∷ 0 ∷ 20 ∷ []) 12)
     -- "(id | 2) ; empty on 20: 23 after 4 steps."
-    ∷ runs table_a (3 ∷ 0 ∷ 2 ∷ 0 ∷ 20 ∷ 19 ∷ 0 ∷ 14 ∷ 22 ∷ 0 ∷ 8 ∷ 17 ∷ 0 ∷ 0 ∷ 16 ∷ 0 ∷ 2 ∷ 0 ∷ 2 ∷ 21 ∷ 0 ∷ 0 ∷ []) 4096 (refusal tactic_failed no_file 0 4)
+    ∷ runs table_a (3 ∷ 0 ∷ 2 ∷ 0 ∷ 20 ∷ 19 ∷ 0 ∷ 14 ∷ 22 ∷ 0 ∷ 8 ∷ 17 ∷ 0 ∷ 0 ∷ 16 ∷ 0 ∷ 2 ∷ 0 ∷ 2 ∷ 21 ∷ 0 ∷ 0 ∷ []) 4096 (refusal TacticFailed no_file 0 4)
     -- "Proof with goal 10 and term 2: 20 at 5."
     ∷ checks_as table_a (3 ∷ 0 ∷ 2 ∷ 0 ∷ 10 ∷ 16 ∷ 0 ∷ 2 ∷ 0 ∷ 2 ∷ 3 ∷ 0 ∷ 0 ∷ []) (answer.refusal 20 2 5 0)
     -- document 02, P5: "The starred lines with 20 at 11 and at 5 for the nested tensor become 34 and 35", which are "id ⊗ id on 10: 20 at 11"
@@ -100,43 +100,43 @@ edge_lines =
     -- the right derivation that the flattener wrote
     ∷ checks_flat table_a flat_t3 (done (counts 0 3 0 3))
     -- 1: 65,536 bytes, before anything is read
-    ∷ checks (replicate 65536 0) [] (refusal input_too_long table_file 0 0)
+    ∷ checks (replicate 65536 0) [] (refusal InputTooLong table_file 0 0)
     -- the table's 1 to 9 come before the other file's length is looked at
-    ∷ checks (1 ∷ []) (replicate 65536 0) (refusal field_torn table_file 0 0)
+    ∷ checks (1 ∷ []) (replicate 65536 0) (refusal FieldTorn table_file 0 0)
     -- 2: two bytes where a field could begin
-    ∷ checks (1 ∷ 0 ∷ 4 ∷ 0 ∷ 1 ∷ 0 ∷ 1 ∷ 1 ∷ 0 ∷ []) [] (refusal field_torn table_file 7 0)
+    ∷ checks (1 ∷ 0 ∷ 4 ∷ 0 ∷ 1 ∷ 0 ∷ 1 ∷ 1 ∷ 0 ∷ []) [] (refusal FieldTorn table_file 7 0)
     -- 2: no field where one must begin
-    ∷ checks_flat table_a [] (refusal field_torn other_file 0 0)
+    ∷ checks_flat table_a [] (refusal FieldTorn other_file 0 0)
     -- 2: an inner term that is missing is torn at its own place
-    ∷ runs [] (3 ∷ 0 ∷ 0 ∷ 19 ∷ 0 ∷ 3 ∷ 17 ∷ 0 ∷ 0 ∷ []) 1 (refusal field_torn other_file 9 0)
+    ∷ runs [] (3 ∷ 0 ∷ 0 ∷ 19 ∷ 0 ∷ 3 ∷ 17 ∷ 0 ∷ 0 ∷ []) 1 (refusal FieldTorn other_file 9 0)
     -- 3: a rule behind a definition
-    ∷ checks (2 ∷ 0 ∷ 5 ∷ 0 ∷ 1 ∷ 17 ∷ 0 ∷ 0 ∷ 1 ∷ 0 ∷ 4 ∷ 0 ∷ 1 ∷ 0 ∷ 1 ∷ []) [] (refusal tag_not_allowed table_file 8 0)
+    ∷ checks (2 ∷ 0 ∷ 5 ∷ 0 ∷ 1 ∷ 17 ∷ 0 ∷ 0 ∷ 1 ∷ 0 ∷ 4 ∷ 0 ∷ 1 ∷ 0 ∷ 1 ∷ []) [] (refusal TagNotAllowed table_file 8 0)
     -- 3: a defined tactic in a proof
-    ∷ checks [] (3 ∷ 0 ∷ 2 ∷ 0 ∷ 10 ∷ 19 ∷ 0 ∷ 8 ∷ 17 ∷ 0 ∷ 0 ∷ 24 ∷ 0 ∷ 2 ∷ 0 ∷ 1 ∷ 3 ∷ 0 ∷ 0 ∷ []) (refusal tag_not_allowed other_file 11 0)
+    ∷ checks [] (3 ∷ 0 ∷ 2 ∷ 0 ∷ 10 ∷ 19 ∷ 0 ∷ 8 ∷ 17 ∷ 0 ∷ 0 ∷ 24 ∷ 0 ∷ 2 ∷ 0 ∷ 1 ∷ 3 ∷ 0 ∷ 0 ∷ []) (refusal TagNotAllowed other_file 11 0)
     -- 4: a rule with nine premises
-    ∷ checks (1 ∷ 0 ∷ 22 ∷ 0 ∷ 0 ∷ 0 ∷ 0 ∷ 0 ∷ 0 ∷ 0 ∷ 0 ∷ 0 ∷ 0 ∷ 0 ∷ 0 ∷ 0 ∷ 0 ∷ 0 ∷ 0 ∷ 0 ∷ 0 ∷ 0 ∷ 0 ∷ 0 ∷ 0 ∷ []) [] (refusal length_wrong table_file 0 0)
+    ∷ checks (1 ∷ 0 ∷ 22 ∷ 0 ∷ 0 ∷ 0 ∷ 0 ∷ 0 ∷ 0 ∷ 0 ∷ 0 ∷ 0 ∷ 0 ∷ 0 ∷ 0 ∷ 0 ∷ 0 ∷ 0 ∷ 0 ∷ 0 ∷ 0 ∷ 0 ∷ 0 ∷ 0 ∷ 0 ∷ []) [] (refusal LengthWrong table_file 0 0)
     -- 4: a rule of odd length
-    ∷ checks (1 ∷ 0 ∷ 5 ∷ 0 ∷ 0 ∷ 0 ∷ 0 ∷ 0 ∷ []) [] (refusal length_wrong table_file 0 0)
+    ∷ checks (1 ∷ 0 ∷ 5 ∷ 0 ∷ 0 ∷ 0 ∷ 0 ∷ 0 ∷ []) [] (refusal LengthWrong table_file 0 0)
     -- 4: bytes left behind an inner term, at the enclosing field
-    ∷ checks [] (3 ∷ 0 ∷ 2 ∷ 0 ∷ 10 ∷ 18 ∷ 0 ∷ 6 ∷ 0 ∷ 1 ∷ 17 ∷ 0 ∷ 0 ∷ 0 ∷ []) (refusal length_wrong other_file 5 0)
+    ∷ checks [] (3 ∷ 0 ∷ 2 ∷ 0 ∷ 10 ∷ 18 ∷ 0 ∷ 6 ∷ 0 ∷ 1 ∷ 17 ∷ 0 ∷ 0 ∷ 0 ∷ []) (refusal LengthWrong other_file 5 0)
     -- 4: bytes left behind the last field, at the first of them
-    ∷ checks [] (3 ∷ 0 ∷ 0 ∷ 21 ∷ 0 ∷ 0 ∷ 3 ∷ 0 ∷ 0 ∷ 0 ∷ []) (refusal length_wrong other_file 9 0)
+    ∷ checks [] (3 ∷ 0 ∷ 0 ∷ 21 ∷ 0 ∷ 0 ∷ 3 ∷ 0 ∷ 0 ∷ 0 ∷ []) (refusal LengthWrong other_file 9 0)
     -- 5: 257 goals in a list
-    ∷ checks [] (3 ∷ 2 ∷ 2 ∷ replicate 514 0) (refusal limit_passed other_file 0 0)
+    ∷ checks [] (3 ∷ 2 ∷ 2 ∷ replicate 514 0) (refusal LimitPassed other_file 0 0)
     -- 4 before 5: an odd length of more than 256 goals
-    ∷ checks [] (3 ∷ 2 ∷ 3 ∷ replicate 515 0) (refusal length_wrong other_file 0 0)
+    ∷ checks [] (3 ∷ 2 ∷ 3 ∷ replicate 515 0) (refusal LengthWrong other_file 0 0)
     -- 6: at the second of two equal rules
-    ∷ checks (1 ∷ 0 ∷ 4 ∷ 0 ∷ 1 ∷ 0 ∷ 1 ∷ 1 ∷ 0 ∷ 4 ∷ 0 ∷ 2 ∷ 0 ∷ 2 ∷ 1 ∷ 0 ∷ 4 ∷ 0 ∷ 1 ∷ 0 ∷ 1 ∷ []) [] (refusal rule_repeated table_file 14 0)
+    ∷ checks (1 ∷ 0 ∷ 4 ∷ 0 ∷ 1 ∷ 0 ∷ 1 ∷ 1 ∷ 0 ∷ 4 ∷ 0 ∷ 2 ∷ 0 ∷ 2 ∷ 1 ∷ 0 ∷ 4 ∷ 0 ∷ 1 ∷ 0 ∷ 1 ∷ []) [] (refusal RuleRepeated table_file 14 0)
     -- 6 before 7, though its place is higher
-    ∷ checks (1 ∷ 0 ∷ 4 ∷ 0 ∷ 1 ∷ 0 ∷ 1 ∷ 1 ∷ 0 ∷ 6 ∷ 0 ∷ 1 ∷ 0 ∷ 2 ∷ 0 ∷ 3 ∷ 1 ∷ 0 ∷ 4 ∷ 0 ∷ 2 ∷ 0 ∷ 2 ∷ 1 ∷ 0 ∷ 4 ∷ 0 ∷ 2 ∷ 0 ∷ 2 ∷ []) [] (refusal rule_repeated table_file 23 0)
+    ∷ checks (1 ∷ 0 ∷ 4 ∷ 0 ∷ 1 ∷ 0 ∷ 1 ∷ 1 ∷ 0 ∷ 6 ∷ 0 ∷ 1 ∷ 0 ∷ 2 ∷ 0 ∷ 3 ∷ 1 ∷ 0 ∷ 4 ∷ 0 ∷ 2 ∷ 0 ∷ 2 ∷ 1 ∷ 0 ∷ 4 ∷ 0 ∷ 2 ∷ 0 ∷ 2 ∷ []) [] (refusal RuleRepeated table_file 23 0)
     -- 7: the first rule with another count
-    ∷ checks (1 ∷ 0 ∷ 4 ∷ 0 ∷ 1 ∷ 0 ∷ 1 ∷ 1 ∷ 0 ∷ 6 ∷ 0 ∷ 1 ∷ 0 ∷ 2 ∷ 0 ∷ 3 ∷ 1 ∷ 0 ∷ 4 ∷ 0 ∷ 1 ∷ 0 ∷ 3 ∷ []) [] (refusal premise_count_differs table_file 7 0)
+    ∷ checks (1 ∷ 0 ∷ 4 ∷ 0 ∷ 1 ∷ 0 ∷ 1 ∷ 1 ∷ 0 ∷ 6 ∷ 0 ∷ 1 ∷ 0 ∷ 2 ∷ 0 ∷ 3 ∷ 1 ∷ 0 ∷ 4 ∷ 0 ∷ 1 ∷ 0 ∷ 3 ∷ []) [] (refusal PremiseCountDiffers table_file 7 0)
     -- 8: at the second definition
-    ∷ checks (1 ∷ 0 ∷ 4 ∷ 0 ∷ 1 ∷ 0 ∷ 1 ∷ 2 ∷ 0 ∷ 5 ∷ 0 ∷ 1 ∷ 17 ∷ 0 ∷ 0 ∷ 2 ∷ 0 ∷ 5 ∷ 0 ∷ 1 ∷ 17 ∷ 0 ∷ 0 ∷ []) [] (refusal tactic_redefined table_file 15 0)
+    ∷ checks (1 ∷ 0 ∷ 4 ∷ 0 ∷ 1 ∷ 0 ∷ 1 ∷ 2 ∷ 0 ∷ 5 ∷ 0 ∷ 1 ∷ 17 ∷ 0 ∷ 0 ∷ 2 ∷ 0 ∷ 5 ∷ 0 ∷ 1 ∷ 17 ∷ 0 ∷ 0 ∷ []) [] (refusal TacticRedefined table_file 15 0)
     -- 9: a label twice in one body
-    ∷ checks (2 ∷ 0 ∷ 15 ∷ 0 ∷ 1 ∷ 18 ∷ 0 ∷ 10 ∷ 0 ∷ 5 ∷ 18 ∷ 0 ∷ 5 ∷ 0 ∷ 5 ∷ 17 ∷ 0 ∷ 0 ∷ []) [] (refusal label_repeated table_file 10 0)
+    ∷ checks (2 ∷ 0 ∷ 15 ∷ 0 ∷ 1 ∷ 18 ∷ 0 ∷ 10 ∷ 0 ∷ 5 ∷ 18 ∷ 0 ∷ 5 ∷ 0 ∷ 5 ∷ 17 ∷ 0 ∷ 0 ∷ []) [] (refusal LabelRepeated table_file 10 0)
     -- 9: a label of an earlier body, at the label
-    ∷ checks (2 ∷ 0 ∷ 10 ∷ 0 ∷ 1 ∷ 18 ∷ 0 ∷ 5 ∷ 0 ∷ 5 ∷ 17 ∷ 0 ∷ 0 ∷ 2 ∷ 0 ∷ 16 ∷ 0 ∷ 2 ∷ 19 ∷ 0 ∷ 11 ∷ 17 ∷ 0 ∷ 0 ∷ 18 ∷ 0 ∷ 5 ∷ 0 ∷ 5 ∷ 17 ∷ 0 ∷ 0 ∷ []) [] (refusal label_repeated table_file 24 0)
+    ∷ checks (2 ∷ 0 ∷ 10 ∷ 0 ∷ 1 ∷ 18 ∷ 0 ∷ 5 ∷ 0 ∷ 5 ∷ 17 ∷ 0 ∷ 0 ∷ 2 ∷ 0 ∷ 16 ∷ 0 ∷ 2 ∷ 19 ∷ 0 ∷ 11 ∷ 17 ∷ 0 ∷ 0 ∷ 18 ∷ 0 ∷ 5 ∷ 0 ∷ 5 ∷ 17 ∷ 0 ∷ 0 ∷ []) [] (refusal LabelRepeated table_file 24 0)
     -- 20: one goal, and no rule of that name at all
     ∷ checks_as table_a (3 ∷ 0 ∷ 2 ∷ 0 ∷ 10 ∷ 16 ∷ 0 ∷ 2 ∷ 0 ∷ 9 ∷ 3 ∷ 0 ∷ 0 ∷ []) (answer.refusal 20 2 5 0)
     -- 34 before 20: an atomic that no rule has the name of, on two goals
@@ -158,33 +158,33 @@ edge_lines =
     -- 35 before the left part is walked: (9 ⊗ id) ⊗ id on one goal, where the walk of 9 would be 20
     ∷ checks_as [] (3 ∷ 0 ∷ 2 ∷ 0 ∷ 10 ∷ 20 ∷ 0 ∷ 14 ∷ 20 ∷ 0 ∷ 8 ∷ 16 ∷ 0 ∷ 2 ∷ 0 ∷ 9 ∷ 17 ∷ 0 ∷ 0 ∷ 17 ∷ 0 ∷ 0 ∷ 3 ∷ 0 ∷ 0 ∷ []) (answer.refusal 35 2 5 0)
     -- the flattener refuses for the same cause
-    ∷ flattens [] (3 ∷ 0 ∷ 0 ∷ 17 ∷ 0 ∷ 0 ∷ 3 ∷ 0 ∷ 0 ∷ []) (refusal goal_count_wrong other_file 3 0)
+    ∷ flattens [] (3 ∷ 0 ∷ 0 ∷ 17 ∷ 0 ∷ 0 ∷ 3 ∷ 0 ∷ 0 ∷ []) (refusal GoalCountWrong other_file 3 0)
     -- a label inside a tensor takes one goal
     ∷ checks table_a (3 ∷ 0 ∷ 4 ∷ 0 ∷ 20 ∷ 0 ∷ 30 ∷ 20 ∷ 0 ∷ 15 ∷ 18 ∷ 0 ∷ 7 ∷ 0 ∷ 7 ∷ 16 ∷ 0 ∷ 2 ∷ 0 ∷ 2 ∷ 16 ∷ 0 ∷ 2 ∷ 0 ∷ 3 ∷ 3 ∷ 0 ∷ 0 ∷ []) (done (counts 4 2 0 2))
     -- 21: the remaining goals in another order
-    ∷ checks [] (3 ∷ 0 ∷ 4 ∷ 0 ∷ 10 ∷ 0 ∷ 20 ∷ 20 ∷ 0 ∷ 6 ∷ 17 ∷ 0 ∷ 0 ∷ 17 ∷ 0 ∷ 0 ∷ 3 ∷ 0 ∷ 4 ∷ 0 ∷ 20 ∷ 0 ∷ 10 ∷ []) (refusal remaining_differ other_file 16 0)
+    ∷ checks [] (3 ∷ 0 ∷ 4 ∷ 0 ∷ 10 ∷ 0 ∷ 20 ∷ 20 ∷ 0 ∷ 6 ∷ 17 ∷ 0 ∷ 0 ∷ 17 ∷ 0 ∷ 0 ∷ 3 ∷ 0 ∷ 4 ∷ 0 ∷ 20 ∷ 0 ∷ 10 ∷ []) (refusal RemainingDiffer other_file 16 0)
     -- 22: "Rule 4 on 40 giving eight times 40: 32 side by side pass, 33 get 22", at the outermost tensor
     ∷ checks table_b (side_by_side 32) (done (counts 63 32 256 1))
-    ∷ checks table_b (side_by_side 33) (refusal joined_too_long other_file 69 0)
+    ∷ checks table_b (side_by_side 33) (refusal JoinedTooLong other_file 69 0)
     -- 22 in a run: file and place 0; it does not move on to an alternative
-    ∷ runs table_b (side_by_side_or 33) 4096 (refusal joined_too_long no_file 0 66)
+    ∷ runs table_b (side_by_side_or 33) 4096 (refusal JoinedTooLong no_file 0 66)
     -- 23: "T5 ⊗ T6 on 20, 20, 30: 23 after 1 step"
-    ∷ runs table_t5 job_t5_t6 4096 (refusal tactic_failed no_file 0 1)
+    ∷ runs table_t5 job_t5_t6 4096 (refusal TacticFailed no_file 0 1)
     -- 24 before the first step
-    ∷ runs [] (3 ∷ 0 ∷ 0 ∷ 21 ∷ 0 ∷ 0 ∷ []) 0 (refusal budget_spent no_file 0 0)
+    ∷ runs [] (3 ∷ 0 ∷ 0 ∷ 21 ∷ 0 ∷ 0 ∷ []) 0 (refusal BudgetSpent no_file 0 0)
     -- 25: "Budget 4,096 runs; 4,097 is 25", which P12 makes 16,384 and 16,385; before any reading
     ∷ runs [] (3 ∷ 0 ∷ 0 ∷ 21 ∷ 0 ∷ 0 ∷ []) 16384 (success (3 ∷ 0 ∷ 0 ∷ 21 ∷ 0 ∷ 0 ∷ 3 ∷ 0 ∷ 0 ∷ []) 1)
-    ∷ runs (1 ∷ []) [] 16385 (refusal budget_too_large no_file 0 0)
+    ∷ runs (1 ∷ []) [] 16385 (refusal BudgetTooLarge no_file 0 0)
     -- 26: one byte too few; the steps are those of the whole run
     ∷ runs_into [] (3 ∷ 0 ∷ 0 ∷ 21 ∷ 0 ∷ 0 ∷ []) 1 (7 ∷ []) (replicate 8 7) (record { answer = answer.refusal 26 0 0 1; work = 0 ∷ []; out = replicate 8 7 })
     -- a success leaves the bytes past its result untouched; all twelve numbers of the answer
     ∷ runs_into [] (3 ∷ 0 ∷ 0 ∷ 21 ∷ 0 ∷ 0 ∷ []) 1 (7 ∷ []) (replicate 11 7) (record { answer = record { number = 0; file = 0; place = 0; steps = 1; length = 9; fields = 0; uses = 0; remaining = 0; rules = 0; goals = 0; longest = 0; tactic = 0 }; work = 0 ∷ []; out = 3 ∷ 0 ∷ 0 ∷ 21 ∷ 0 ∷ 0 ∷ 3 ∷ 0 ∷ 0 ∷ 7 ∷ 7 ∷ [] })
     -- 27: an entry that does not carry the first pending goal
-    ∷ checks_flat table_a (3 ∷ 0 ∷ 4 ∷ 0 ∷ 20 ∷ 0 ∷ 30 ∷ 32 ∷ 0 ∷ 4 ∷ 0 ∷ 3 ∷ 0 ∷ 30 ∷ 32 ∷ 0 ∷ 4 ∷ 0 ∷ 2 ∷ 0 ∷ 20 ∷ []) (refusal entry_wrong other_file 7 0)
+    ∷ checks_flat table_a (3 ∷ 0 ∷ 4 ∷ 0 ∷ 20 ∷ 0 ∷ 30 ∷ 32 ∷ 0 ∷ 4 ∷ 0 ∷ 3 ∷ 0 ∷ 30 ∷ 32 ∷ 0 ∷ 4 ∷ 0 ∷ 2 ∷ 0 ∷ 20 ∷ []) (refusal EntryWrong other_file 7 0)
     -- 27: goals pending at the end
-    ∷ checks_flat table_a (3 ∷ 0 ∷ 2 ∷ 0 ∷ 10 ∷ 32 ∷ 0 ∷ 4 ∷ 0 ∷ 1 ∷ 0 ∷ 10 ∷ 32 ∷ 0 ∷ 4 ∷ 0 ∷ 2 ∷ 0 ∷ 20 ∷ []) (refusal goals_pending other_file 19 0)
+    ∷ checks_flat table_a (3 ∷ 0 ∷ 2 ∷ 0 ∷ 10 ∷ 32 ∷ 0 ∷ 4 ∷ 0 ∷ 1 ∷ 0 ∷ 10 ∷ 32 ∷ 0 ∷ 4 ∷ 0 ∷ 2 ∷ 0 ∷ 20 ∷ []) (refusal GoalsPending other_file 19 0)
     -- 28: "2,048 entries are written back; 2,049 is 28"
-    ∷ writes_of (record { rules = []; definitions = [] }) (record { roots = []; entries = replicate 2049 (open_entry (goal 1)) }) (refused entries_too_many 0)
+    ∷ writes_of (record { rules = []; definitions = [] }) (record { roots = []; entries = replicate 2049 (open_entry (goal 1)) }) (refused EntriesTooMany 0)
     -- 29: one byte of work space is too little, and stays as it was
     ∷ checks_with [] [] (7 ∷ []) (record { answer = answer.refusal 29 0 0 0; work = 7 ∷ [] })
     -- 29 before 25
@@ -213,15 +213,15 @@ no_byte_lines =
     checks table_a [] (done (counts 1 0 0 0))
     ∷ checks table_a no_goals_proof (done (counts 1 0 0 0))
     -- "One or two bytes are still 2."
-    ∷ checks table_a (3 ∷ []) (refusal field_torn other_file 0 0)
-    ∷ checks table_a (3 ∷ 0 ∷ []) (refusal field_torn other_file 0 0)
+    ∷ checks table_a (3 ∷ []) (refusal FieldTorn other_file 0 0)
+    ∷ checks table_a (3 ∷ 0 ∷ []) (refusal FieldTorn other_file 0 0)
     -- "Flattening it writes an empty goal list.", which is written back as the nine bytes
     ∷ flattens table_a [] (done (3 ∷ 0 ∷ 0 ∷ []))
     ∷ flattens table_a no_goals_proof (done (3 ∷ 0 ∷ 0 ∷ []))
     ∷ writes table_a (3 ∷ 0 ∷ 0 ∷ []) (done no_goals_proof)
     -- jobs and flat files must begin with a goal list, as before
-    ∷ runs table_a [] 4096 (refusal field_torn other_file 0 0)
-    ∷ writes table_a [] (refusal field_torn other_file 0 0)
+    ∷ runs table_a [] 4096 (refusal FieldTorn other_file 0 0)
+    ∷ writes table_a [] (refusal FieldTorn other_file 0 0)
     -- the check program, with a proof.hip of no bytes
     ∷ prints table_a [] true no_bytes_line
     -- and with one that cannot be opened, whatever stands in its buffer, "the table's refusals coming first": `refused 2 file 1 place 0`
@@ -266,12 +266,12 @@ text_lines =
     reads_text text_t3 (done body_t3)
     ∷ writes_text body_t3 (done text_t3)
     -- no bytes: 36 at the end, 2 where the field must begin
-    ∷ reads_text [] (refusal text_wrong other_file 0 0)
-    ∷ writes_text [] (refusal field_torn other_file 0 0)
+    ∷ reads_text [] (refusal TextWrong other_file 0 0)
+    ∷ writes_text [] (refusal FieldTorn other_file 0 0)
     -- a byte behind the term
-    ∷ writes_text (17 ∷ 0 ∷ 0 ∷ 0 ∷ []) (refusal length_wrong other_file 3 0)
+    ∷ writes_text (17 ∷ 0 ∷ 0 ∷ 0 ∷ []) (refusal LengthWrong other_file 3 0)
     -- a goal list in front
-    ∷ writes_text (3 ∷ 0 ∷ 0 ∷ 17 ∷ 0 ∷ 0 ∷ []) (refusal tag_not_allowed other_file 0 0)
+    ∷ writes_text (3 ∷ 0 ∷ 0 ∷ 17 ∷ 0 ∷ 0 ∷ []) (refusal TagNotAllowed other_file 0 0)
     ∷ []
 
 -- document 02, P13: T5 ⊗ T6, which no run proves, and what is refused
@@ -282,17 +282,17 @@ search_lines =
     -- "A found proof .. validates and flattens like any other": 2 on 20, 2 on 20, 3 on 30
     ∷ checks table_t5 proof_t5_t6 (done (counts 9 3 0 2))
     ∷ flattens table_t5 proof_t5_t6 (done (3 ∷ 0 ∷ 6 ∷ 0 ∷ 20 ∷ 0 ∷ 20 ∷ 0 ∷ 30 ∷ 32 ∷ 0 ∷ 4 ∷ 0 ∷ 2 ∷ 0 ∷ 20 ∷ 32 ∷ 0 ∷ 4 ∷ 0 ∷ 2 ∷ 0 ∷ 20 ∷ 32 ∷ 0 ∷ 4 ∷ 0 ∷ 3 ∷ 0 ∷ 30 ∷ []))
-    ∷ searches table_t5 job_t5_t6 10 55 (refusal budget_spent no_file 0 55)
-    ∷ searches table_t5 job_t5_t6 9 64 (refusal no_evaluation no_file 0 64)
+    ∷ searches table_t5 job_t5_t6 10 55 (refusal BudgetSpent no_file 0 55)
+    ∷ searches table_t5 job_t5_t6 9 64 (refusal NoEvaluation no_file 0 64)
     -- 24 comes behind the reading of both files
-    ∷ searches [] [] 1 0 (refusal field_torn other_file 0 0)
-    ∷ searches [] (3 ∷ 0 ∷ 2 ∷ 0 ∷ 1 ∷ 17 ∷ 0 ∷ 0 ∷ []) 1 0 (refusal budget_spent no_file 0 0)
+    ∷ searches [] [] 1 0 (refusal FieldTorn other_file 0 0)
+    ∷ searches [] (3 ∷ 0 ∷ 2 ∷ 0 ∷ 1 ∷ 17 ∷ 0 ∷ 0 ∷ []) 1 0 (refusal BudgetSpent no_file 0 0)
     -- 25, then 42, then the files; heights 1 and 64 are the last inside
-    ∷ searches (1 ∷ []) [] 0 4097 (refusal budget_too_large no_file 0 0)
-    ∷ searches (1 ∷ []) [] 0 4096 (refusal height_outside no_file 0 0)
-    ∷ searches (1 ∷ []) [] 65 4096 (refusal height_outside no_file 0 0)
-    ∷ searches (1 ∷ []) [] 1 4096 (refusal field_torn table_file 0 0)
-    ∷ searches (1 ∷ []) [] 64 4096 (refusal field_torn table_file 0 0)
+    ∷ searches (1 ∷ []) [] 0 4097 (refusal BudgetTooLarge no_file 0 0)
+    ∷ searches (1 ∷ []) [] 0 4096 (refusal HeightOutside no_file 0 0)
+    ∷ searches (1 ∷ []) [] 65 4096 (refusal HeightOutside no_file 0 0)
+    ∷ searches (1 ∷ []) [] 1 4096 (refusal FieldTorn table_file 0 0)
+    ∷ searches (1 ∷ []) [] 64 4096 (refusal FieldTorn table_file 0 0)
     -- 26: one byte too few; the steps are those of the whole search
     ∷ searches_into [] (3 ∷ 0 ∷ 0 ∷ 21 ∷ 0 ∷ 0 ∷ []) 1 1 (7 ∷ []) (replicate 8 7) (record { answer = answer.refusal 26 0 0 1; work = 0 ∷ []; out = replicate 8 7 })
     ∷ searches_into [] (3 ∷ 0 ∷ 0 ∷ 21 ∷ 0 ∷ 0 ∷ []) 1 1 (7 ∷ []) (replicate 10 7) (record { answer = answer.wrote 9 1; work = 0 ∷ []; out = 3 ∷ 0 ∷ 0 ∷ 21 ∷ 0 ∷ 0 ∷ 3 ∷ 0 ∷ 0 ∷ 7 ∷ [] })

@@ -2,7 +2,7 @@
 -- `proofs/WorkedHalts.antt` proves the lines.
 use Rattle.std.specs.Prelude.{ℕ, List, [], ◌∷◌, ◌++◌, replicate}
 use Rattle.std.proofs.Math.Option.{none, some}
-use Rattle.format.specs.Refusals.{field_torn, budget_too_large, state_not_genuine}
+use Rattle.format.specs.Refusals.{FieldTorn, BudgetTooLarge, StateNotGenuine}
 use Rattle.answers.specs.Answers as answer
 use Rattle.lent_frames.specs.declared.LentFrame.{LentFrame}
 use Rattle.entries.specs.Outcomes.{success, refusal, table_file, other_file, no_file}
@@ -58,8 +58,8 @@ halt_lines =
     ∷ ends_unhalted [] job_empty 1 (success (3 ∷ 0 ∷ 0 ∷ 21 ∷ 0 ∷ 0 ∷ 3 ∷ 0 ∷ 0 ∷ []) 1)
     -- 25 before any reading; 24 comes after the files are read
     ∷ ends_unhalted [] job_empty 16384 (success (3 ∷ 0 ∷ 0 ∷ 21 ∷ 0 ∷ 0 ∷ 3 ∷ 0 ∷ 0 ∷ []) 1)
-    ∷ ends_unhalted (1 ∷ []) [] 16385 (refusal budget_too_large no_file 0 0)
-    ∷ ends_unhalted [] [] 0 (refusal field_torn other_file 0 0)
+    ∷ ends_unhalted (1 ∷ []) [] 16385 (refusal BudgetTooLarge no_file 0 0)
+    ∷ ends_unhalted [] [] 0 (refusal FieldTorn other_file 0 0)
     -- "its state fills the first bytes .. and bytes past them untouched; no other answer touches it"
     ∷ saves (7 ∷ 7 ∷ 7 ∷ []) (some (1 ∷ 2 ∷ [])) (1 ∷ 2 ∷ 7 ∷ [])
     ∷ saves (7 ∷ 7 ∷ 7 ∷ []) none (7 ∷ 7 ∷ 7 ∷ [])
@@ -75,17 +75,17 @@ resume_lines =
     ∷ steps_in (1 ∷ 2 ∷ []) 258
     ∷ steps_in (1 ∷ 2 ∷ 3 ∷ []) 258
     -- 25: b + c over 16,384, before any reading, whatever the state
-    ∷ resumes (1 ∷ []) [] (64 ∷ 0 ∷ []) 0 (unbegun (refusal field_torn table_file 0 0))
-    ∷ resumes (1 ∷ []) [] (64 ∷ 0 ∷ []) 1 (unbegun (refusal budget_too_large no_file 0 0))
-    ∷ resumes (1 ∷ []) [] (16 ∷ 0 ∷ []) 12288 (unbegun (refusal field_torn table_file 0 0))
-    ∷ resumes (1 ∷ []) [] (16 ∷ 0 ∷ []) 12289 (unbegun (refusal budget_too_large no_file 0 0))
-    ∷ resumes (1 ∷ []) [] (16 ∷ []) 16384 (unbegun (refusal field_torn table_file 0 0))
-    ∷ resumes (1 ∷ []) [] (16 ∷ []) 16385 (unbegun (refusal budget_too_large no_file 0 0))
-    ∷ resumes (1 ∷ []) [] (0 ∷ 1 ∷ []) 4294967295 (unbegun (refusal budget_too_large no_file 0 0))
+    ∷ resumes (1 ∷ []) [] (64 ∷ 0 ∷ []) 0 (unbegun (refusal FieldTorn table_file 0 0))
+    ∷ resumes (1 ∷ []) [] (64 ∷ 0 ∷ []) 1 (unbegun (refusal BudgetTooLarge no_file 0 0))
+    ∷ resumes (1 ∷ []) [] (16 ∷ 0 ∷ []) 12288 (unbegun (refusal FieldTorn table_file 0 0))
+    ∷ resumes (1 ∷ []) [] (16 ∷ 0 ∷ []) 12289 (unbegun (refusal BudgetTooLarge no_file 0 0))
+    ∷ resumes (1 ∷ []) [] (16 ∷ []) 16384 (unbegun (refusal FieldTorn table_file 0 0))
+    ∷ resumes (1 ∷ []) [] (16 ∷ []) 16385 (unbegun (refusal BudgetTooLarge no_file 0 0))
+    ∷ resumes (1 ∷ []) [] (0 ∷ 1 ∷ []) 4294967295 (unbegun (refusal BudgetTooLarge no_file 0 0))
     -- 30 is tested "after both files are read"
-    ∷ resumes [] (3 ∷ []) [] 0 (unbegun (refusal field_torn other_file 0 0))
+    ∷ resumes [] (3 ∷ []) [] 0 (unbegun (refusal FieldTorn other_file 0 0))
     -- 30: no bytes; the right ones without zeros behind them; a run that has ended after so many steps
-    ∷ resumes [] job_empty [] 0 (unbegun (refusal state_not_genuine no_file 0 0))
-    ∷ resumes [] job_empty (0 ∷ 0 ∷ 0 ∷ 0 ∷ 0 ∷ 1 ∷ 0 ∷ 1 ∷ 0 ∷ 3 ∷ 0 ∷ 0 ∷ []) 0 (unbegun (refusal state_not_genuine no_file 0 0))
-    ∷ resumes [] job_empty (0 ∷ 1 ∷ 0 ∷ 0 ∷ 0 ∷ 1 ∷ 0 ∷ 1 ∷ 0 ∷ 3 ∷ 0 ∷ 0 ∷ []) 4095 (unbegun (refusal state_not_genuine no_file 0 0))
+    ∷ resumes [] job_empty [] 0 (unbegun (refusal StateNotGenuine no_file 0 0))
+    ∷ resumes [] job_empty (0 ∷ 0 ∷ 0 ∷ 0 ∷ 0 ∷ 1 ∷ 0 ∷ 1 ∷ 0 ∷ 3 ∷ 0 ∷ 0 ∷ []) 0 (unbegun (refusal StateNotGenuine no_file 0 0))
+    ∷ resumes [] job_empty (0 ∷ 1 ∷ 0 ∷ 0 ∷ 0 ∷ 1 ∷ 0 ∷ 1 ∷ 0 ∷ 3 ∷ 0 ∷ 0 ∷ []) 4095 (unbegun (refusal StateNotGenuine no_file 0 0))
     ∷ []

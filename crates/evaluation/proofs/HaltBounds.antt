@@ -12,7 +12,7 @@ use borrow.Author.Tests.{leb-true}
 use Rattle.format.specs.declared.values.RuleName.{RuleName}
 use Rattle.format.specs.declared.values.Goal.{Goal}
 use Rattle.format.specs.declared.values.Label.{Label}
-use Rattle.format.specs.Refusals.{joined_too_long, fields_too_many}
+use Rattle.format.specs.Refusals.{JoinedTooLong, FieldsTooMany}
 use Rattle.format.specs.Limits.{most_held}
 use Rattle.format.specs.Terms.{Term, atomic, id, label, sequence, tensor, empty, alternation, assert, defined, size, fields}
 use Rattle.files.proofs.Sizes.{size_most}
@@ -64,7 +64,7 @@ none_inside x w v = fewer x 0 w (omega arith) v
 within_grounded : (k : ℕ) (s : Term) (g : List Goal) → length g ≤ 8 * fields s → GroundedEnding (within k s g)
 within_grounded k s g h = go (leb (k + fields s) most_held)
   where
-    go : (x : Bool) → GroundedEnding (cond x (proved s g) (ended fields_too_many))
+    go : (x : Bool) → GroundedEnding (cond x (proved s g) (ended FieldsTooMany))
     go true = h
     go false = tt
 
@@ -84,7 +84,7 @@ tensor_grounded : (k : ℕ) (s : Term) (g : List Goal) (e : Ending) → length g
 unfolding fields
 tensor_grounded k s g (proved r h) v z = go (joined_fits (g ++ h))
   where
-    go : (x : Bool) → GroundedEnding (cond x (within k (tensor s r) (g ++ h)) (ended joined_too_long))
+    go : (x : Bool) → GroundedEnding (cond x (within k (tensor s r) (g ++ h)) (ended JoinedTooLong))
     go true = within_grounded k (tensor s r) (g ++ h) (omega (arith, length-append g h, v, z))
     go false = tt
 tensor_grounded k s g failed v z = tt

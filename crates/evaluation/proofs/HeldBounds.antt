@@ -12,7 +12,7 @@ use borrow.Author.Tests.{leb-true, leb-false}
 use Rattle.format.specs.declared.values.Goal.{Goal}
 use Rattle.format.specs.declared.values.Label.{Label}
 use Rattle.format.specs.Limits.{most_held}
-use Rattle.format.specs.Refusals.{joined_too_long, fields_too_many}
+use Rattle.format.specs.Refusals.{JoinedTooLong, FieldsTooMany}
 use Rattle.format.specs.Terms.{Term, atomic, id, label, sequence, tensor, empty, alternation, assert, defined, fields}
 use Rattle.tables.specs.Tables.{Table}
 use Rattle.tables.specs.Lookup.{find_body}
@@ -161,7 +161,7 @@ early_as_before T g t n e c = (
 within_held : (s : Term) (g : List Goal) (w : List Frame) → held w ≤ 4096 → held w + ending_fields (within (held w) s g) ≤ 4096
 within_held s g w l = go (leb (held w + fields s) most_held) refl
   where
-    go : (x : Bool) → leb (held w + fields s) most_held ≡ x → held w + ending_fields (cond x (proved s g) (ended fields_too_many)) ≤ 4096
+    go : (x : Bool) → leb (held w + fields s) most_held ≡ x → held w + ending_fields (cond x (proved s g) (ended FieldsTooMany)) ≤ 4096
     go true q = omega (arith, leb-true (held w + fields s) most_held q)
     go false q = omega (arith, l)
 
@@ -178,7 +178,7 @@ sequence_held s (ended c) w h = omega (arith, h)
 tensor_held : (s : Term) (g : List Goal) (e : Ending) (w : List Frame) → held w ≤ 4096 → held w + ending_fields (beside_left (held w) s g e) ≤ 4096
 tensor_held s g (proved r k) w h = go (joined_fits (g ++ k))
   where
-    go : (x : Bool) → held w + ending_fields (cond x (within (held w) (tensor s r) (g ++ k)) (ended joined_too_long)) ≤ 4096
+    go : (x : Bool) → held w + ending_fields (cond x (within (held w) (tensor s r) (g ++ k)) (ended JoinedTooLong)) ≤ 4096
     go true = within_held (tensor s r) (g ++ k) w h
     go false = omega (arith, h)
 tensor_held s g failed w h = omega (arith, h)

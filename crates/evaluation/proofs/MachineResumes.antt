@@ -13,7 +13,7 @@ use borrow.Author.Tests.{leb-true, leb-false, le-leb, eq-eqb, ne_eqb}
 use Rattle.format.specs.declared.values.Goal.{Goal}
 use Rattle.format.specs.Terms.{Term, size, fields}
 use Rattle.format.specs.Limits.{most_held}
-use Rattle.format.specs.Refusals.{fields_too_many}
+use Rattle.format.specs.Refusals.{FieldsTooMany}
 use Rattle.tables.specs.Tables.{Table, UniqueRules, UniqueDefinitions}
 use Rattle.tables.specs.Lookup.{find_rule, matches}
 use Rattle.tables.specs.Places.{body_place}
@@ -58,7 +58,7 @@ finishes_so : {k : ℕ} {s : Term} {h : List Goal} {e : End} (w : List Frame) �
 finishes_so {k} {s} {h} w (holds l) c = rw (le-leb (held w + fields s) most_held (omega (arith, c, l))) refl
 finishes_so {k} {s} {h} w (over_held l) c = go (leb (held w + fields s) most_held) refl
   where
-    go : (x : Bool) → leb (held w + fields s) most_held ≡ x → cond x (proved s h) (ended fields_too_many) ≡ ended fields_too_many
+    go : (x : Bool) → leb (held w + fields s) most_held ≡ x → cond x (proved s h) (ended FieldsTooMany) ≡ ended FieldsTooMany
     go true q = absurd (l (omega (arith, c, leb-true (held w + fields s) most_held q)))
     go false q = refl
 

@@ -13,7 +13,7 @@ use Rattle.format.specs.declared.values.RuleName.{RuleName}
 use Rattle.format.specs.declared.values.Goal.{Goal}
 use Rattle.format.specs.declared.values.Label.{Label}
 use Rattle.format.specs.declared.values.TacticNo.{TacticNo}
-use Rattle.format.specs.Refusals.{joined_too_long, fields_too_many}
+use Rattle.format.specs.Refusals.{JoinedTooLong, FieldsTooMany}
 use Rattle.format.specs.Limits.{most_held}
 use Rattle.format.specs.Terms.{Term, atomic, id, label, sequence, tensor, empty, alternation, assert, defined, size, fields}
 use Rattle.tables.specs.Tables.{Table, UniqueDefinitions}
@@ -44,7 +44,7 @@ EndsAs T k g t f = (e : End) × Ends T FewHeld k g t 1 e × (ending_of e ≡ f)
 finishes_as : (k : ℕ) (s : Term) (h : List Goal) → (e : End) × Finishes FewHeld k s h e × (ending_of e ≡ within k s h)
 finishes_as k s h = go (leb (k + fields s) most_held) refl
   where
-    go : (x : Bool) → leb (k + fields s) most_held ≡ x → (e : End) × Finishes FewHeld k s h e × (ending_of e ≡ cond x (proved s h) (ended fields_too_many))
+    go : (x : Bool) → leb (k + fields s) most_held ≡ x → (e : End) × Finishes FewHeld k s h e × (ending_of e ≡ cond x (proved s h) (ended FieldsTooMany))
     go true q = (proof s h, holds (leb-true (k + fields s) most_held q), refl)
     go false q = (excess, over_held (λ l. omega (arith, l, leb-false (k + fields s) most_held q)), refl)
 
@@ -138,7 +138,7 @@ module _ {T : Table} where
     back_seq (onward {e = excess} r r' p) = onwards (D-Seq-Left (outside w (omega arith) r) (limited exceeds)) r' (omega (arith, p))
 
     back-joined : {π : Place} {t u s r : Term} {g₁ g₂ h₁ h₂ : List Goal} {n₁ n₂ c : ℕ} → Arity T t (length g₁) → length g₁ ≤ 256 → Ends T FewHeld (held w) g₁ t n₁ (proof s h₁) → Ends T FewHeld (held w + fields s) g₂ u n₂ (proof r h₂) → n₁ + (n₂ + c) ≡ m → (x : Bool) → joined_fits (h₁ ++ h₂) ≡ x
-        → EndsFrom T (unwind (cond x (within (held w) (tensor s r) (h₁ ++ h₂)) (ended joined_too_long)) w) c f → EndsFrom T (running π (tensor t u) (g₁ ++ g₂) w) (suc m) f
+        → EndsFrom T (unwind (cond x (within (held w) (tensor s r) (h₁ ++ h₂)) (ended JoinedTooLong)) w) c f → EndsFrom T (running π (tensor t u) (g₁ ++ g₂) w) (suc m) f
     back-joined {s = s} {r = x} {h₁ = h₁} {h₂ = h₂} a b r₁ r₂ q true j r' =
         let z = finishes_as (held w) (tensor s x) (h₁ ++ h₂) in
         onwards (D-Tensor {h₁ = h₁} {h₂ = h₂} a b r₁ r₂ (omega (arith, leb-true (length (h₁ ++ h₂)) 256 j)) z.1) (unwound w _ _ z.2 r') (omega (arith, q))

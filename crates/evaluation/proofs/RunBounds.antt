@@ -12,7 +12,7 @@ use borrow.Author.Tests.{leb-true}
 use Rattle.format.specs.declared.values.RuleName.{RuleName}
 use Rattle.format.specs.declared.values.Goal.{Goal}
 use Rattle.format.specs.declared.values.Label.{Label}
-use Rattle.format.specs.Refusals.{joined_too_long, fields_too_many}
+use Rattle.format.specs.Refusals.{JoinedTooLong, FieldsTooMany}
 use Rattle.format.specs.Limits.{most_held}
 use Rattle.format.specs.Terms.{Term, atomic, id, label, sequence, tensor, empty, alternation, assert, defined, size, fields}
 use Rattle.tables.specs.Tables.{Table}
@@ -30,7 +30,7 @@ use Rattle.evaluation.specs.RunSizes.{ending_fields, waiting, waiting_goals, kep
 within-fields : (k : ℕ) (s : Term) (g : List Goal) → ending_fields (within k s g) ≤ fields s
 within-fields k s g = go (leb (k + fields s) most_held)
   where
-    go : (x : Bool) → ending_fields (cond x (proved s g) (ended fields_too_many)) ≤ fields s
+    go : (x : Bool) → ending_fields (cond x (proved s g) (ended FieldsTooMany)) ≤ fields s
     go true = omega arith
     go false = omega arith
 
@@ -50,7 +50,7 @@ tensor_fields : (k : ℕ) (s : Term) (g : List Goal) (e : Ending) → ending_fie
 unfolding fields
 tensor_fields k s g (proved r h) = go (joined_fits (g ++ h))
   where
-    go : (x : Bool) → ending_fields (cond x (within k (tensor s r) (g ++ h)) (ended joined_too_long)) ≤ suc (fields s + fields r)
+    go : (x : Bool) → ending_fields (cond x (within k (tensor s r) (g ++ h)) (ended JoinedTooLong)) ≤ suc (fields s + fields r)
     go true = omega (arith, within-fields k (tensor s r) (g ++ h))
     go false = omega arith
 tensor_fields k s g failed = omega arith
@@ -118,7 +118,7 @@ ShortGiven (some g) = length g ≤ 256
 within_short : (k : ℕ) (s : Term) (g : List Goal) → length g ≤ 256 → ShortEnding (within k s g)
 within_short k s g h = go (leb (k + fields s) most_held)
   where
-    go : (x : Bool) → ShortEnding (cond x (proved s g) (ended fields_too_many))
+    go : (x : Bool) → ShortEnding (cond x (proved s g) (ended FieldsTooMany))
     go true = h
     go false = tt
 
@@ -148,7 +148,7 @@ sequence_short k s (ended c) h = tt
 tensor_short : (k : ℕ) (s : Term) (g : List Goal) (e : Ending) → ShortEnding (beside_left k s g e)
 tensor_short k s g (proved r h) = go (joined_fits (g ++ h)) refl
   where
-    go : (x : Bool) → joined_fits (g ++ h) ≡ x → ShortEnding (cond x (within k (tensor s r) (g ++ h)) (ended joined_too_long))
+    go : (x : Bool) → joined_fits (g ++ h) ≡ x → ShortEnding (cond x (within k (tensor s r) (g ++ h)) (ended JoinedTooLong))
     go true q = within_short k (tensor s r) (g ++ h) (omega (arith, leb-true (length (g ++ h)) 256 q))
     go false q = tt
 tensor_short k s g failed = tt

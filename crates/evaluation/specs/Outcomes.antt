@@ -5,7 +5,7 @@ use Rattle.format.specs.declared.values.RuleName.{RuleName}
 use Rattle.format.specs.declared.values.Goal.{Goal}
 use Rattle.format.specs.declared.values.Label.{Label}
 use Rattle.format.specs.Limits.{most_joined, most_held}
-use Rattle.format.specs.Refusals.{Cause, joined_too_long, fields_too_many}
+use Rattle.format.specs.Refusals.{Cause, JoinedTooLong, FieldsTooMany}
 use Rattle.format.specs.Terms.{Term, label, sequence, tensor, fields}
 use Rattle.tables.specs.Tables.{Table}
 use Rattle.tables.specs.Lookup.{FoundRule, find_rule, matches}
@@ -60,7 +60,7 @@ split_by (some n) g = cond (leb n (length g)) (some (split_at n g)) none
 
 -- P12: "40 .. a finished term that makes the held fields more than 4,096, at that moment": a term that finishes while so many are held outside it
 abbrev pub within : (outside : ℕ) → Term → List Goal → Ending
-within k s g = cond (leb (k + fields s) most_held) (proved s g) (ended fields_too_many)
+within k s g = cond (leb (k + fields s) most_held) (proved s g) (ended FieldsTooMany)
 
 -- "a term that cannot take its goals .. fails"; else it leaves its field
 abbrev pub finished : (outside : ℕ) → Term → Option (List Goal) → Ending
@@ -85,6 +85,6 @@ joined_fits g = leb (length g) most_joined
 
 -- a tensor, once its left gave a proof and its right ended: "the two lists joined", "22 included", and 40 "after 22 at the same term"
 abbrev pub beside_left : (outside : ℕ) → Term → List Goal → Ending → Ending
-beside_left k s g (proved r h) = cond (joined_fits (g ++ h)) (within k (tensor s r) (g ++ h)) (ended joined_too_long)
+beside_left k s g (proved r h) = cond (joined_fits (g ++ h)) (within k (tensor s r) (g ++ h)) (ended JoinedTooLong)
 beside_left k s g failed = failed
 beside_left k s g (ended c) = ended c

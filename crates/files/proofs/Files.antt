@@ -11,7 +11,7 @@ use lib.Seq.{drop-drop, drop_at}
 use borrow.Author.Tests.{ltb-true, ltb-false, le-ltb}
 use Rattle.format.specs.declared.values.Goal.{Goal}
 use Rattle.format.specs.Limits.{most_bytes, most_goals}
-use Rattle.format.specs.Refusals.{Cause, number, input_too_long}
+use Rattle.format.specs.Refusals.{Cause, number, InputTooLong}
 use Rattle.format.specs.Results.{Result, gives, refused, and_then}
 use Rattle.format.specs.Inputs.{of_size}
 use Rattle.format.specs.Terms.{Term, size}
@@ -33,7 +33,7 @@ pub behind_term_lem : (s : List ℕ) (at : ℕ) (t : Term) (r : List ℕ) → dr
 behind_term_lem s at t r e = sym (drop-drop (size t) at s) ∙ ap (λ (l : List ℕ). drop (size t) l) e ∙ drop_at (term_bytes t) r (size t) (length-term_bytes t)
 
 -- 1 comes at place 0
-long_refused : (s : List ℕ) → most_bytes < length s → FileRefusal s input_too_long 0
+long_refused : (s : List ℕ) → most_bytes < length s → FileRefusal s InputTooLong 0
 unfolding number
 long_refused s h = record { least = omega arith; most = omega arith; within = omega arith; below = omega arith; too_long = λ q. (h, refl) }
 
@@ -41,7 +41,7 @@ long_refused s h = record { least = omega arith; most = omega arith; within = om
 pub size_refused : {A : Type 0} (s : List ℕ) (x : Result A) → RefusedWithin 0 (length s) x → (c : Cause) (p : ℕ) → of_size s x ≡ refused c p → FileRefusal s c p
 size_refused {A} s x w c p = go (ltb most_bytes (length s)) refl
   where
-    go : (b : Bool) → ltb most_bytes (length s) ≡ b → cond b (refused input_too_long 0) x ≡ refused c p → FileRefusal s c p
+    go : (b : Bool) → ltb most_bytes (length s) ≡ b → cond b (refused InputTooLong 0) x ≡ refused c p → FileRefusal s c p
     go true t e = subst (λ (q : ℕ). FileRefusal s c q) (same_place e) (subst (λ (d : Cause). FileRefusal s d 0) (same_cause e) (long_refused s (ltb-true most_bytes (length s) t)))
     go false t e =
         let r : Refusal 0 (length s) c p = unfold RefusedWithin in subst (RefusedWithin 0 (length s)) e w in
@@ -61,7 +61,7 @@ module _ {A : Type 0} (s : List ℕ) (next : ParsedGoals → Result A) where
 
   pub begun : (a : A) → of_size s (and_then (read_goals s 0 (length s)) next) ≡ gives a → Begun a
   begun a e =
-      let p = passed (ltb most_bytes (length s)) input_too_long 0 _ e in
+      let p = passed (ltb most_bytes (length s)) InputTooLong 0 _ e in
       let g = and_gives (read_goals s 0 (length s)) p.1 in
       record { short = ltb-false most_bytes (length s) p.0; parsed = g.0; list = goals_stand s 0 (length s) (omega arith) g.0 g.1; rest = g.2 }
 

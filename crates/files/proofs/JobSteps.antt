@@ -9,7 +9,7 @@ use lib.Dec.{eqb}
 use lib.ListN.{length}
 use borrow.Author.Tests.{eq-eqb, ne_eqb, eqb-true, eqb-false}
 use Rattle.format.specs.GoalsRead as G
-use Rattle.format.specs.Refusals.{number, length_wrong}
+use Rattle.format.specs.Refusals.{number, LengthWrong}
 use Rattle.format.specs.Tags.{tactic_kind}
 use Rattle.parts.specs.declared.state.State.{State}
 use Rattle.parts.specs.States.{refusing, behind_term, begun_file}
@@ -48,7 +48,7 @@ module _ (s : List ℕ) (base : ℕ) where
     behind_term_lem t (refuses m e) = is_refused m (tactic_refused s _ _ t.front _ _ e)
     behind_term_lem t (leaves y b q) = rw (q, ne_eqb y.part 6 (λ z. omega (arith, b.part_is, z)), eq-eqb y.part 7 b.part_is) (go (eqb y.at (length s)) refl)
       where
-        go : (c : Bool) → eqb y.at (length s) ≡ c → Known w' (cond c y (refusing y (number length_wrong) y.at))
+        go : (c : Bool) → eqb y.at (length s) ≡ c → Known w' (cond c y (refusing y (number LengthWrong) y.at))
         go true e = is_read b.mode_is (job_read s _ _ b.front _ _ b.term (eqb-true y.at (length s) e))
         go false e = is_refused refl (bytes_left s _ _ b.front _ _ b.term (eqb-false y.at (length s) e))
 

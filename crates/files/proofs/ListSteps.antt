@@ -13,7 +13,7 @@ use Rattle.format.specs.declared.headers.HeaderRead.TheVariants as H
 use Rattle.format.specs.GoalsRead.{GoalsRead}
 use Rattle.format.specs.GoalsRead as G
 use Rattle.format.specs.Limits.{most_bytes, most_goals}
-use Rattle.format.specs.Refusals.{number, input_too_long, limit_passed}
+use Rattle.format.specs.Refusals.{number, InputTooLong, LimitPassed}
 use Rattle.format.specs.Results.{told}
 use Rattle.format.specs.Inputs.{of_size}
 use Rattle.format.specs.Tags.{goal_list_kind}
@@ -53,7 +53,7 @@ module _ (s w : List ℕ) (base : ℕ) (x : State) (h : Reading s w base x) (m :
   from_header (H.Refused k p) e = stops refl (header_refused s x.at _ k p e)
   from_header (H.Field tag len) e = rw (ne_eqb x.part 2 j, ne_eqb x.part 1 i) (go (ltb most_goals (len / 2)) refl)
     where
-      go : (b : Bool) → ltb most_goals (len / 2) ≡ b → ListStep s x (goals_shape (read_goals s x.at (length s))) (cond b (refusing x (number limit_passed) x.at) (behind_list s x (len / 2) (x.at + 3 + len)))
+      go : (b : Bool) → ltb most_goals (len / 2) ≡ b → ListStep s x (goals_shape (read_goals s x.at (length s))) (cond b (refusing x (number LimitPassed) x.at) (behind_list s x (len / 2) (x.at + 3 + len)))
       go true t = stops refl (header_read s x.at _ tag len e ∙ many_goals s x.at tag len t)
       go false t = reads (len / 2) (x.at + 3 + len) (header_read s x.at _ tag len e ∙ few_goals s x.at tag len (x.at + 3 + len) t refl) refl
 
@@ -83,7 +83,7 @@ module _ (s : List ℕ) (part : ℕ) where
   unfolding begun_file blank_state goals_shape told number
   begins = go (ltb most_bytes (length s)) refl
     where
-      go : (b : Bool) → ltb most_bytes (length s) ≡ b → Begins s part (cond b (refusing (asking (blank_state part) 1 part 0 (length s)) (number input_too_long) 0) (asking (blank_state part) 1 part 0 (length s)))
+      go : (b : Bool) → ltb most_bytes (length s) ≡ b → Begins s part (cond b (refusing (asking (blank_state part) 1 part 0 (length s)) (number InputTooLong) 0) (asking (blank_state part) 1 part 0 (length s)))
       go true e = long refl (rw e)
       go false e = first (record { short = ltb-false most_bytes (length s) e; mode_is = refl; part_is = refl; at_start = refl; none_counted = (refl, refl, refl) })
 
@@ -93,7 +93,7 @@ module _ (s : List ℕ) (part : ℕ) where
     unfolding begun_file
     begun_reading asked x e = subst (Reading s w base) (sym e) (go (ltb most_bytes (length s)))
       where
-        go : (b : Bool) → Reading s w base (cond b (refusing (asking (blank_state part) 1 part 0 (length s)) (number input_too_long) 0) (asking (blank_state part) 1 part 0 (length s)))
+        go : (b : Bool) → Reading s w base (cond b (refusing (asking (blank_state part) 1 part 0 (length s)) (number InputTooLong) 0) (asking (blank_state part) 1 part 0 (length s)))
         go true = refused_reading s w base _ _ _ asked
         go false = asked
 

@@ -10,7 +10,7 @@ use lib.ListN.{length}
 use borrow.Author.Tests.{eq-eqb, ne_eqb, eqb-true, eqb-false}
 use Rattle.format.specs.GoalsRead as G
 use Rattle.format.specs.TermRead as T
-use Rattle.format.specs.Refusals.{number, length_wrong}
+use Rattle.format.specs.Refusals.{number, LengthWrong}
 use Rattle.format.specs.Tags.{hiproof_kind}
 use Rattle.format.specs.Goals.{read_goals}
 use Rattle.format.specs.Shapes.{goals_shape}
@@ -66,7 +66,7 @@ module _ (s : List ℕ) (base : ℕ) where
         whole : x.end ≡ length s
         whole = (h.outside (omega (arith, p))).1
 
-        go : (b : Bool) → eqb close x.end ≡ b → Known w' (cond b (asking (counted x x.goals x.first n x.from x.rest x.field) 2 x.part close x.end) (refusing x (number length_wrong) close))
+        go : (b : Bool) → eqb close x.end ≡ b → Known w' (cond b (asking (counted x x.goals x.first n x.from x.rest x.field) 2 x.part close x.end) (refusing x (number LengthWrong) close))
         go true z = is_read refl (proof_read s _ _ l _ _ t _ _ e' (eqb-true close x.end z ∙ whole))
         go false z = is_refused refl (bytes_left s _ _ l _ _ t _ _ e' (λ i. eqb-false close x.end z (i ∙ sym whole)))
 

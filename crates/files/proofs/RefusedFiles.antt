@@ -7,7 +7,7 @@ use Prim.Native.Nat.{ℕ, ◌+◌, ◌≤◌, ◌<◌}
 use native.Mathlib.Omega.{arith}
 use lib.Dec.{eqb}
 use lib.ListN.{length}
-use Rattle.format.specs.Refusals.{Cause, number, length_wrong}
+use Rattle.format.specs.Refusals.{Cause, number, LengthWrong}
 use Rattle.format.specs.Results.{gives, refused}
 use Rattle.format.specs.Tags.{hiproof_kind, tactic_kind}
 use Rattle.format.proofs.ResultLaws.{never_gives}
@@ -25,7 +25,7 @@ use Rattle.files.proofs.EmptyProof.{read_itself}
 use Rattle.files.proofs.ReadsProof.{reads_none}
 
 -- bytes left behind the last field, the first of them within the file
-left : {A : Type 0} (s : List ℕ) (b : Bool) (a : A) (next : ℕ) → next ≤ length s → RefusedWithin 0 (length s) (cond b (gives a) (refused length_wrong next))
+left : {A : Type 0} (s : List ℕ) (b : Bool) (a : A) (next : ℕ) → next ≤ length s → RefusedWithin 0 (length s) (cond b (gives a) (refused LengthWrong next))
 unfolding RefusedWithin number
 left s true a next h = tt
 left s false a next h = record { above = omega arith; below = h; least = omega arith; most = omega arith }

@@ -7,7 +7,7 @@ use native.Mathlib.Omega.{arith}
 use lib.ListN.{length}
 use borrow.Author.Tests.{lt-ltb, le-ltb}
 use Rattle.format.specs.Limits.{most_bytes}
-use Rattle.format.specs.Refusals.{field_torn}
+use Rattle.format.specs.Refusals.{FieldTorn}
 use Rattle.format.specs.Results.{Result, refused, and_then}
 use Rattle.format.specs.Inputs.{of_size}
 use Rattle.format.specs.Tags.{tactic_kind}
@@ -22,28 +22,28 @@ use Rattle.files.proofs.EmptyProof.{read_itself}
 
 module _ (s : List ℕ) (short : length s < 3) where
   -- no list of goals begins there
-  no_list : {A : Type 0} (next : ParsedGoals → Result A) → of_size s (and_then (read_goals s 0 (length s)) next) ≡ refused field_torn 0
+  no_list : {A : Type 0} (next : ParsedGoals → Result A) → of_size s (and_then (read_goals s 0 (length s)) next) ≡ refused FieldTorn 0
   unfolding read_goals header_at and_then
   no_list next = rw (le-ltb most_bytes (length s) (omega (arith, short)), lt-ltb (length s) 3 short)
 
-  pub proof_short : 0 < length s → read_proof s ≡ refused field_torn 0
+  pub proof_short : 0 < length s → read_proof s ≡ refused FieldTorn 0
   unfolding read_proof_fields
   proof_short some = read_itself s some ∙ no_list (proof_of s)
 
-  pub job_short : read_job s ≡ refused field_torn 0
+  pub job_short : read_job s ≡ refused FieldTorn 0
   unfolding read_job
   job_short = no_list (job_of s)
 
-  pub flat_short : read_flat s ≡ refused field_torn 0
+  pub flat_short : read_flat s ≡ refused FieldTorn 0
   unfolding read_flat
   flat_short = no_list (derivation_of s)
 
   -- and no term
-  no_term : (depth : ℕ) → 0 < depth → (high before : ℕ) → read_term depth s high 0 (length s) before ≡ refused field_torn 0
+  no_term : (depth : ℕ) → 0 < depth → (high before : ℕ) → read_term depth s high 0 (length s) before ≡ refused FieldTorn 0
   unfolding read_term header_at and_then
   no_term zero some high before = absurd (omega (arith, some))
   no_term (suc d) some high before = rw (lt-ltb (length s) 3 short)
 
-  pub term_file_short : read_term_file s ≡ refused field_torn 0
+  pub term_file_short : read_term_file s ≡ refused FieldTorn 0
   unfolding read_term_file read_last_term and_then
   term_file_short = rw (le-ltb most_bytes (length s) (omega (arith, short)), no_term (length s + 1) (omega arith) tactic_kind 0)

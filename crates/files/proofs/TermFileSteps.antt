@@ -11,7 +11,7 @@ use borrow.Author.Tests.{eq-eqb, ne_eqb, eqb-true, eqb-false, ltb-true, ltb-fals
 use Rattle.format.specs.TermRead.{TermRead}
 use Rattle.format.specs.TermRead as T
 use Rattle.format.specs.Limits.{most_bytes}
-use Rattle.format.specs.Refusals.{number, input_too_long, length_wrong}
+use Rattle.format.specs.Refusals.{number, InputTooLong, LengthWrong}
 use Rattle.format.specs.Tags.{tactic_kind}
 use Rattle.parts.specs.declared.state.State.{State}
 use Rattle.parts.specs.States.{refusing, asking, behind_term, blank_state, begun_file}
@@ -50,7 +50,7 @@ module _ (s : List ℕ) (base : ℕ) where
       term : term_at s 7 tactic_kind Front 0 ≡ T.Read y.at y.fields
       term = first_term y.from _ b.front.0 b.term
 
-      go : (c : Bool) → eqb y.at (length s) ≡ c → Known w' (cond c y (refusing y (number length_wrong) y.at))
+      go : (c : Bool) → eqb y.at (length s) ≡ c → Known w' (cond c y (refusing y (number LengthWrong) y.at))
       go true e = is_read b.mode_is (term_read s b.front.1 _ _ term (eqb-true y.at (length s) e))
       go false e = is_refused refl (bytes_left s b.front.1 _ _ term (eqb-false y.at (length s) e))
 
@@ -63,7 +63,7 @@ module _ (s : List ℕ) (base : ℕ) where
   unfolding begun_file blank_state number outcome resumed
   begins_known w = go (ltb most_bytes (length s)) refl
     where
-      go : (b : Bool) → ltb most_bytes (length s) ≡ b → Known w (cond b (refusing (asking (blank_state 7) 1 7 0 (length s)) (number input_too_long) 0) (asking (blank_state 7) 1 7 0 (length s)))
+      go : (b : Bool) → ltb most_bytes (length s) ≡ b → Known w (cond b (refusing (asking (blank_state 7) 1 7 0 (length s)) (number InputTooLong) 0) (asking (blank_state 7) 1 7 0 (length s)))
       go true e = is_refused refl (too_long s (ltb-true most_bytes (length s) e))
       go false e = in_term (record { mode_is = refl; part_is = refl; front = (refl, ltb-false most_bytes (length s) e); comes_to = reads_any s tactic_kind (length s + 1) 0 (length s) 0 (omega arith) (omega arith) })
 

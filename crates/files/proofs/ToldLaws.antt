@@ -10,7 +10,7 @@ use lib.ListN.{length}
 use Rattle.format.specs.GoalsRead as G
 use Rattle.format.specs.TermRead as T
 use Rattle.format.specs.Limits.{most_bytes}
-use Rattle.format.specs.Refusals.{Cause, number, input_too_long}
+use Rattle.format.specs.Refusals.{Cause, number, InputTooLong}
 use Rattle.format.specs.Results.{Result, gives, refused, and_then, told}
 use Rattle.format.specs.Inputs.{of_size}
 use Rattle.format.specs.Goals.{ParsedGoals, read_goals}
@@ -76,7 +76,7 @@ pub of_size_and : {A B : Type 0} (s : List ℕ) (x : Result A) (next : A → Res
 unfolding and_then
 of_size_and {A} {B} s x next = go (ltb most_bytes (length s))
   where
-    go : (b : Bool) → ◌≡◌ {A = Result B} (cond b (refused input_too_long 0) (and_then x next)) (and_then (cond b (refused input_too_long 0) x) next)
+    go : (b : Bool) → ◌≡◌ {A = Result B} (cond b (refused InputTooLong 0) (and_then x next)) (and_then (cond b (refused InputTooLong 0) x) next)
     go true = refl
     go false = refl
 
@@ -85,7 +85,7 @@ pub stated_end : (s : List ℕ) (n to : ℕ) → goals_shape (of_size s (read_go
 unfolding goals_shape
 stated_end s n to e =
     let v = told_value goals_tell goals_kept (of_size s (read_goals s 0 (length s))) (n, to) e in
-    let g = goals_stand s 0 (length s) (omega arith) v.0 (passed (ltb most_bytes (length s)) input_too_long 0 _ v.1).1 in
+    let g = goals_stand s 0 (length s) (omega arith) v.0 (passed (ltb most_bytes (length s)) InputTooLong 0 _ v.1).1 in
     let count : length v.0.goals ≡ n = ap (λ (q : Pair). q.0) v.2 in
     let next : v.0.next ≡ to = ap (λ (q : Pair). q.1) v.2 in
     (omega (arith, g.next_is, count, next), omega (arith, g.within, next))

@@ -8,7 +8,7 @@ use lib.Dec.{eqb, ltb}
 use lib.ListN.{length}
 use borrow.Author.Tests.{eqb-true, ltb-false}
 use Rattle.format.specs.Limits.{most_bytes}
-use Rattle.format.specs.Refusals.{input_too_long, length_wrong}
+use Rattle.format.specs.Refusals.{InputTooLong, LengthWrong}
 use Rattle.format.specs.Results.{gives}
 use Rattle.format.specs.Tags.{hiproof_kind, tactic_kind}
 use Rattle.format.specs.Terms.{Term, size}
@@ -37,7 +37,7 @@ module _ (s : List ℕ) where
       let l = read_gives (length s + 1) s hiproof_kind (omega arith) g.next (length s) 0 (omega arith) t.0 t.1 in
       let r = and_gives (read_goals s t.0.next (length s)) t.2 in
       let m = goals_stand s t.0.next (length s) (omega arith) r.0 r.1 in
-      let k = kept (eqb r.0.next (length s)) length_wrong r.0.next _ r.2 in
+      let k = kept (eqb r.0.next (length s)) LengthWrong r.0.next _ r.2 in
       let at : g.next ≡ 3 + length g.goals * 2 = omega (arith, b.list.next_is) in
       let to : t.0.next ≡ 3 + length g.goals * 2 + size t.0.term = omega (arith, at, l.next_is) in
       subst (ProofStands s) (same_value k.1) (record {
@@ -58,7 +58,7 @@ module _ (s : List ℕ) where
       let u = and_gives (read_last_term s tactic_kind g.next) b.rest in
       let t = and_gives (read_term (length s + 1) s tactic_kind g.next (length s) 0) u.1 in
       let l = read_gives (length s + 1) s tactic_kind (omega arith) g.next (length s) 0 (omega arith) t.0 t.1 in
-      let k = kept (eqb t.0.next (length s)) length_wrong t.0.next _ t.2 in
+      let k = kept (eqb t.0.next (length s)) LengthWrong t.0.next _ t.2 in
       let at : g.next ≡ 3 + length g.goals * 2 = omega (arith, b.list.next_is) in
       subst (JobStands s) ((λ i. record { goals = g.goals; term = same_value k.1 i }) ∙ same_value u.2) (record {
         short = b.short;
@@ -71,10 +71,10 @@ module _ (s : List ℕ) where
   pub term_file_stands : (t : Term) → read_term_file s ≡ gives t → TermFileStands s t
   unfolding read_term_file read_last_term last_term_of
   term_file_stands t e =
-      let p = passed (ltb most_bytes (length s)) input_too_long 0 _ e in
+      let p = passed (ltb most_bytes (length s)) InputTooLong 0 _ e in
       let u = and_gives (read_term (length s + 1) s tactic_kind 0 (length s) 0) p.1 in
       let l = read_gives (length s + 1) s tactic_kind (omega arith) 0 (length s) 0 (omega arith) u.0 u.1 in
-      let k = kept (eqb u.0.next (length s)) length_wrong u.0.next _ u.2 in
+      let k = kept (eqb u.0.next (length s)) LengthWrong u.0.next _ u.2 in
       subst (TermFileStands s) (same_value k.1) (record {
         short = ltb-false most_bytes (length s) p.0;
         term_stands = l.stands;

@@ -3,7 +3,7 @@ use Rattle.std.specs.Prelude.{ℕ, zero, suc, ◌+◌, ◌*◌, cond, List, [], 
 use Rattle.words.specs.Word.{word}
 use Rattle.format.specs.declared.values.RuleName.{RuleName}
 use Rattle.format.specs.declared.values.Goal.{Goal}
-use Rattle.format.specs.Refusals.{field_torn}
+use Rattle.format.specs.Refusals.{FieldTorn}
 use Rattle.format.specs.Results.{Result, gives, refused, and_then}
 use Rattle.format.specs.Inputs.{of_size}
 use Rattle.format.specs.Values.{rule_name, goal}
@@ -35,7 +35,7 @@ entries_of rec s at u o h =
 
 -- The entries from a place on. The first argument bounds their number: any above the bytes left does.
 unfoldable pub read_entries : (bound : ℕ) → List ℕ → (at uses opens : ℕ) → Result (List Entry)
-read_entries zero s at u o = refused field_torn at
+read_entries zero s at u o = refused FieldTorn at
 read_entries (suc b) s at u o =
     cond (ltb at (length s)) (and_then (header_at s at (length s) entry_kind entry_kind (full_flat s at u o)) (entries_of (read_entries b s) s at u o)) (gives [])
 

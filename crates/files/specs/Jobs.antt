@@ -1,7 +1,7 @@
 -- Document 01, "Fields": "Job file: a goal list, then one term of tags 16 to 24."
 use Rattle.std.specs.Prelude.{ℕ, ◌+◌, cond, List, ◌++◌, eqb, length}
 use Rattle.format.specs.declared.values.Goal.{Goal}
-use Rattle.format.specs.Refusals.{length_wrong}
+use Rattle.format.specs.Refusals.{LengthWrong}
 use Rattle.format.specs.Results.{Result, gives, refused, and_then}
 use Rattle.format.specs.Inputs.{of_size}
 use Rattle.format.specs.Tags.{tactic_kind}
@@ -16,7 +16,7 @@ pub record Job : Type 0 where
 
 -- "bytes left .. behind the last field of a job or proof file", 4 at the first of them
 unfoldable pub last_term_of : List ℕ → ParsedTerm → Result Term
-last_term_of s t = cond (eqb t.next (length s)) (gives t.term) (refused length_wrong t.next)
+last_term_of s t = cond (eqb t.next (length s)) (gives t.term) (refused LengthWrong t.next)
 
 -- one term from a place to the end of the file; kinds up to high may stand in it
 unfoldable pub read_last_term : List ℕ → (high at : ℕ) → Result Term

@@ -1,7 +1,7 @@
 -- Document 01, "Fields": "Proof file: a goal list, one term of tags 16 to 21 (a hiproof), a goal list of those remaining."
 use Rattle.std.specs.Prelude.{ℕ, ◌+◌, ◌*◌, cond, List, [], ◌∷◌, ◌++◌, eqb, length}
 use Rattle.format.specs.declared.values.Goal.{Goal}
-use Rattle.format.specs.Refusals.{length_wrong}
+use Rattle.format.specs.Refusals.{LengthWrong}
 use Rattle.format.specs.Results.{Result, gives, refused, and_then}
 use Rattle.format.specs.Inputs.{of_size}
 use Rattle.format.specs.Tags.{hiproof_kind}
@@ -17,7 +17,7 @@ pub record Proof : Type 0 where
 
 -- the proof, once its last list is read: "bytes left .. behind the last field of a job or proof file", 4 at the first of them
 unfoldable pub remaining_of : List ℕ → List Goal → Term → ParsedGoals → Result Proof
-remaining_of s g t r = cond (eqb r.next (length s)) (gives (record { goals = g; term = t; remaining = r.goals })) (refused length_wrong r.next)
+remaining_of s g t r = cond (eqb r.next (length s)) (gives (record { goals = g; term = t; remaining = r.goals })) (refused LengthWrong r.next)
 
 -- once its term is read
 unfoldable pub hiproof_of : List ℕ → List Goal → ParsedTerm → Result Proof

@@ -12,7 +12,7 @@ use lib.ListN.{length, take, drop, length-append}
 use borrow.Author.Tests.{lt-ltb}
 use Rattle.format.specs.declared.values.RuleName.{RuleName}
 use Rattle.format.specs.declared.values.Goal.{Goal}
-use Rattle.format.specs.Refusals.{Cause, number, rule_missing, goal_count_wrong, goals_too_few, joined_too_long}
+use Rattle.format.specs.Refusals.{Cause, number, RuleMissing, GoalCountWrong, GoalsTooFew, JoinedTooLong}
 use Rattle.format.specs.Results.{Result, gives, refused, and_then}
 use Rattle.format.specs.Terms.{Term, atomic, id, label, sequence, tensor, empty, alternation, assert, defined, size}
 use Rattle.format.proofs.ResultLaws.{never_gives, same_place, same_cause, same_value}
@@ -52,7 +52,7 @@ joined_agrees : (p : ℕ) (h k : List Goal) (ns : List ℕ) (x : NodeWalk) → l
 unfolding Agrees joined too_long joined_values number
 joined_agrees p h k ns x e f =
     let l : length (ns ++ x.nodes) ≡ length (h ++ k) = length-append ns x.nodes ∙ ap₂ (λ (i j : ℕ). i + j) e f ∙ sym (length-append h k) in
-    rw l (test_agrees (record { cells = x.cells; nodes = ns ++ x.nodes }) (ltb 256 (length (h ++ k))) joined_too_long p (gives (h ++ k)) (gives (out_of (record { cells = x.cells; nodes = ns ++ x.nodes }))) (omega arith) (λ b. refl))
+    rw l (test_agrees (record { cells = x.cells; nodes = ns ++ x.nodes }) (ltb 256 (length (h ++ k))) JoinedTooLong p (gives (h ++ k)) (gives (out_of (record { cells = x.cells; nodes = ns ++ x.nodes }))) (omega arith) (λ b. refl))
 
 -- what follows from how the walk over nodes ended
 pub agreed_refused : (x : NodeWalk) (a : Result (List Goal)) (r : Result (Out Cell)) (c : Cause) (p : ℕ) → Agrees x a r → r ≡ refused c p → (a ≡ refused c p) × (20 ≤ number c)
@@ -70,7 +70,7 @@ module _ (T : Table) (few : FewPremises T) where
   walked : (t : Term) (p : ℕ) {g h : List Goal} (A : List Cell) {ns : List ℕ} → Carry A ns g → walk T t p g ≡ gives h → Grows T t A ns h
   walked t p {g} A c e = grows T (walk→validates T (Finds T) (finds_agrees T) t p g e) A c
 
-  found_agrees : (a : RuleName) (p : ℕ) (A : List Cell) (n : ℕ) (o : Option FoundRule) → find_rule T a (goal_of (cell_at A n)) ≡ o → Agrees (node_walk T (atomic a) A (n ∷ [])) (premises_or rule_missing p o) (use_found a p A n o)
+  found_agrees : (a : RuleName) (p : ℕ) (A : List Cell) (n : ℕ) (o : Option FoundRule) → find_rule T a (goal_of (cell_at A n)) ≡ o → Agrees (node_walk T (atomic a) A (n ∷ [])) (premises_or RuleMissing p o) (use_found a p A n o)
   unfolding Agrees premises_or use_found node_walk number
   found_agrees a p A n none e = (refl, omega arith)
   found_agrees a p A n (some r) e = rw e refl
@@ -85,7 +85,7 @@ module _ (T : Table) (few : FewPremises T) where
   atomic_agrees a p A m (Carry-Node {n = n} l e Carry-None) =
       let k : length A + 7 < most_nodes = omega arith in
       rw (lt-ltb n (length A) l, lt-ltb (length A + 7) most_nodes k)
-      (subst (λ (δ : Goal). Agrees (node_walk T (atomic a) A (n ∷ [])) (premises_or rule_missing p (find_rule T a δ)) (use_found a p A n (find_rule T a (goal_of (cell_at A n))))) e (found_agrees a p A n _ refl))
+      (subst (λ (δ : Goal). Agrees (node_walk T (atomic a) A (n ∷ [])) (premises_or RuleMissing p (find_rule T a δ)) (use_found a p A n (find_rule T a (goal_of (cell_at A n))))) e (found_agrees a p A n _ refl))
   atomic_agrees a p A m (Carry-Node l e (Carry-Node i f c)) = (refl, omega arith)
 
   id_agrees : (p : ℕ) (A : List Cell) {ns : List ℕ} {g : List Goal} → Carry A ns g → Agrees (node_walk T id A ns) (walk T id p g) (walk_of (node_act T) id p A ns)
@@ -122,12 +122,12 @@ module _ (T : Table) (few : FewPremises T) where
       let q = node_walk T s A (take (input_arity s) ns) in
       let r = node_walk T t q.cells (drop (input_arity s) ns) in
       rw (carry_length c)
-      (test_agrees (node_walk T (tensor s t) A ns) (ltb (length g) (input_arity s)) goals_too_few p _ _ (omega arith) (λ b.
+      (test_agrees (node_walk T (tensor s t) A ns) (ltb (length g) (input_arity s)) GoalsTooFew p _ _ (omega arith) (λ b.
       then_agrees q (node_walk T (tensor s t) A ns) _ _ left _ _ (λ h e.
       then_agrees r (node_walk T (tensor s t) A ns) _ _ (right h e) _ _ (λ k f.
       joined_agrees p h k q.nodes r (carry_length (walked s (p + 3) A (carry_take (input_arity s) c) e).carry) (carry_length (walked t (p + 3 + size s) q.cells (right_carry s p A c e) f).carry)))))
 
-  no_hiproof : (p : ℕ) (x : NodeWalk) → Agrees x (refused goal_count_wrong p) (refused goal_count_wrong p)
+  no_hiproof : (p : ℕ) (x : NodeWalk) → Agrees x (refused GoalCountWrong p) (refused GoalCountWrong p)
   unfolding Agrees number
   no_hiproof p x = (refl, omega arith)
 

@@ -7,7 +7,7 @@ use Prim.Native.Nat.{ℕ, ◌≤◌, ◌<◌}
 use lib.Dec.{ltb}
 use lib.ListN.{length, drop, replicate}
 use borrow.Author.Tests.{lt-ltb, le-ltb}
-use Rattle.format.specs.Refusals.{Cause, number, output_too_short}
+use Rattle.format.specs.Refusals.{Cause, number, OutputTooShort}
 use Rattle.format.specs.Results.{gives, refused}
 use Rattle.tables.specs.Tables.{Table}
 use Rattle.tables.specs.ReadTables.{read_table}
@@ -61,8 +61,8 @@ alike w out (refusal c f p k) = record { answer_same = refl; out_same = refl; wo
 alike w out (success bytes k) = by (ltb (length out) (length bytes))
   where
     by : (b : Bool) → Alike w
-        (cond b (record { answer = answer.refusal (number output_too_short) no_file 0 k; work = cleared w; out = out }) (record { answer = answer.wrote (length bytes) k; work = cleared w; out = bytes ++ drop (length bytes) out }))
-        (cond b (record { answer = answer.refusal (number output_too_short) no_file 0 k; work = cleared []; out = out }) (record { answer = answer.wrote (length bytes) k; work = cleared []; out = bytes ++ drop (length bytes) out }))
+        (cond b (record { answer = answer.refusal (number OutputTooShort) no_file 0 k; work = cleared w; out = out }) (record { answer = answer.wrote (length bytes) k; work = cleared w; out = bytes ++ drop (length bytes) out }))
+        (cond b (record { answer = answer.refusal (number OutputTooShort) no_file 0 k; work = cleared []; out = out }) (record { answer = answer.wrote (length bytes) k; work = cleared []; out = bytes ++ drop (length bytes) out }))
     by true = record { answer_same = refl; out_same = refl; work_is = refl }
     by false = record { answer_same = refl; out_same = refl; work_is = refl }
 

@@ -10,7 +10,7 @@ use lib.ListN.{length, drop}
 use borrow.Author.Tests.{ltb-false, le-ltb}
 use Rattle.format.specs.declared.values.Goal.{Goal}
 use Rattle.format.specs.Limits.{most_goals}
-use Rattle.format.specs.Refusals.{limit_passed}
+use Rattle.format.specs.Refusals.{LimitPassed}
 use Rattle.format.specs.Results.{gives, and_then}
 use Rattle.format.specs.Tags.{rows, find_row, row_of, kind_of, least_of, most_of, inner_of, goal_list_kind}
 use Rattle.format.specs.Headers.{header_at}
@@ -43,7 +43,7 @@ goals_stand s at end fit g e =
     let a = and_gives (header_at s at end goal_list_kind goal_list_kind false) e in
     let h = a.0 in
     let f = is_field s at end goal_list_kind goal_list_kind false h.tag h.len a.1 in
-    let b = passed (ltb most_goals (h.len / 2)) limit_passed at _ a.2 in
+    let b = passed (ltb most_goals (h.len / 2)) LimitPassed at _ a.2 in
     let few = ltb-false most_goals (h.len / 2) b.0 in
     let q = same_value b.1 in
     let tag : h.tag ≡ 3 = list_tag h.tag f.above f.below in

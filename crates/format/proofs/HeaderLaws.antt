@@ -3,19 +3,19 @@
 use mathlib.Core.Path.{◌≡◌, refl, sym, ap}
 use mathlib.Core.Bool.{Bool, true, false, cond}
 use mathlib.Core.List.{List}
+use Rattle.std.specs.Prelude.{Ok}
 use Prim.Native.Nat.{ℕ, ◌+◌, ◌≤◌, ◌%◌}
 use native.Mathlib.Omega.{arith}
 use lib.Dec.{eqb, ltb}
 use lib.ListN.{get_or}
 use borrow.Author.Tests.{ltb-false, le-ltb, eqb-true, eq-eqb}
 use Rattle.words.specs.Word.{word}
-use Rattle.format.specs.declared.headers.HeaderRead.TheVariants as H
-use Rattle.format.specs.Refusals.{field_torn, tag_not_allowed, limit_passed, length_wrong}
+use Rattle.format.specs.Refusals.{FieldTorn, TagNotAllowed, LimitPassed, LengthWrong}
 use Rattle.format.specs.Results.{Result, gives, refused, told}
 use Rattle.format.specs.Tags.{kind_of, least_of, most_of, inner_of, length_fits}
 use Rattle.format.specs.Headers.{Header, header, header_at}
 use Rattle.format.specs.Shapes.{header_shape}
-use Rattle.format.proofs.ResultLaws.{passed, kept, same_value}
+use Rattle.format.proofs.ResultLaws.{passed, kept, same_value, same_answered}
 
 pub record IsField (s : List ℕ) (at end low high : ℕ) (full : Bool) (tag len : ℕ) : Type 0 where
   pub header-fits : at + 3 ≤ end
@@ -42,12 +42,12 @@ unfolding header_at length_fits
 is_field s at end low high full tag len e =
     let t = get_or s at 0 in
     let l = word s (at + 1) in
-    let e1 = passed (ltb end (at + 3)) field_torn at _ e in
-    let e2 = passed (ltb (kind_of t) low) tag_not_allowed at _ e1.1 in
-    let e3 = passed (ltb high (kind_of t)) tag_not_allowed at _ e2.1 in
-    let e4 = passed full limit_passed at _ e3.1 in
-    let e5 = passed (ltb end (at + 3 + l)) field_torn at _ e4.1 in
-    let e6 = kept (length_fits t l) length_wrong at (gives (header t l)) e5.1 in
+    let e1 = passed (ltb end (at + 3)) FieldTorn at _ e in
+    let e2 = passed (ltb (kind_of t) low) TagNotAllowed at _ e1.1 in
+    let e3 = passed (ltb high (kind_of t)) TagNotAllowed at _ e2.1 in
+    let e4 = passed full LimitPassed at _ e3.1 in
+    let e5 = passed (ltb end (at + 3 + l)) FieldTorn at _ e4.1 in
+    let e6 = kept (length_fits t l) LengthWrong at (gives (header t l)) e5.1 in
     let e7 = none_of (ltb l (least_of t)) _ e6.0 in
     let e8 = none_of (ltb (most_of t) l) _ e7.1 in
     let q = same_value e6.1 in
@@ -84,10 +84,9 @@ field_at s at end low high full tag len et el e l h f z m w =
     simp (et, el, le-ltb end (at + 3) (omega arith), le-ltb _ _ l, le-ltb _ _ h, f, le-ltb _ _ e, le-ltb _ _ z, le-ltb _ _ m, even_fits tag len w)
 
 -- a header that the code tells as a field is that field
-pub told-field : (x : Result Header) (tag len : ℕ) → header_shape x ≡ H.Field tag len → x ≡ gives (header tag len)
+pub told-field : (x : Result Header) (tag len : ℕ) → header_shape x ≡ Ok (record { tag = tag; len = len }) → x ≡ gives (header tag len)
 unfolding header_shape told
 told-field (gives h) tag len e =
-    let a : h.tag ≡ tag = cc in
-    let b : h.len ≡ len = cc in
-    λ i. gives (record { tag = a i; len = b i })
+    let same = same_answered e in
+    λ i. gives (record { tag = (same i).tag; len = (same i).len })
 told-field (refused c p) tag len e = cc

@@ -9,7 +9,7 @@ use lib.Dec.{eqb, leb}
 use lib.ListN.{length}
 use borrow.Author.Tests.{eqb-true, leb-false}
 use Rattle.format.specs.Limits.{most_term_fields}
-use Rattle.format.specs.Refusals.{Cause, length_wrong}
+use Rattle.format.specs.Refusals.{Cause, LengthWrong}
 use Rattle.format.specs.Results.{Result, gives, refused, and_then}
 use Rattle.format.specs.Tags.{rows, find_row, row_of, kind_of, least_of, most_of, inner_of, hiproof_kind, tactic_kind}
 use Rattle.format.specs.Headers.{Header, header_at}
@@ -34,11 +34,11 @@ unfoldable pub LawOf : List ℕ → (high at end n : ℕ) → Result ParsedTerm 
 LawOf s high at end n (refused c p) = Unit {0}
 LawOf s high at end n (gives r) = Law s high at end n r
 
-closed_law : (P : Result ParsedTerm → Type 0) (at end : ℕ) (t : Term) (next n : ℕ) → P (refused length_wrong at) → (next ≡ end → P (gives (parsed_term t next n))) → P (closed at end t next n)
+closed_law : (P : Result ParsedTerm → Type 0) (at end : ℕ) (t : Term) (next n : ℕ) → P (refused LengthWrong at) → (next ≡ end → P (gives (parsed_term t next n))) → P (closed at end t next n)
 unfolding closed
 closed_law P at end t next n a b = go (eqb next end) refl
   where
-    go : (c : Bool) → eqb next end ≡ c → P (cond c (gives (parsed_term t next n)) (refused length_wrong at))
+    go : (c : Bool) → eqb next end ≡ c → P (cond c (gives (parsed_term t next n)) (refused LengthWrong at))
     go true e = b (eqb-true _ _ e)
     go false e = a
 
@@ -80,7 +80,7 @@ module _ (s : List ℕ) (high : ℕ) (rec : ℕ → ℕ → ℕ → Result Parse
   unfolding LawOf
   one_law op tag len f z c st hp =
       and_holds G _ _ (λ e p q. no_law e p) (λ r e.
-      closed_law G at (at + 3 + len) (op r.term) r.next r.count (no_law length_wrong at) (done r (inner (at + 3 + 2) (at + 3 + len) (n + 1) (omega (arith, f)) r e)))
+      closed_law G at (at + 3 + len) (op r.term) r.next r.count (no_law LengthWrong at) (done r (inner (at + 3 + 2) (at + 3 + len) (n + 1) (omega (arith, f)) r e)))
     where
       done : (r : ParsedTerm) → Law s high (at + 3 + 2) (at + 3 + len) (n + 1) r → r.next ≡ at + 3 + len → G (gives (parsed_term (op r.term) r.next r.count))
       done r l q =
@@ -101,7 +101,7 @@ module _ (s : List ℕ) (high : ℕ) (rec : ℕ → ℕ → ℕ → Result Parse
   unfolding LawOf
   two_law op tag len f z c st hp =
       and_holds G _ _ (λ e p q. no_law e p) (λ a e. and_holds G _ _ (λ e' p q. no_law e' p) (λ b e₂.
-      closed_law G at (at + 3 + len) (op a.term b.term) b.next b.count (no_law length_wrong at)
+      closed_law G at (at + 3 + len) (op a.term b.term) b.next b.count (no_law LengthWrong at)
       (done a b (inner (at + 3 + 0) (at + 3 + len) (n + 1) (omega (arith, f)) a e) (inner a.next (at + 3 + len) a.count (omega (arith, f)) b e₂))))
     where
       done : (a b : ParsedTerm) → Law s high (at + 3 + 0) (at + 3 + len) (n + 1) a → Law s high a.next (at + 3 + len) a.count b → b.next ≡ at + 3 + len → G (gives (parsed_term (op a.term b.term) b.next b.count))

@@ -9,7 +9,7 @@ use lib.Dec.{eqb, ltb, leb}
 use lib.ListN.{length, get_or}
 use Rattle.words.specs.Word.{word}
 use Rattle.format.specs.Limits.{most_goals, most_term_fields}
-use Rattle.format.specs.Refusals.{Cause, number, field_torn, tag_not_allowed, limit_passed, length_wrong}
+use Rattle.format.specs.Refusals.{Cause, number, FieldTorn, TagNotAllowed, LimitPassed, LengthWrong}
 use Rattle.format.specs.Results.{Result, gives, refused, and_then}
 use Rattle.format.specs.Tags.{kind_of, least_of, inner_of, length_fits, hiproof_kind, tactic_kind, goal_list_kind}
 use Rattle.format.specs.Headers.{Header, header, header_at}
@@ -61,10 +61,10 @@ unfolding header_at number
 header_place s at end low high full =
     let t = get_or s at 0 in
     let l = word s (at + 1) in
-    let torn = here Header at field_torn (omega arith) (omega arith) in
-    let tag = here Header at tag_not_allowed (omega arith) (omega arith) in
-    let limit = here Header at limit_passed (omega arith) (omega arith) in
-    let wrong = here Header at length_wrong (omega arith) (omega arith) in
+    let torn = here Header at FieldTorn (omega arith) (omega arith) in
+    let tag = here Header at TagNotAllowed (omega arith) (omega arith) in
+    let limit = here Header at LimitPassed (omega arith) (omega arith) in
+    let wrong = here Header at LengthWrong (omega arith) (omega arith) in
     either at at (ltb end (at + 3)) _ _ torn
     (either at at (ltb (kind_of t) low) _ _ tag
     (either at at (ltb high (kind_of t)) _ _ tag
@@ -77,14 +77,14 @@ pub goals_place : (s : List ℕ) (at end : ℕ) → RefusedWithin at at (read_go
 unfolding read_goals goals_of number
 goals_place s at end =
     steps at at _ _ (header_place s at end goal_list_kind goal_list_kind false) (λ h e.
-    either at at (ltb most_goals (h.len / 2)) _ _ (here ParsedGoals at limit_passed (omega arith) (omega arith)) (value at at _))
+    either at at (ltb most_goals (h.len / 2)) _ _ (here ParsedGoals at LimitPassed (omega arith) (omega arith)) (value at at _))
 
 module _ (s : List ℕ) (high : ℕ) (rec : ℕ → ℕ → ℕ → Result ParsedTerm)
     (ahead : (at end n : ℕ) → end ≤ length s → (r : ParsedTerm) → rec at end n ≡ gives r → (at ≤ r.next) × (r.next ≤ end))
     (ih : (at end n : ℕ) → at ≤ end → end ≤ length s → RefusedWithin at end (rec at end n)) where
   closed_place : (at end : ℕ) (t : Term) (next n : ℕ) → at ≤ end → RefusedWithin at end (closed at end t next n)
   unfolding closed number
-  closed_place at end t next n l = either at end (eqb next end) _ _ (value at end _) (further at at end at (omega arith) l _ (here ParsedTerm at length_wrong (omega arith) (omega arith)))
+  closed_place at end t next n l = either at end (eqb next end) _ _ (value at end _) (further at at end at (omega arith) l _ (here ParsedTerm at LengthWrong (omega arith) (omega arith)))
 
   contents_place : (at tag close n k : ℕ) → at + 3 + least_of tag ≤ close → close ≤ length s → RefusedWithin at close (contents rec s at tag close n k)
   unfolding contents
@@ -109,7 +109,7 @@ ahead d s high top at end n fit r e = let l = read_gives d s high top at end n f
 -- a term is refused at a place from its own to the end of what encloses it
 pub term_place_lem : (d : ℕ) (s : List ℕ) (high : ℕ) → high ≤ tactic_kind → (at end n : ℕ) → at ≤ end → end ≤ length s → RefusedWithin at end (read_term d s high at end n)
 unfolding read_term number
-term_place_lem zero s high top at end n l fit = further at at end at (omega arith) l _ (here ParsedTerm at field_torn (omega arith) (omega arith))
+term_place_lem zero s high top at end n l fit = further at at end at (omega arith) l _ (here ParsedTerm at FieldTorn (omega arith) (omega arith))
 term_place_lem (suc d) s high top at end n l fit =
     steps at end _ _ (further at at end at (omega arith) l _ (header_place s at end hiproof_kind high (leb most_term_fields n)))
     (header_read s high (read_term d s high) (ahead d s high top) (term_place_lem d s high top) at end n l fit)

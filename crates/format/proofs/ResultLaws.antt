@@ -1,12 +1,15 @@
 -- Laws of results and of what the code tells of them: by the two cases of a result.
 -- Assumes nothing.
-use mathlib.Core.Path.{◌≡◌, refl}
+use Rattle.std.specs.Prelude.{Ok, Err}
+use Rattle.std.specs.Prelude as std
+use Rattle.format.specs.declared.refusals.Refusal.{Refusal}
+use mathlib.Core.Path.{◌≡◌, refl, ap}
 use mathlib.Core.Bool.{Bool, true, false, cond}
 use Prim.Native.Nat.{ℕ, ◌≤◌}
 use native.Mathlib.Omega.{arith}
 use Rattle.format.specs.Refusals.{Cause, number}
 use Rattle.format.specs.Refusals as C
-use Rattle.format.specs.Results.{Result, gives, refused, and_then, told}
+use Rattle.format.specs.Results.{Result, gives, refused, and_then, told, refused_at}
 
 module _ {A : Type 0} where
   -- a refusal is no value
@@ -50,49 +53,63 @@ module _ {A B : Type 0} where
   and_same (gives a) y next other e s = rw (← e) (s a refl)
   and_same (refused c p) y next other e s = rw (← e)
 
+-- the parts of what the code answers: a cc joins the answers, and a projection the parts
+module _ {A : Type 0} where
+  pub same_answered : {E : Type 0} {a b : A} → ◌≡◌ {A = std.Result A E} (Ok a) (Ok b) → a ≡ b
+  same_answered e = cc
+
+  pub same_refusal : {E : Type 0} {a b : E} → ◌≡◌ {A = std.Result A E} (Err a) (Err b) → a ≡ b
+  same_refusal e = cc
+
+  pub refused_cause : {c d : Cause} {p q : ℕ} → ◌≡◌ {A = std.Result A Refusal} (refused_at c p) (refused_at d q) → c ≡ d
+  refused_cause e = ap (λ (r : Refusal). r.cause) (same_refusal e)
+
+  pub refused_place : {c d : Cause} {p q : ℕ} → ◌≡◌ {A = std.Result A Refusal} (refused_at c p) (refused_at d q) → p ≡ q
+  refused_place e = ap (λ (r : Refusal). r.place) (same_refusal e)
+
 -- what the code tells of two steps, from what it tells of the first. R and S are how it tells a refusal, K and L what it tells of a value.
-module _ {A B X Y : Type 0} (R : ℕ → ℕ → X) (K : A → X) (S : ℕ → ℕ → Y) (L : B → Y) where
-  pub told_refused : (x : Result A) (next : A → Result B) (n p : ℕ) → told R K x ≡ R n p
-      → ((c : Cause) (q : ℕ) → R (number c) q ≡ R n p → S (number c) q ≡ S n p) → ((a : A) → K a ≡ R n p → ⊥)
-      → told S L (and_then x next) ≡ S n p
+module _ {A B X Y : Type 0} (R : Cause → ℕ → X) (K : A → X) (S : Cause → ℕ → Y) (L : B → Y) where
+  pub told_refused : (x : Result A) (next : A → Result B) (d : Cause) (p : ℕ) → told R K x ≡ R d p
+      → ((c : Cause) (q : ℕ) → R c q ≡ R d p → S c q ≡ S d p) → ((a : A) → K a ≡ R d p → ⊥)
+      → told S L (and_then x next) ≡ S d p
   unfolding told and_then
-  told_refused (gives a) next n p e same other = absurd (other a e)
-  told_refused (refused c q) next n p e same other = same c q e
+  told_refused (gives a) next d p e same other = absurd (other a e)
+  told_refused (refused c q) next d p e same other = same c q e
 
   pub told_gives : (x : Result A) (next : A → Result B) (t : X) (y : Y) → told R K x ≡ t
-      → ((n p : ℕ) → R n p ≡ t → ⊥) → ((a : A) → x ≡ gives a → K a ≡ t → told S L (next a) ≡ y) → told S L (and_then x next) ≡ y
+      → ((d : Cause) (p : ℕ) → R d p ≡ t → ⊥) → ((a : A) → x ≡ gives a → K a ≡ t → told S L (next a) ≡ y) → told S L (and_then x next) ≡ y
   unfolding told and_then
   told_gives (gives a) next t y e other h = h a refl e
-  told_gives (refused c q) next t y e other h = absurd (other (number c) q e)
+  told_gives (refused c q) next t y e other h = absurd (other c q e)
 
 -- no refusal has the number 0
 pub number_positive : (c : Cause) → 1 ≤ number c
 unfolding number
-number_positive C.input_too_long = omega arith
-number_positive C.field_torn = omega arith
-number_positive C.tag_not_allowed = omega arith
-number_positive C.length_wrong = omega arith
-number_positive C.limit_passed = omega arith
-number_positive C.rule_repeated = omega arith
-number_positive C.premise_count_differs = omega arith
-number_positive C.tactic_redefined = omega arith
-number_positive C.label_repeated = omega arith
-number_positive C.rule_missing = omega arith
-number_positive C.goal_count_wrong = omega arith
-number_positive C.goals_too_few = omega arith
-number_positive C.remaining_differ = omega arith
-number_positive C.joined_too_long = omega arith
-number_positive C.tactic_failed = omega arith
-number_positive C.budget_spent = omega arith
-number_positive C.budget_too_large = omega arith
-number_positive C.output_too_short = omega arith
-number_positive C.entry_wrong = omega arith
-number_positive C.goals_pending = omega arith
-number_positive C.entries_too_many = omega arith
-number_positive C.work_too_short = omega arith
-number_positive C.state_not_genuine = omega arith
-number_positive C.text_wrong = omega arith
-number_positive C.value_too_large = omega arith
-number_positive C.fields_too_many = omega arith
-number_positive C.no_evaluation = omega arith
-number_positive C.height_outside = omega arith
+number_positive C.InputTooLong = omega arith
+number_positive C.FieldTorn = omega arith
+number_positive C.TagNotAllowed = omega arith
+number_positive C.LengthWrong = omega arith
+number_positive C.LimitPassed = omega arith
+number_positive C.RuleRepeated = omega arith
+number_positive C.PremiseCountDiffers = omega arith
+number_positive C.TacticRedefined = omega arith
+number_positive C.LabelRepeated = omega arith
+number_positive C.RuleMissing = omega arith
+number_positive C.GoalCountWrong = omega arith
+number_positive C.GoalsTooFew = omega arith
+number_positive C.RemainingDiffer = omega arith
+number_positive C.JoinedTooLong = omega arith
+number_positive C.TacticFailed = omega arith
+number_positive C.BudgetSpent = omega arith
+number_positive C.BudgetTooLarge = omega arith
+number_positive C.OutputTooShort = omega arith
+number_positive C.EntryWrong = omega arith
+number_positive C.GoalsPending = omega arith
+number_positive C.EntriesTooMany = omega arith
+number_positive C.WorkTooShort = omega arith
+number_positive C.StateNotGenuine = omega arith
+number_positive C.TextWrong = omega arith
+number_positive C.ValueTooLarge = omega arith
+number_positive C.FieldsTooMany = omega arith
+number_positive C.NoEvaluation = omega arith
+number_positive C.HeightOutside = omega arith

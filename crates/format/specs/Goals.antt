@@ -3,7 +3,7 @@ use Rattle.std.specs.Prelude.{ℕ, zero, suc, ◌+◌, ◌/◌, cond, false, Lis
 use Rattle.words.specs.Word.{word}
 use Rattle.format.specs.declared.values.Goal.{Goal}
 use Rattle.format.specs.Limits.{most_goals}
-use Rattle.format.specs.Refusals.{limit_passed}
+use Rattle.format.specs.Refusals.{LimitPassed}
 use Rattle.format.specs.Results.{Result, gives, refused, and_then}
 use Rattle.format.specs.Values.{goal}
 use Rattle.format.specs.Tags.{goal_list_kind}
@@ -22,7 +22,7 @@ pub record ParsedGoals : Type 0 where
 -- the goal list at a place, once its header is read
 unfoldable pub goals_of : List ℕ → (at : ℕ) → Header → Result ParsedGoals
 goals_of s at h =
-    cond (ltb most_goals (h.len / 2)) (refused limit_passed at)
+    cond (ltb most_goals (h.len / 2)) (refused LimitPassed at)
     (gives (record { goals = goals_at s (at + 3) (h.len / 2); next = at + 3 + h.len }))
 
 -- the goal list at a place, within what ends at `end`

@@ -1,7 +1,7 @@
 -- Document 01, "What the bytes bring about": the header of a field, "header 2, 3, field limit 5, contents 2, 4".
 use Rattle.std.specs.Prelude.{ℕ, ◌+◌, Bool, cond, List, ltb, get_or}
 use Rattle.words.specs.Word.{word}
-use Rattle.format.specs.Refusals.{field_torn, tag_not_allowed, limit_passed, length_wrong}
+use Rattle.format.specs.Refusals.{FieldTorn, TagNotAllowed, LimitPassed, LengthWrong}
 use Rattle.format.specs.Results.{Result, gives, refused}
 use Rattle.format.specs.Tags.{kind_of, length_fits}
 
@@ -18,10 +18,10 @@ unfoldable pub header_at : List ℕ → (at end low high : ℕ) → (full : Bool
 header_at s at end low high full =
     let tag = get_or s at 0 in
     let len = word s (at + 1) in
-    cond (ltb end (at + 3)) (refused field_torn at)
-    (cond (ltb (kind_of tag) low) (refused tag_not_allowed at)
-    (cond (ltb high (kind_of tag)) (refused tag_not_allowed at)
-    (cond full (refused limit_passed at)
-    (cond (ltb end (at + 3 + len)) (refused field_torn at)
+    cond (ltb end (at + 3)) (refused FieldTorn at)
+    (cond (ltb (kind_of tag) low) (refused TagNotAllowed at)
+    (cond (ltb high (kind_of tag)) (refused TagNotAllowed at)
+    (cond full (refused LimitPassed at)
+    (cond (ltb end (at + 3 + len)) (refused FieldTorn at)
     (cond (length_fits tag len) (gives (header tag len))
-    (refused length_wrong at))))))
+    (refused LengthWrong at))))))

@@ -2,7 +2,7 @@
 use Rattle.std.specs.Prelude.{ℕ, zero, suc, ◌+◌, cond, List, eqb, leb}
 use Rattle.words.specs.Word.{word}
 use Rattle.format.specs.Limits.{most_term_fields}
-use Rattle.format.specs.Refusals.{field_torn, length_wrong}
+use Rattle.format.specs.Refusals.{FieldTorn, LengthWrong}
 use Rattle.format.specs.Results.{Result, gives, refused, and_then}
 use Rattle.format.specs.Values.{rule_name, goal, label_of, tactic_no}
 use Rattle.format.specs.Tags.{least_of, inner_of, hiproof_kind}
@@ -33,7 +33,7 @@ pair tag t u = cond (eqb tag 19) (sequence t u) (cond (eqb tag 20) (tensor t u) 
 
 -- behind the last inner term nothing is left in the field at this place
 unfoldable pub closed : (at end : ℕ) → Term → (next count : ℕ) → Result ParsedTerm
-closed at end t next n = cond (eqb next end) (gives (parsed_term t next n)) (refused length_wrong at)
+closed at end t next n = cond (eqb next end) (gives (parsed_term t next n)) (refused LengthWrong at)
 
 -- the contents of the field at a place, up to end, by the number of its inner terms; these are read by rec, from the first behind the values on
 unfoldable pub contents : (rec : ℕ → ℕ → ℕ → Result ParsedTerm) → List ℕ → (at tag end count inner : ℕ) → Result ParsedTerm
@@ -53,5 +53,5 @@ term_of rec s at n h = contents rec s at h.tag (at + 3 + h.len) (n + 1) (inner_o
 -- The term at a place, within what ends at `end`, where count term fields were begun before it; kinds up to high may stand in it.
 -- The first argument bounds how deep terms stand in one another: any above end - at does (`Depth.same_depth`).
 unfoldable pub read_term : (depth : ℕ) → List ℕ → (high at end count : ℕ) → Result ParsedTerm
-read_term zero s high at end n = refused field_torn at
+read_term zero s high at end n = refused FieldTorn at
 read_term (suc d) s high at end n = and_then (header_at s at end hiproof_kind high (leb most_term_fields n)) (term_of (read_term d s high) s at n)

@@ -1,6 +1,8 @@
 -- What a reading or a walk comes to: a value, or the cause of the refusal and its place, document 01's "byte offset where the field's tag is or should be".
-use Rattle.std.specs.Prelude.{ℕ}
-use Rattle.format.specs.Refusals.{Cause, number}
+use Rattle.std.specs.Prelude.{ℕ, Err}
+use Rattle.std.specs.Prelude as std
+use Rattle.format.specs.Refusals.{Cause}
+use Rattle.format.specs.declared.refusals.Refusal.{Refusal}
 
 pub data Result (A : Type 0) : Type 0 where
   gives : A → Result A
@@ -11,7 +13,11 @@ unfoldable pub and_then : {A B : Type 0} → Result A → (A → Result B) → R
 and_then (gives a) next = next a
 and_then (refused c p) next = refused c p
 
--- The answer of a function of the code: number and place of a refusal, or what the code keeps of the value.
-unfoldable pub told : {A B : Type 0} → (refusal : ℕ → ℕ → B) → (value : A → B) → Result A → B
+-- The answer of a function of the code: of a refusal its cause and place, of a value what the code keeps of it.
+unfoldable pub told : {A B : Type 0} → (refusal : Cause → (place : ℕ) → B) → (value : A → B) → Result A → B
 told refusal value (gives a) = value a
-told refusal value (refused c p) = refusal (number c) p
+told refusal value (refused c p) = refusal c p
+
+-- a refusal as the code answers it
+abbrev pub refused_at : {B : Type 0} → Cause → (place : ℕ) → std.Result B Refusal
+refused_at c p = Err (record { cause = c; place = p })

@@ -17,11 +17,34 @@ pub const TACTIC: u8 = 60;
 
 pub const ENTRY: u8 = 70;
 
-// The tag of a rule; the other fields of a table are definitions.
+// The tags: of a table's fields, of a goal list, of terms, and of a flat file's entries.
 pub const RULE_TAG: u8 = 1;
 
-// The tag of a use; the other entries of a flat file are opens.
+pub const DEFINITION_TAG: u8 = 2;
+
+pub const GOALS_TAG: u8 = 3;
+
+pub const ATOMIC: u8 = 16;
+
+pub const ID: u8 = 17;
+
+pub const LABEL: u8 = 18;
+
+pub const SEQUENCE: u8 = 19;
+
+pub const TENSOR: u8 = 20;
+
+pub const EMPTY: u8 = 21;
+
+pub const ALTERNATION: u8 = 22;
+
+pub const ASSERTION: u8 = 23;
+
+pub const DEFINED: u8 = 24;
+
 pub const USE_TAG: u8 = 32;
+
+pub const OPEN_TAG: u8 = 33;
 
 // Where a tag may stand; 0 for a number that is no tag.
 const KINDS: [u8; 15] = [

@@ -4,46 +4,54 @@ ghost use Rattle.words.specs.Word.{word};
 
 use words::load16;
 
-#[derive(Clone, Copy)]
+#[derive(Clone, Copy, PartialEq, Eq)]
 pub struct RuleName(pub u16);
 
-#[derive(Clone, Copy)]
+impl From<u16> for RuleName {
+    ghost from_gives = { λ v e. e.0 ≡ v };
+
+    fn from(v: u16) -> RuleName {
+        RuleName(v)
+    }
+}
+
+#[derive(Clone, Copy, PartialEq, Eq)]
 pub struct Goal(pub u16);
 
-#[derive(Clone, Copy)]
+impl From<u16> for Goal {
+    ghost from_gives = { λ v e. e.0 ≡ v };
+
+    fn from(v: u16) -> Goal {
+        Goal(v)
+    }
+}
+
+#[derive(Clone, Copy, PartialEq, Eq)]
 pub struct Label(pub u16);
 
-#[derive(Clone, Copy)]
+impl From<u16> for Label {
+    ghost from_gives = { λ v e. e.0 ≡ v };
+
+    fn from(v: u16) -> Label {
+        Label(v)
+    }
+}
+
+#[derive(Clone, Copy, PartialEq, Eq)]
 pub struct TacticNo(pub u16);
 
-// The rule name at a place.
-pub fn rule_name_at(s: &[u8], at: usize) -> RuleName
-    requires { at + 1 < length s.now }
-    ensures { result.0 ≡ word s.now at }
-{
-    RuleName(load16(s, at))
+impl From<u16> for TacticNo {
+    ghost from_gives = { λ v e. e.0 ≡ v };
+
+    fn from(v: u16) -> TacticNo {
+        TacticNo(v)
+    }
 }
 
-// The goal at a place.
-pub fn goal_at(s: &[u8], at: usize) -> Goal
+// The value at a place, as one of these.
+pub fn value_at<V: From<u16>>(s: &[u8], at: usize) -> V
     requires { at + 1 < length s.now }
-    ensures { result.0 ≡ word s.now at }
+    ensures { V.From.from_gives (word s.now at) result }
 {
-    Goal(load16(s, at))
-}
-
-// The label at a place.
-pub fn label_at(s: &[u8], at: usize) -> Label
-    requires { at + 1 < length s.now }
-    ensures { result.0 ≡ word s.now at }
-{
-    Label(load16(s, at))
-}
-
-// The tactic number at a place.
-pub fn tactic_no_at(s: &[u8], at: usize) -> TacticNo
-    requires { at + 1 < length s.now }
-    ensures { result.0 ≡ word s.now at }
-{
-    TacticNo(load16(s, at))
+    V::from(load16(s, at))
 }

@@ -11,7 +11,7 @@ use lib.ListN.{length}
 use borrow.Author.Tests.{lt-ltb, le-ltb, ltb-true, ltb-false}
 use Rattle.words.specs.Word.{word}
 use Rattle.format.specs.Limits.{most_steps}
-use Rattle.format.specs.Refusals.{number, state_not_genuine}
+use Rattle.format.specs.Refusals.{number, StateNotGenuine}
 use Rattle.answers.specs.declared.Answer.{Answer}
 use Rattle.answers.specs.Answers as said
 use Rattle.entries.specs.Halting.{steps_of, is_saved, genuine, going_on, resume_outcome}
@@ -47,7 +47,7 @@ module _ (t s saved : List ℕ) (c : ℕ) (within : steps_of saved + c ≤ most_
   pub not_genuine_refuses : (a : Answer) → genuine q.table q.job saved ≡ false → a ≡ said.refusal 30 0 0 0 → Refuses a (resume_outcome t s saved c)
   unfolding resume_outcome number
   not_genuine_refuses a g e = record {
-    cause = state_not_genuine;
+    cause = StateNotGenuine;
     file = 0;
     place = 0;
     answer_is = e;

@@ -5,7 +5,7 @@ use mathlib.Core.Path.{◌≡◌, refl, sym, ap, subst, ◌∙◌}
 use mathlib.Core.List.{List}
 use lib.ListN.{length}
 use Rattle.format.specs.Limits.{most_steps}
-use Rattle.format.specs.Refusals.{number, budget_too_large}
+use Rattle.format.specs.Refusals.{number, BudgetTooLarge}
 use Rattle.tables.specs.Tables.{Table}
 use Rattle.files.specs.Jobs.{Job}
 use Rattle.answers.specs.declared.Answer.{Answer}
@@ -27,7 +27,7 @@ use Rattle.halting.proofs.HaltLaws.{keeps}
 module _ (t s : List ℕ) (n : ℕ) (next : Table → Job → HaltingOutcome) where
   pub limit_refuses : (a : Answer) → most_steps < n → a ≡ said.refusal 25 0 0 0 → Refuses a (within_limit n t s next)
   unfolding number
-  limit_refuses a h e = record { cause = budget_too_large; file = 0; place = 0; answer_is = e; outcome_is = over_limit t s n next h }
+  limit_refuses a h e = record { cause = BudgetTooLarge; file = 0; place = 0; answer_is = e; outcome_is = over_limit t s n next h }
 
   pub files_refuse : n ≤ most_steps → (a : Answer) → FilesRefused t s a → Refuses a (within_limit n t s next)
   files_refuse h a (no_table c p e q) = record { cause = c; file = 1; place = p; answer_is = q; outcome_is = table_refused t s n next h c p e }

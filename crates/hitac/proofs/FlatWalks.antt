@@ -8,7 +8,7 @@ use mathlib.Core.Logic.{◌⊎◌, inl, inr, ⊎_elim, ◌↔◌}
 use mathlib.Core.List.{List, [], ◌∷◌, ◌++◌, append-nil}
 use borrow.Author.Tests.{eqb-false, eq-eqb, ne_eqb}
 use Rattle.format.specs.declared.values.Goal.{Goal}
-use Rattle.format.specs.Refusals.{Cause, entry_wrong}
+use Rattle.format.specs.Refusals.{Cause, EntryWrong}
 use Rattle.format.specs.Results.{Result, gives, refused, and_then}
 use Rattle.tables.specs.Tables.{Table, HasRule, UniqueRules}
 use Rattle.tables.specs.Lookup.{find_rule, same_goal}
@@ -24,12 +24,12 @@ use Rattle.hitac.proofs.ResultLaws.{refused_gives, gives_refused, gives_gives, r
 use Rattle.hitac.proofs.WalkValidates.{Agrees, finds_agrees, rules_agree, no_rule→missing, missing→no_rule}
 
 -- the test of the goal, which goes on where it holds
-goal_gives : {r : Result (List Goal)} (p : ℕ) {k : List Goal} (b : Bool) → cond b r (refused entry_wrong p) ≡ gives k → (b ≡ true) × (r ≡ gives k)
+goal_gives : {r : Result (List Goal)} (p : ℕ) {k : List Goal} (b : Bool) → cond b r (refused EntryWrong p) ≡ gives k → (b ≡ true) × (r ≡ gives k)
 goal_gives p true e = (refl, e)
 goal_gives p false e = absurd (refused_gives e)
 
-goal_refused : {r : Result (List Goal)} {c : Cause} {p q : ℕ} (b : Bool) → cond b r (refused entry_wrong p) ≡ refused c q
-    → ((b ≡ true) × (r ≡ refused c q)) ⊎ ((b ≡ false) × (entry_wrong ≡ c) × (p ≡ q))
+goal_refused : {r : Result (List Goal)} {c : Cause} {p q : ℕ} (b : Bool) → cond b r (refused EntryWrong p) ≡ refused c q
+    → ((b ≡ true) × (r ≡ refused c q)) ⊎ ((b ≡ false) × (EntryWrong ≡ c) × (p ≡ q))
 goal_refused true e = inl (refl, e)
 goal_refused false e = inr (refl, refused_cause e, refused_place e)
 
@@ -67,7 +67,7 @@ module _ (T : Table) (S : System) (agrees : Agrees T S) where
       rw (← same_goal_lem γ δ b) (D-Use ((agrees a γ h).0 (premises_give _ _ (find_rule T a γ) c)) (flat_walk→derives (p + 7) (h ++ g) es d))
 
   -- An entry that does not apply is refused at its place.
-  unfit_refused : {k : List Goal} {e : Entry} → Unfit S k e → (p : ℕ) (fs : List Entry) → flat_walk T p k (e ∷ fs) ≡ refused entry_wrong p
+  unfit_refused : {k : List Goal} {e : Entry} → Unfit S k e → (p : ℕ) (fs : List Entry) → flat_walk T p k (e ∷ fs) ≡ refused EntryWrong p
   unfolding flat_walk and_then premises_or
   unfit_refused (U-Nothing-Pending {e = use_entry a γ}) p fs = refl
   unfit_refused (U-Nothing-Pending {e = open_entry γ}) p fs = refl
@@ -75,7 +75,7 @@ module _ (T : Table) (S : System) (agrees : Agrees T S) where
   unfit_refused (U-Use-Other {γ = γ} {δ = δ} z) p fs = rw (goal_other γ δ z)
   unfit_refused (U-Use-Rule {a = a} {γ = γ} z) p fs = rw (eq-eqb γ.0 γ.0 refl, no_rule→missing T S agrees a γ z)
 
-  pub first_wrong→flat_walk : {p : ℕ} {g : List Goal} {es : List Entry} {q : ℕ} → FirstWrong S p g es q → flat_walk T p g es ≡ refused entry_wrong q
+  pub first_wrong→flat_walk : {p : ℕ} {g : List Goal} {es : List Entry} {q : ℕ} → FirstWrong S p g es q → flat_walk T p g es ≡ refused EntryWrong q
   first_wrong→flat_walk (U-First {p = p} {es = es} fs d u) = derives→flat_walk d p _ ∙ unfit_refused u (p + entries_size es) fs
 
   -- one entry more in front of the first wrong one
@@ -122,7 +122,7 @@ module _ (T : Table) (unique : UniqueRules T) (p : ℕ) (g : List Goal) (es : Li
   )
 
   -- AND ITS REFUSALS: the walk is refused at q exactly where the first entry that does not apply is at q; there is no other cause.
-  pub flat_walk↔first_wrong : (q : ℕ) → (flat_walk T p g es ≡ refused entry_wrong q) ↔ FirstWrong (HasRule T) p g es q
+  pub flat_walk↔first_wrong : (q : ℕ) → (flat_walk T p g es ≡ refused EntryWrong q) ↔ FirstWrong (HasRule T) p g es q
   flat_walk↔first_wrong q = (
     flat_walk→first_wrong T (HasRule T) (rules_agree T unique) p g es,
     first_wrong→flat_walk T (HasRule T) (rules_agree T unique),
@@ -142,7 +142,7 @@ module _ (T : Table) (unique : UniqueRules T) (p : ℕ) (g : List Goal) (es : Li
       gives_refused (sym (derives→gives T (HasRule T) (rules_agree T unique) d p) ∙ first_wrong→flat_walk T (HasRule T) (rules_agree T unique) w)
 
 -- Every refusal of the walk over entries has the one cause.
-pub flat_walk_cause : (T : Table) (p : ℕ) (g : List Goal) (es : List Entry) {c : Cause} {q : ℕ} → flat_walk T p g es ≡ refused c q → c ≡ entry_wrong
+pub flat_walk_cause : (T : Table) (p : ℕ) (g : List Goal) (es : List Entry) {c : Cause} {q : ℕ} → flat_walk T p g es ≡ refused c q → c ≡ EntryWrong
 flat_walk_cause T p g es e =
     let w = flat_walk→first_wrong T (Finds T) (finds_agrees T) p g es e in
     refused_cause (sym e ∙ first_wrong→flat_walk T (Finds T) (finds_agrees T) w)

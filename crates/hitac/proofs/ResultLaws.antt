@@ -9,7 +9,7 @@ use mathlib.Core.List.{List, [], ◌∷◌}
 use lib.ListN.{length}
 use borrow.Author.Tests.{ltb-true, ltb-false}
 use Rattle.format.specs.declared.values.Goal.{Goal}
-use Rattle.format.specs.Refusals.{Cause, goal_count_wrong, joined_too_long}
+use Rattle.format.specs.Refusals.{Cause, GoalCountWrong, JoinedTooLong}
 use Rattle.format.specs.Results.{Result, gives, refused, and_then}
 use Rattle.tables.specs.Lookup.{FoundRule, found_rule}
 use Rattle.hitac.specs.Walk.{on_one_goal, on_no_goal, premises_or, too_long, joined}
@@ -87,13 +87,13 @@ one_goal_gives p next (γ ∷ []) e = (γ, refl, e)
 one_goal_gives p next (γ ∷ δ ∷ g) e = absurd (refused_gives e)
 
 pub one_goal_refused : (p : ℕ) (next : Goal → Result (List Goal)) (g : List Goal) {c : Cause} {q : ℕ} → on_one_goal p next g ≡ refused c q
-    → ((length g ≡ 1 → ⊥) × (goal_count_wrong ≡ c) × (p ≡ q)) ⊎ ((γ : Goal) × (g ≡ γ ∷ []) × (next γ ≡ refused c q))
+    → ((length g ≡ 1 → ⊥) × (GoalCountWrong ≡ c) × (p ≡ q)) ⊎ ((γ : Goal) × (g ≡ γ ∷ []) × (next γ ≡ refused c q))
 unfolding on_one_goal
 one_goal_refused p next [] e = inl ((λ z. omega arith), refused_cause e, refused_place e)
 one_goal_refused p next (γ ∷ []) e = inr (γ, refl, e)
 one_goal_refused p next (γ ∷ δ ∷ g) e = inl ((λ z. omega arith), refused_cause e, refused_place e)
 
-pub not_one_goal : (p : ℕ) (next : Goal → Result (List Goal)) (g : List Goal) → (length g ≡ 1 → ⊥) → on_one_goal p next g ≡ refused goal_count_wrong p
+pub not_one_goal : (p : ℕ) (next : Goal → Result (List Goal)) (g : List Goal) → (length g ≡ 1 → ⊥) → on_one_goal p next g ≡ refused GoalCountWrong p
 unfolding on_one_goal
 not_one_goal p next [] z = refl
 not_one_goal p next (γ ∷ []) z = absurd (z refl)
@@ -105,12 +105,12 @@ unfolding on_no_goal
 no_goal_gives p [] e = (refl, gives_gives e)
 no_goal_gives p (γ ∷ g) e = absurd (refused_gives e)
 
-pub no_goal_refused : (p : ℕ) (g : List Goal) {c : Cause} {q : ℕ} → on_no_goal p g ≡ refused c q → (0 < length g) × (goal_count_wrong ≡ c) × (p ≡ q)
+pub no_goal_refused : (p : ℕ) (g : List Goal) {c : Cause} {q : ℕ} → on_no_goal p g ≡ refused c q → (0 < length g) × (GoalCountWrong ≡ c) × (p ≡ q)
 unfolding on_no_goal
 no_goal_refused p [] e = absurd (gives_refused e)
 no_goal_refused p (γ ∷ g) e = (omega arith, refused_cause e, refused_place e)
 
-pub some_goal : (p : ℕ) (g : List Goal) → 0 < length g → on_no_goal p g ≡ refused goal_count_wrong p
+pub some_goal : (p : ℕ) (g : List Goal) → 0 < length g → on_no_goal p g ≡ refused GoalCountWrong p
 unfolding on_no_goal
 some_goal p [] z = absurd (omega arith)
 some_goal p (γ ∷ g) z = refl
@@ -128,23 +128,23 @@ pub joined-fits_lem : (p : ℕ) (g : List Goal) → length g ≤ 256 → joined 
 unfolding joined
 joined-fits_lem p g l = go (too_long g) (too_long_true g)
   where
-    go : (b : Bool) → (b ≡ true → 256 < length g) → cond b (refused joined_too_long p) (gives g) ≡ gives g
+    go : (b : Bool) → (b ≡ true → 256 < length g) → cond b (refused JoinedTooLong p) (gives g) ≡ gives g
     go true f = absurd (omega (arith, f refl))
     go false f = refl
 
-pub joined_over : (p : ℕ) (g : List Goal) → 256 < length g → joined p g ≡ refused joined_too_long p
+pub joined_over : (p : ℕ) (g : List Goal) → 256 < length g → joined p g ≡ refused JoinedTooLong p
 unfolding joined
 joined_over p g l = go (too_long g) (too_long_false g)
   where
-    go : (b : Bool) → (b ≡ false → length g ≤ 256) → cond b (refused joined_too_long p) (gives g) ≡ refused joined_too_long p
+    go : (b : Bool) → (b ≡ false → length g ≤ 256) → cond b (refused JoinedTooLong p) (gives g) ≡ refused JoinedTooLong p
     go true f = refl
     go false f = absurd (omega (arith, f refl))
 
 pub joined_gives : (p : ℕ) (g : List Goal) {h : List Goal} → joined p g ≡ gives h → (length g ≤ 256) × (g ≡ h)
 unfolding joined
-joined_gives p g e = let (b, f) = test_gives joined_too_long p (too_long g) e in (too_long_false g b, gives_gives f)
+joined_gives p g e = let (b, f) = test_gives JoinedTooLong p (too_long g) e in (too_long_false g b, gives_gives f)
 
-pub joined_refused : (p : ℕ) (g : List Goal) {c : Cause} {q : ℕ} → joined p g ≡ refused c q → (256 < length g) × (joined_too_long ≡ c) × (p ≡ q)
+pub joined_refused : (p : ℕ) (g : List Goal) {c : Cause} {q : ℕ} → joined p g ≡ refused c q → (256 < length g) × (JoinedTooLong ≡ c) × (p ≡ q)
 unfolding joined
 joined_refused p g e =
     ⊎_elim (λ x. (too_long_true g x.0, x.1, x.2)) (λ x. absurd (gives_refused x.1)) (test_refused (too_long g) e)

@@ -11,7 +11,7 @@ use lib.Seq.{drop_at, take-append_seam, drop-append_seam, take-take, drop-drop, 
 use borrow.Author.Tests.{ltb-false}
 use Rattle.format.specs.declared.values.Goal.{Goal}
 use Rattle.format.specs.Limits.{most_joined}
-use Rattle.format.specs.Refusals.{rule_missing, goal_count_wrong, goals_too_few, joined_too_long}
+use Rattle.format.specs.Refusals.{RuleMissing, GoalCountWrong, GoalsTooFew, JoinedTooLong}
 use Rattle.format.specs.Results.{Result, gives, refused, and_then}
 use Rattle.format.specs.Terms.{Term, atomic, id, label, sequence, tensor, empty, alternation, assert, defined, size}
 use Rattle.tables.specs.Tables.{Table}
@@ -34,20 +34,20 @@ settled I O (refused c p) = refused c p
 
 -- exactly one goal: the first of the inputs
 abbrev pub take_one_goal : (place : ℕ) → (count : ℕ) → List Goal → (Goal → List Goal → Result Stacks) → Result Stacks
-take_one_goal p zero I next = refused goal_count_wrong p
-take_one_goal p (suc zero) [] next = refused goal_count_wrong p
+take_one_goal p zero I next = refused GoalCountWrong p
+take_one_goal p (suc zero) [] next = refused GoalCountWrong p
 take_one_goal p (suc zero) (γ ∷ I) next = next γ I
-take_one_goal p (suc (suc k)) I next = refused goal_count_wrong p
+take_one_goal p (suc (suc k)) I next = refused GoalCountWrong p
 
 -- no goal
 abbrev pub take_no_goal : (place : ℕ) → (count : ℕ) → Result Stacks → Result Stacks
 take_no_goal p zero r = r
-take_no_goal p (suc k) r = refused goal_count_wrong p
+take_no_goal p (suc k) r = refused GoalCountWrong p
 
 -- The term at place p takes the first k of the inputs I and puts what it gives behind the outputs O.
 -- A sequence moves what its left term gave onto the inputs.
 unfoldable pub stacks : Table → Term → (place : ℕ) → (count : ℕ) → (inputs outputs : List Goal) → Result Stacks
-stacks T (atomic a) p k I O = take_one_goal p k I (λ γ J. settled J O (premises_or rule_missing p (find_rule T a γ)))
+stacks T (atomic a) p k I O = take_one_goal p k I (λ γ J. settled J O (premises_or RuleMissing p (find_rule T a γ)))
 stacks T id p k I O = take_one_goal p k I (λ γ J. held J (O ++ (γ ∷ [])))
 stacks T (label l s) p k I O = take_one_goal p k I (λ γ J. stacks T s (p + 5) 1 I O)
 stacks T (sequence s t) p k I O =
@@ -55,14 +55,14 @@ stacks T (sequence s t) p k I O =
     (λ x. stacks T t (p + 3 + size s) (length x.outputs - length O) (drop (length O) x.outputs ++ x.inputs) (take (length O) x.outputs))
 stacks T (tensor s t) p k I O =
     cond (ltb k (input_arity s))
-    (refused goals_too_few p)
+    (refused GoalsTooFew p)
     (and_then (stacks T s (p + 3) (input_arity s) I O)
     (λ x. and_then (stacks T t (p + 3 + size s) (k - input_arity s) x.inputs x.outputs)
-    (λ y. cond (ltb most_joined (length y.outputs - length O)) (refused joined_too_long p) (gives y))))
+    (λ y. cond (ltb most_joined (length y.outputs - length O)) (refused JoinedTooLong p) (gives y))))
 stacks T empty p k I O = take_no_goal p k (held I O)
-stacks T (alternation s t) p k I O = refused goal_count_wrong p
-stacks T (assert γ) p k I O = refused goal_count_wrong p
-stacks T (defined n) p k I O = refused goal_count_wrong p
+stacks T (alternation s t) p k I O = refused GoalCountWrong p
+stacks T (assert γ) p k I O = refused GoalCountWrong p
+stacks T (defined n) p k I O = refused GoalCountWrong p
 
 -- a term that takes exactly one goal
 one_goal_lem : (p k : ℕ) (I O : List Goal) (f : Goal → Result (List Goal)) (next : Goal → List Goal → Result Stacks) → k ≤ length I
@@ -82,11 +82,11 @@ unfolding and_then
 after-settled J P (gives h) f next K O e = e h
 after-settled J P (refused c p) f next K O e = refl
 
-settled-joined : (K O h : List Goal) (p : ℕ) → cond (ltb most_joined (length h)) (refused joined_too_long p) (held K (O ++ h)) ≡ settled K O (joined p h)
+settled-joined : (K O h : List Goal) (p : ℕ) → cond (ltb most_joined (length h)) (refused JoinedTooLong p) (held K (O ++ h)) ≡ settled K O (joined p h)
 unfolding joined too_long
 settled-joined K O h p = go (ltb most_joined (length h))
   where
-    go : (b : Bool) → cond b (refused joined_too_long p) (held K (O ++ h)) ≡ settled K O (cond b (refused joined_too_long p) (gives h))
+    go : (b : Bool) → cond b (refused JoinedTooLong p) (held K (O ++ h)) ≡ settled K O (cond b (refused JoinedTooLong p) (gives h))
     go true = refl
     go false = refl
 

@@ -14,7 +14,7 @@ use Rattle.format.specs.declared.values.RuleName.{RuleName}
 use Rattle.format.specs.declared.values.Goal.{Goal}
 use Rattle.format.specs.declared.values.Label.{Label}
 use Rattle.format.specs.Limits.{most_joined}
-use Rattle.format.specs.Refusals.{Cause, joined_too_long}
+use Rattle.format.specs.Refusals.{Cause, JoinedTooLong}
 use Rattle.format.specs.Results.{Result, gives, refused, and_then}
 use Rattle.format.specs.Terms.{Term, atomic, id, label, sequence, tensor, empty, alternation, assert, defined, size}
 use Rattle.tables.specs.Tables.{Table}
@@ -174,7 +174,7 @@ tensor_called : (T : Table) (s t : Term) (p k : ℕ) (I O : List Goal) {c : Caus
     → ((L M : List Goal) → stacks T t (p + 3 + size s) (k - input_arity s) L M ≡ refused c q → Called T t (p + 3 + size s) (k - input_arity s) L M q)
     → and_then (stacks T s (p + 3) (input_arity s) I O)
     (λ x. and_then (stacks T t (p + 3 + size s) (k - input_arity s) x.inputs x.outputs)
-    (λ y. cond (ltb most_joined (length y.outputs - length O)) (refused joined_too_long p) (gives y)))
+    (λ y. cond (ltb most_joined (length y.outputs - length O)) (refused JoinedTooLong p) (gives y)))
     ≡ refused c q
     → Called T (tensor s t) p k I O q
 tensor_called T s t p k I O a left right e =

@@ -10,7 +10,7 @@ use lib.ListN.{length, take, drop, take-append-drop}
 use lib.Seq.{length-take-le}
 use borrow.Author.Tests.{ltb-true, ltb-false, lt-ltb}
 use Rattle.format.specs.declared.values.Goal.{Goal}
-use Rattle.format.specs.Refusals.{Cause, number, rule_missing, goal_count_wrong, goals_too_few, joined_too_long}
+use Rattle.format.specs.Refusals.{Cause, number, RuleMissing, GoalCountWrong, GoalsTooFew, JoinedTooLong}
 use Rattle.format.specs.Results.{Result, gives, refused, and_then}
 use Rattle.format.specs.Terms.{Term, atomic, id, label, sequence, tensor, empty, alternation, assert, defined, size, Hiproof}
 use Rattle.tables.specs.Tables.{Table, HasRule, UniqueRules}
@@ -28,15 +28,15 @@ use Rattle.hitac.proofs.WalkValidates.{Agrees, rules_agree, no_rule→missing, m
 module _ (T : Table) (S : System) (agrees : Agrees T S) where
   pub stops→walk : {s : Term} {p : ℕ} {g : List Goal} {n q : ℕ} → Stops S s p g n q → (c : Cause) × (walk T s p g ≡ refused c q) × (number c ≡ n)
   unfolding walk on_one_goal number
-  stops→walk (S-Atomic-Goals {g = g} z) = (goal_count_wrong, not_one_goal _ _ g z, refl)
-  stops→walk (S-Atomic-Rule {a = a} {γ = γ} lacks) = (rule_missing, premises_missing _ _ (no_rule→missing T S agrees a γ lacks), refl)
-  stops→walk (S-Identity-Goals {g = g} z) = (goal_count_wrong, not_one_goal _ _ g z, refl)
-  stops→walk (S-Empty-Goals {g = g} z) = (goal_count_wrong, some_goal _ g z, refl)
-  stops→walk (S-Label-Goals {g = g} z) = (goal_count_wrong, not_one_goal _ _ g z, refl)
+  stops→walk (S-Atomic-Goals {g = g} z) = (GoalCountWrong, not_one_goal _ _ g z, refl)
+  stops→walk (S-Atomic-Rule {a = a} {γ = γ} lacks) = (RuleMissing, premises_missing _ _ (no_rule→missing T S agrees a γ lacks), refl)
+  stops→walk (S-Identity-Goals {g = g} z) = (GoalCountWrong, not_one_goal _ _ g z, refl)
+  stops→walk (S-Empty-Goals {g = g} z) = (GoalCountWrong, some_goal _ g z, refl)
+  stops→walk (S-Label-Goals {g = g} z) = (GoalCountWrong, not_one_goal _ _ g z, refl)
   stops→walk (S-Label-Inner x) = stops→walk x
   stops→walk (S-Sequence-Left x) = let (c, e, m) = stops→walk x in (c, and_then_stops _ e, m)
   stops→walk (S-Sequence-Right v x) = let (c, e, m) = stops→walk x in (c, and_then_passes _ (validates→walk T S agrees v _) ∙ e, m)
-  stops→walk (S-Tensor-Goals {s = s} {g = g} i l) = (goals_too_few, rw (lt-ltb (length g) (input_arity s) (omega (arith, arity_computed i))), refl)
+  stops→walk (S-Tensor-Goals {s = s} {g = g} i l) = (GoalsTooFew, rw (lt-ltb (length g) (input_arity s) (omega (arith, arity_computed i))), refl)
   stops→walk (S-Tensor-Left {s = s} {t = t} {p = p} {g₁ = g₁} g₂ i x) =
       let (c, e, m) = stops→walk x in
       (c, walk_tensor T s t p g₁ g₂ (sym (arity_computed i)) ∙ and_then_stops _ e, m)
@@ -44,7 +44,7 @@ module _ (T : Table) (S : System) (agrees : Agrees T S) where
       let (c, e, m) = stops→walk x in
       (c, walk_tensor T s t p g₁ g₂ (arity_of v) ∙ and_then_passes _ (validates→walk T S agrees v _) ∙ and_then_stops _ e, m)
   stops→walk (S-Tensor-Joined {s = s} {t = t} {p = p} {g₁ = g₁} {g₂ = g₂} {h₁ = h₁} {h₂ = h₂} v w l) = (
-    joined_too_long,
+    JoinedTooLong,
     walk_tensor T s t p g₁ g₂ (arity_of v)
         ∙ and_then_passes _ (validates→walk T S agrees v _)
         ∙ and_then_passes _ (validates→walk T S agrees w _)

@@ -13,7 +13,7 @@ use lib.Seq.{take_at, drop_at}
 use borrow.Author.Tests.{le-ltb}
 use Rattle.format.specs.declared.values.RuleName.{RuleName}
 use Rattle.format.specs.declared.values.Goal.{Goal}
-use Rattle.format.specs.Refusals.{goals_too_few}
+use Rattle.format.specs.Refusals.{GoalsTooFew}
 use Rattle.format.specs.Results.{gives, and_then}
 use Rattle.format.specs.Terms.{Term, atomic, id, label, sequence, tensor, empty, alternation, assert, defined, size}
 use Rattle.tables.specs.Tables.{Table, HasRule, UniqueRules}
@@ -93,7 +93,7 @@ module _ (T : Table) (S : System) (agrees : Agrees T S) where
       let (m, d, f) = and_then_gives _ e in
       V-Sequence {h = m} (walk→validates s _ g d) (walk→validates t _ m f)
   walk→validates (tensor s t) p g {h} e =
-      let (b, e₁) = test_gives goals_too_few p (ltb (length g) (input_arity s)) e in
+      let (b, e₁) = test_gives GoalsTooFew p (ltb (length g) (input_arity s)) e in
       let (h₁, d₁, e₂) = and_then_gives _ e₁ in
       let (h₂, d₂, e₃) = and_then_gives _ e₂ in
       subst

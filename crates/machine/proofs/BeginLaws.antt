@@ -13,7 +13,7 @@ use Rattle.format.specs.declared.values.Goal.{Goal}
 use Rattle.format.specs.declared.values.Label.{Label}
 use Rattle.format.specs.Goals.{goals_at}
 use Rattle.format.specs.Limits.{most_held}
-use Rattle.format.specs.Refusals.{fields_too_many}
+use Rattle.format.specs.Refusals.{FieldsTooMany}
 use Rattle.format.specs.Terms.{Term, id, label, sequence, empty, alternation, assert, size, fields}
 use Rattle.format.specs.Standing.{Head, Stands}
 use Rattle.tables.specs.Tables.{Table}
@@ -101,12 +101,12 @@ module _ (w : List ℕ) (s : State) (room : Room w s) where
 
   -- one field more cannot be held
   pub exceed_begins : (t : Term) (c : M.Place → List Goal → List M.Frame → Config)
-      → ((π : M.Place) (g : List Goal) (k : List M.Frame) → s.held ≡ held k → GoalsIs w s.arena s.start s.count g → c π g k ≡ done (ended fields_too_many) k)
+      → ((π : M.Place) (g : List Goal) (k : List M.Frame) → s.held ≡ held k → GoalsIs w s.arena s.start s.count g → c π g k ≡ done (ended FieldsTooMany) k)
       → (r : State) → r ≡ exceeded s → Begins w s w r t c
   unfolding Holds Ends
   exceed_begins t c e r q table job π g k h =
       subst (λ (y : Config). Holds table job w r y) (sym (e π g k h.held_is h.goals))
-      (subst (λ (x : State). Holds table job w x (done (ended fields_too_many) k)) (sym q) (record { limit = exceeds; lost = lose_holds 4 table job π t g k h }))
+      (subst (λ (x : State). Holds table job w x (done (ended FieldsTooMany) k)) (sym q) (record { limit = exceeds; lost = lose_holds 4 table job π t g k h }))
 
   -- what lies elsewhere than the output stays
   module _ (v : List ℕ) (n : ℕ) (only : Only s.out (s.out + n) w v) (small : n ≤ 5) where
@@ -189,7 +189,7 @@ module _ (w : List ℕ) (s : State) (room : Room w s) where
     gives_back fits π g k i h =
         by_same w s.start s.count f (λ o. done (finished (held k) p o) k) g h.are same ∙ ap (λ (x : Ending). done x k) (within-fits (held k) p g (omega (arith, one, fits, i)))
 
-    gives_much : most_held ≤ s.held → Finishes p (λ g k. ended fields_too_many)
+    gives_much : most_held ≤ s.held → Finishes p (λ g k. ended FieldsTooMany)
     gives_much full π g k i h =
         by_same w s.start s.count f (λ o. done (finished (held k) p o) k) g h.are same ∙ ap (λ (x : Ending). done x k) (within_over (held k) p g (omega (arith, one, full, i)))
 

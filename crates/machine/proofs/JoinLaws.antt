@@ -12,7 +12,7 @@ use Rattle.words.specs.Word.{put_word}
 use Rattle.words.proofs.WordLaws.{word_same}
 use Rattle.format.specs.declared.values.Goal.{Goal}
 use Rattle.format.specs.Limits.{most_held}
-use Rattle.format.specs.Refusals.{joined_too_long}
+use Rattle.format.specs.Refusals.{JoinedTooLong}
 use Rattle.format.specs.Terms.{Term, tensor, size, fields}
 use Rattle.format.specs.Standing.{Head, Stands}
 use Rattle.format.proofs.GoalsLaws.{length-goals_at}
@@ -111,8 +111,8 @@ module _ (w : List ℕ) (s : State) (wait : Waiting w s) (m : s.mode ≡ 1) (f :
       length-append i g ∙ ap₂ (λ (j k : ℕ). j + k) x y
 
   joined_or_not : (kept : ℕ) (q p : Term) (i g : List Goal) (t : Bool) → joined_fits (i ++ g) ≡ t
-      → beside_left kept q i (proved p g) ≡ cond t (within kept (tensor q p) (i ++ g)) (ended joined_too_long)
-  joined_or_not kept q p i g t h = ap (λ (b : Bool). cond b (within kept (tensor q p) (i ++ g)) (ended joined_too_long)) h
+      → beside_left kept q i (proved p g) ≡ cond t (within kept (tensor q p) (i ++ g)) (ended JoinedTooLong)
+  joined_or_not kept q p i g t h = ap (λ (b : Bool). cond b (within kept (tensor q p) (i ++ g)) (ended JoinedTooLong)) h
 
   -- too many goals
   pub overflow_end : (r : State) → 256 < f.count + s.count → r ≡ ended_by 3 s → Popped w s w r × Smaller w s w r

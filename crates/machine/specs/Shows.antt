@@ -3,7 +3,7 @@ use Rattle.std.specs.Prelude.{ℕ, ◌+◌, ◌*◌, ◌≤◌, ◌≡◌, List,
 use Rattle.words.specs.Word.{word}
 use Rattle.format.specs.declared.values.Goal.{Goal}
 use Rattle.format.specs.Limits.{most_held}
-use Rattle.format.specs.Refusals.{Cause, joined_too_long, fields_too_many}
+use Rattle.format.specs.Refusals.{Cause, JoinedTooLong, FieldsTooMany}
 use Rattle.format.specs.Goals.{goals_at}
 use Rattle.format.specs.Terms.{Term, size, fields}
 use Rattle.format.specs.Standing.{Stands}
@@ -95,8 +95,8 @@ pub record Lost (mode : ℕ) (table job w : List ℕ) (s : State) (k : List M.Fr
 
 -- how a state stands that a limit ended: a joined list too long (22), or more fields than may be held (40)
 pub data LimitMode : (mode : ℕ) → Cause → Type 0 where
-  overflows : LimitMode 3 joined_too_long
-  exceeds : LimitMode 4 fields_too_many
+  overflows : LimitMode 3 JoinedTooLong
+  exceeds : LimitMode 4 FieldsTooMany
 
 pub record Limited (table job w : List ℕ) (s : State) (c : Cause) (k : List M.Frame) : Type 0 where
   pub limit : LimitMode s.mode c

@@ -15,7 +15,7 @@ use Rattle.words.proofs.WordLaws.{word_same}
 use Rattle.words.proofs.KeptLaws.{kept_put, kept_same, kept_both}
 use Rattle.format.specs.declared.values.RuleName.{RuleName}
 use Rattle.format.specs.declared.values.Goal.{Goal}
-use Rattle.format.specs.Refusals.{number, rule_missing, goal_count_wrong}
+use Rattle.format.specs.Refusals.{number, RuleMissing, GoalCountWrong}
 use Rattle.format.specs.Results.{Result, gives, refused}
 use Rattle.format.specs.Values.{rule_name, goal}
 use Rattle.format.specs.Terms.{Term, atomic, id, label, sequence, tensor, empty, alternation, assert, defined}
@@ -44,13 +44,13 @@ use Rattle.nodes.proofs.CellLaws.{goal_in, length_cells, cell_of, cells_above, l
 
 -- ---- another number of nodes
 
-not_one : (p : ℕ) (next : ℕ → Result (Out Cell)) (ns : List ℕ) → (length ns ≡ 1 → ⊥) → on_one_value p next ns ≡ refused goal_count_wrong p
+not_one : (p : ℕ) (next : ℕ → Result (Out Cell)) (ns : List ℕ) → (length ns ≡ 1 → ⊥) → on_one_value p next ns ≡ refused GoalCountWrong p
 unfolding on_one_value
 not_one p next [] z = refl
 not_one p next (n ∷ []) z = absurd (z refl)
 not_one p next (n ∷ m ∷ ns) z = refl
 
-some_node : (p : ℕ) (A : List Cell) (ns : List ℕ) → (length ns ≡ 0 → ⊥) → on_no_node p A ns ≡ refused goal_count_wrong p
+some_node : (p : ℕ) (A : List Cell) (ns : List ℕ) → (length ns ≡ 0 → ⊥) → on_no_node p A ns ≡ refused GoalCountWrong p
 unfolding on_no_node
 some_node p A [] z = absurd (z refl)
 some_node p A (n ∷ ns) z = refl
@@ -58,15 +58,15 @@ some_node p A (n ∷ ns) z = refl
 module _ (T : Table) (at : ℕ) (w : List ℕ) (n : Next) (next : ℕ) where
   pub atomic_count : (a : RuleName) → (n.count ≡ 1 → ⊥) → Takes T (atomic a) at w w w n next (A.Refused 34)
   unfolding Takes node_act number
-  atomic_count a z = (goal_count_wrong, refl, not_one at _ (values_at w n.top n.count) (λ e. z (sym (length_values w n.top n.count) ∙ e)), refl)
+  atomic_count a z = (GoalCountWrong, refl, not_one at _ (values_at w n.top n.count) (λ e. z (sym (length_values w n.top n.count) ∙ e)), refl)
 
   pub id_count : (n.count ≡ 1 → ⊥) → Takes T id at w w w n next (A.Refused 34)
   unfolding Takes node_act number
-  id_count z = (goal_count_wrong, refl, not_one at _ (values_at w n.top n.count) (λ e. z (sym (length_values w n.top n.count) ∙ e)), refl)
+  id_count z = (GoalCountWrong, refl, not_one at _ (values_at w n.top n.count) (λ e. z (sym (length_values w n.top n.count) ∙ e)), refl)
 
   pub empty_count : (n.count ≡ 0 → ⊥) → Takes T empty at w w w n next (A.Refused 34)
   unfolding Takes node_act number
-  empty_count z = (goal_count_wrong, refl, some_node at _ (values_at w n.top n.count) (λ e. z (sym (length_values w n.top n.count) ∙ e)), refl)
+  empty_count z = (GoalCountWrong, refl, some_node at _ (values_at w n.top n.count) (λ e. z (sym (length_values w n.top n.count) ∙ e)), refl)
 
 -- ---- an atomic
 
@@ -111,7 +111,7 @@ module _ (T : Table) (a : RuleName) (at : ℕ) (w : List ℕ) (n : Next) (next :
 
     pub atomic_missing : find_rule T a goal_here ≡ none → Takes T (atomic a) at w w w n next (A.Refused 20)
     unfolding Takes use_found number
-    atomic_missing e = (rule_missing, refl, looked_up_lem ∙ ap (use_found a at A₀ node) e, refl)
+    atomic_missing e = (RuleMissing, refl, looked_up_lem ∙ ap (use_found a at A₀ node) e, refl)
 
     module _ (number : ℕ) (h : List Goal) (found : find_rule T a goal_here ≡ some (found_rule number h)) (few : length h ≤ 8) (room : LeafRoom w n 1) where
       abbrev k : ℕ
@@ -208,9 +208,9 @@ module _ (T : Table) (at : ℕ) (w : List ℕ) (n : Next) (next : ℕ) (s : List
   other_refused a b c l (sequence t u) st = absurd (l.1 (known s at (sequence t u) st).tag_is)
   other_refused a b c l (tensor t u) st = absurd (l.2 (known s at (tensor t u) st).tag_is)
   other_refused a b c l empty st = absurd (c (known s at empty st).tag_is)
-  other_refused a b c l (alternation t u) st = (goal_count_wrong, refl, refl, refl)
-  other_refused a b c l (assert γ) st = (goal_count_wrong, refl, refl, refl)
-  other_refused a b c l (defined x) st = (goal_count_wrong, refl, refl, refl)
+  other_refused a b c l (alternation t u) st = (GoalCountWrong, refl, refl, refl)
+  other_refused a b c l (assert γ) st = (GoalCountWrong, refl, refl, refl)
+  other_refused a b c l (defined x) st = (GoalCountWrong, refl, refl, refl)
 
   -- an atomic by the name that stands in the file
   abbrev named : RuleName

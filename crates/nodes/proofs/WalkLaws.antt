@@ -7,7 +7,7 @@ use native.Mathlib.Omega.{arith}
 use lib.ListN.{length}
 use Rattle.words.specs.Kept.{Kept}
 use Rattle.format.specs.Limits.{most_bytes}
-use Rattle.format.specs.Refusals.{number, input_too_long}
+use Rattle.format.specs.Refusals.{number, InputTooLong}
 use Rattle.format.specs.Results.{gives}
 use Rattle.format.specs.Terms.{Term, atomic, id, label, sequence, tensor, empty, alternation, assert, defined, size}
 use Rattle.format.specs.Standing.{Stands}
@@ -85,7 +85,7 @@ module _ (T : Table) (x : Aim Cell) (table : List ℕ) (first : ℕ) (s w : List
       pub leaf-fits : Fitting T b.0 at w n next
       unfolding Turned number
       leaf-fits e =
-          let z = leaf_refused (node_act T) x A₀ s w (placed n at) b l input_too_long 1 at refl leaf_inside e w at in
+          let z = leaf_refused (node_act T) x A₀ s w (placed n at) b l InputTooLong 1 at refl leaf_inside e w at in
           omega (arith, k.sound z.0 at z.2, z.1)
 
       pub refused_goes : (v w' : List ℕ) (k : ℕ) → Takes T b.0 at w v w' n next (A.Refused k) → Goes T x s w w' (at + 1) (record { turn = U.Refused k at; next = next })

@@ -2,7 +2,7 @@
 use Rattle.std.specs.Prelude.{ℕ, ◌+◌, ◌*◌, ◌≤◌, ◌<◌, ◌≡◌, List, length}
 use Rattle.words.specs.Word.{word}
 use Rattle.words.specs.Kept.{Kept}
-use Rattle.format.specs.Refusals.{Cause, number, input_too_long}
+use Rattle.format.specs.Refusals.{Cause, number, InputTooLong}
 use Rattle.format.specs.Results.{Result, refused}
 use Rattle.format.specs.Terms.{Term}
 use Rattle.tables.specs.Tables.{Table}
@@ -34,7 +34,7 @@ act_in T t at w n next = node_act T t at (cells_of w next) (values_at w n.top n.
 
 -- the walk does not end for want of a node or of room
 abbrev pub Fitting : Table → Term → (at : ℕ) → List ℕ → Next → (next : ℕ) → Type 0
-Fitting T t at w n next = act_in T t at w n next ≡ refused input_too_long at → ⊥
+Fitting T t at w n next = act_in T t at w n next ≡ refused InputTooLong at → ⊥
 
 -- what holds where cells were written before the stacks were
 abbrev pub Through : List ℕ → (List ℕ → Type 0) → Type 0

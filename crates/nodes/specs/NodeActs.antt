@@ -2,7 +2,7 @@
 use Rattle.std.specs.Prelude.{ℕ, ◌+◌, Bool, cond, ◌&&◌, List, [], ◌∷◌, ltb, length}
 use Rattle.std.proofs.Math.Option.{Option, none, some}
 use Rattle.format.specs.declared.values.RuleName.{RuleName}
-use Rattle.format.specs.Refusals.{rule_missing, goal_count_wrong, input_too_long}
+use Rattle.format.specs.Refusals.{RuleMissing, GoalCountWrong, InputTooLong}
 use Rattle.format.specs.Results.{Result, gives, refused}
 use Rattle.format.specs.Terms.{atomic, id, label, sequence, tensor, empty, alternation, assert, defined}
 use Rattle.tables.specs.Tables.{Table}
@@ -16,7 +16,7 @@ out_of x = out x.cells x.nodes
 
 -- the node becomes a use of the rule that was found
 unfoldable pub use_found : RuleName → (place : ℕ) → List Cell → (node : ℕ) → Option FoundRule → Result (Out Cell)
-use_found a p A n none = refused rule_missing p
+use_found a p A n none = refused RuleMissing p
 use_found a p A n (some r) = gives (out_of (mark_use a A n (goal_of (cell_at A n)) r.premises))
 
 -- the node is there, and there is room for eight more
@@ -25,20 +25,20 @@ fits A n = ltb n (length A) && ltb (length A + 7) most_nodes
 
 -- No walk comes to a node that does not fit: a cause that no term has says so.
 unfoldable pub use_node : Table → RuleName → (place : ℕ) → List Cell → (node : ℕ) → Result (Out Cell)
-use_node T a p A n = cond (fits A n) (use_found a p A n (find_rule T a (goal_of (cell_at A n)))) (refused input_too_long p)
+use_node T a p A n = cond (fits A n) (use_found a p A n (find_rule T a (goal_of (cell_at A n)))) (refused InputTooLong p)
 
 unfoldable pub on_no_node : (place : ℕ) → List Cell → List ℕ → Result (Out Cell)
 on_no_node p A [] = gives (out A [])
-on_no_node p A (n ∷ ns) = refused goal_count_wrong p
+on_no_node p A (n ∷ ns) = refused GoalCountWrong p
 
 -- Labels, sequences and tensors are taken apart before; the last three forms stand in no hiproof.
 unfoldable pub node_act : Table → Act Cell
 node_act T (atomic a) p A ns = on_one_value p (use_node T a p A) ns
 node_act T id p A ns = on_one_value p (λ n. gives (out A (n ∷ []))) ns
-node_act T (label l s) p A ns = refused goal_count_wrong p
-node_act T (sequence s t) p A ns = refused goal_count_wrong p
-node_act T (tensor s t) p A ns = refused goal_count_wrong p
+node_act T (label l s) p A ns = refused GoalCountWrong p
+node_act T (sequence s t) p A ns = refused GoalCountWrong p
+node_act T (tensor s t) p A ns = refused GoalCountWrong p
 node_act T empty p A ns = on_no_node p A ns
-node_act T (alternation s t) p A ns = refused goal_count_wrong p
-node_act T (assert γ) p A ns = refused goal_count_wrong p
-node_act T (defined n) p A ns = refused goal_count_wrong p
+node_act T (alternation s t) p A ns = refused GoalCountWrong p
+node_act T (assert γ) p A ns = refused GoalCountWrong p
+node_act T (defined n) p A ns = refused GoalCountWrong p

@@ -9,7 +9,7 @@ use lib.Dec.{leb, ltb, eqb}
 use lib.ListN.{length}
 use borrow.Author.Tests.{ltb-true, ltb-false, leb-true, leb-false, eqb-true, eqb-false}
 use Rattle.format.specs.Limits.{most_term_fields}
-use Rattle.format.specs.Refusals.{Cause, limit_passed, text_wrong, value_too_large}
+use Rattle.format.specs.Refusals.{Cause, LimitPassed, TextWrong, ValueTooLarge}
 use Rattle.format.specs.Results.{Result, gives, refused, and_then}
 use Rattle.format.specs.Terms.{fields, size}
 use Rattle.notation.specs.Scans.{Mode}
@@ -154,9 +154,9 @@ stands_viable M.half_empty k n f z p w = inside_viable (62 ∷ []) w nothing (pa
 
 -- a refusal at the byte behind p, or at the end
 pub data Refusal (text p : List ℕ) : Cause → ℕ → Type 0 where
-  is_wrong : Refusal text p text_wrong (length p)
-  is_large : {x : ℕ} → Large text x → Refusal text p value_too_large x
-  is_full : {x : ℕ} → Full text x → Refusal text p limit_passed x
+  is_wrong : Refusal text p TextWrong (length p)
+  is_large : {x : ℕ} → Large text x → Refusal text p ValueTooLarge x
+  is_full : {x : ℕ} → Full text x → Refusal text p LimitPassed x
 
 abbrev pub StepOk : (text p : List ℕ) (b : ℕ) → Result Scan → Type 0
 StepOk text p b (gives τ) = Stands τ (p ++ (b ∷ []))
@@ -198,7 +198,7 @@ numbered_of b e = test_of (eqb b 97) true _ (λ h. (rulish, eqb-true b 97 h)) (�
 -- a mark is complete: 5, or whole marks
 complete_ok : (text : List ℕ) (P : Result Scan → Type 0) {before w : List ℕ} {d d' : Bool} {n f z : ℕ} {m : Mark} (rest : List ℕ) (md : Mode) (k place : ℕ) (bytes : ℕ)
     → text ≡ before ++ (w ++ rest) → Whole before d n f z → Spells m w → FieldAt d m → MarkValue m → LastOf m rest → Passes d n (m ∷ []) d' n → place ≡ length before → mark_size m ≡ bytes
-    → (Whole (before ++ w) d' n (f + 1) (z + bytes) → P (gives (scanned (mode_of d') k n (f + 1) (z + bytes)))) → (Full text place → P (refused limit_passed place))
+    → (Whole (before ++ w) d' n (f + 1) (z + bytes) → P (gives (scanned (mode_of d') k n (f + 1) (z + bytes)))) → (Full text place → P (refused LimitPassed place))
     → P (completes (mode_of d') place bytes (scanned md k n f z))
 unfolding completes
 complete_ok text P {before} {w} {d} {d'} {n} {f} {z} {m} rest md k place bytes is wh sp fa v la fl pl sz yes-ok no_Ok =
@@ -265,7 +265,7 @@ leaf_ends_ok text p r is nd Q next c k n f z w no_Ok yes-ok =
     let i = w.inside in
     let here = i.mark in
     branch (λ x. Q (and_then x next)) (ltb most_value c) _ _
-    (λ e. no_Ok value_too_large (k + 1) (is_large (record {
+    (λ e. no_Ok ValueTooLarge (k + 1) (is_large (record {
       before = i.before;
       kind = kind_of w.kind;
       digits = w.digits;
@@ -283,7 +283,7 @@ leaf_ends_ok text p r is nd Q next c k n f z w no_Ok yes-ok =
     (λ e. let same : c ≡ w.value = w.kept.same (ltb-false most_value c e) in
     complete_ok text (λ x. Q (and_then x next)) r (M.in_digits c) k k 5 (split_is r is i) i.whole (valued_spells w.kind w.numbered) a_leaf (valued_value w.kind w.value (omega (arith, ltb-false most_value c e))) (valued_last w.kind w.value r nd) (past_leaf rests) here (valued_size w.kind w.value)
     (λ x. yes-ok (subst (λ (l : List ℕ). Whole l false n (f + 1) (z + 5)) (sym i.is) x))
-    (λ x. no_Ok limit_passed k (is_full x)))
+    (λ x. no_Ok LimitPassed k (is_full x)))
 
 module _ (text p : List ℕ) (b : ℕ) (s : List ℕ) (is : text ≡ p ++ (b ∷ s)) where
   refusal_ok : (x : Cause) (y : ℕ) → Refusal text p x y → StepOk text p b (refused x y)
@@ -333,7 +333,7 @@ module _ (text p : List ℕ) (b : ℕ) (s : List ℕ) (is : text ≡ p ++ (b ∷
 
   -- a mark of two bytes
   half_ok : (h c : ℕ) (w : Leaf) (md : Mode) (k n f z : ℕ) → Spells (leaf w) (h ∷ c ∷ []) → MarkValue (leaf w) → LastOf (leaf w) s → mark_size (leaf w) ≡ 3 → Inside (h ∷ []) p k n f z
-      → StepOk text p b (cond (eqb b c) (completes M.had k 3 (scanned md k n f z)) (refused text_wrong (length p)))
+      → StepOk text p b (cond (eqb b c) (completes M.had k 3 (scanned md k n f z)) (refused TextWrong (length p)))
   half_ok h c w md k n f z sp v la sz i =
       branch (StepOk text p b) (eqb b c) _ _
       (λ e. complete_ok text (StepOk text p b) s md k k 3 (split_is (b ∷ s) is i ∙ ap (λ (x : ℕ). i.before ++ (h ∷ x ∷ s)) (eqb-true b c e)) i.whole sp a_leaf v la (past_leaf rests) i.mark sz

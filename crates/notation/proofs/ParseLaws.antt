@@ -11,7 +11,7 @@ use lib.ListN.{length, length-append}
 use borrow.Author.Tests.{ltb-true, ltb-false, lt-ltb, le-ltb}
 use Rattle.format.specs.Inputs.{of_size}
 use Rattle.format.specs.Limits.{most_bytes, most_term_fields}
-use Rattle.format.specs.Refusals.{Cause, input_too_long, limit_passed, text_wrong, value_too_large}
+use Rattle.format.specs.Refusals.{Cause, InputTooLong, LimitPassed, TextWrong, ValueTooLarge}
 use Rattle.format.specs.Results.{Result, gives, refused, and_then}
 use Rattle.format.specs.Terms.{Term, fields}
 use Rattle.format.specs.Encoding.{TermValues}
@@ -64,21 +64,21 @@ wrong_unread {text} {p} {t} x r = go x.rest refl
     go (b ∷ s) e = x.no_more b s e (record { more = s; term = t; reads = subst (λ (l : List ℕ). ReadsAs l t) (x.is ∙ ap (λ (l : List ℕ). x.before ++ l) e ∙ sym (append_assoc x.before (b ∷ []) s)) r })
 
 -- 36, where neither 37 nor 5 is met before
-pub wrong_scan : {text : List ℕ} {p : ℕ} → Wrong text p → ((q : ℕ) → Large text q → ⊥) → ((q : ℕ) → Full text q → ⊥) → scan start 0 text ≡ refused text_wrong p
+pub wrong_scan : {text : List ℕ} {p : ℕ} → Wrong text p → ((q : ℕ) → Large text q → ⊥) → ((q : ℕ) → Full text q → ⊥) → scan start 0 text ≡ refused TextWrong p
 wrong_scan {text} {p} x no-large no-full = go (scan start 0 text) refl (text_told text)
   where
-    by : {c : Cause} {q : ℕ} → Verdict text c q → ◌≡◌ {A = Result Scan} (refused c q) (refused text_wrong p)
-    by (wrong {x = q} w) = ap (refused text_wrong) (one_place w x)
+    by : {c : Cause} {q : ℕ} → Verdict text c q → ◌≡◌ {A = Result Scan} (refused c q) (refused TextWrong p)
+    by (wrong {x = q} w) = ap (refused TextWrong) (one_place w x)
     by (over {x = q} l) = absurd (no-large q l)
     by (fulls {x = q} l) = absurd (no-full q l)
 
-    go : (y : Result Scan) → scan start 0 text ≡ y → Told text y → y ≡ refused text_wrong p
+    go : (y : Result Scan) → scan start 0 text ≡ y → Told text y → y ≡ refused TextWrong p
     go (gives σ) e f = absurd (wrong_unread x f.fits.reads)
     go (refused c q) e v = by v
 
 -- the reading of a text of at most 65,535 bytes
 sized : {A : Type 0} (s : List ℕ) (x : Result A) → length s ≤ most_bytes → of_size s x ≡ x
-sized {A} s x h = ap (λ (c : Bool). cond {A = Result A} c (refused input_too_long 0) x) (le-ltb most_bytes (length s) h)
+sized {A} s x h = ap (λ (c : Bool). cond {A = Result A} c (refused InputTooLong 0) x) (le-ltb most_bytes (length s) h)
 
 -- 0 with t, exactly if the text reads as t and t is within the limits
 pub reads_text_lem : (s : List ℕ) (t : Term) → length s ≤ most_bytes → ReadsAs s t → TermValues t → fields t ≤ most_term_fields → parse s ≡ gives t
@@ -99,20 +99,20 @@ text_reads s t e = size_go (ltb most_bytes (length s)) refl e
     go (gives σ) x q = let f = x.fits in subst (λ (u : Term). ReadsAs s u × TermValues u × (fields u ≤ most_term_fields)) (found f (term_of (state_of (marks_in s))) refl q) (f.reads, f.values, f.few)
     go (refused c p) x q = let z : ◌≡◌ {A = ℕ} 0 1 = cc in absurd (omega arith)
 
-    size_go : (c : Bool) → ltb most_bytes (length s) ≡ c → cond c (refused input_too_long 0) (and_then (scan start 0 s) (λ σ. term_found (length s) (term_of (state_of (marks_in s))))) ≡ gives t → (length s ≤ most_bytes) × ReadsAs s t × TermValues t × (fields t ≤ most_term_fields)
+    size_go : (c : Bool) → ltb most_bytes (length s) ≡ c → cond c (refused InputTooLong 0) (and_then (scan start 0 s) (λ σ. term_found (length s) (term_of (state_of (marks_in s))))) ≡ gives t → (length s ≤ most_bytes) × ReadsAs s t × TermValues t × (fields t ≤ most_term_fields)
     size_go true h q = let z : ◌≡◌ {A = ℕ} 0 1 = cc in absurd (omega arith)
     size_go false h q = let x = go (scan start 0 s) (text_told s) q in (ltb-false most_bytes (length s) h, x.0, x.1, x.2)
 
 -- 36, 37 and 5 of the reading: exactly where they are met
-pub reads_large : (s : List ℕ) (p : ℕ) → length s ≤ most_bytes → Large s p → parse s ≡ refused value_too_large p
+pub reads_large : (s : List ℕ) (p : ℕ) → length s ≤ most_bytes → Large s p → parse s ≡ refused ValueTooLarge p
 unfolding parse and_then
 reads_large s p h x = sized s _ h ∙ ap (λ (y : Result Scan). and_then y (λ σ. term_found (length s) (term_of (state_of (marks_in s))))) (large_scan x)
 
-pub reads_full : (s : List ℕ) (p : ℕ) → length s ≤ most_bytes → Full s p → parse s ≡ refused limit_passed p
+pub reads_full : (s : List ℕ) (p : ℕ) → length s ≤ most_bytes → Full s p → parse s ≡ refused LimitPassed p
 unfolding parse and_then
 reads_full s p h x = sized s _ h ∙ ap (λ (y : Result Scan). and_then y (λ σ. term_found (length s) (term_of (state_of (marks_in s))))) (full_scan x)
 
-pub reads_wrong : (s : List ℕ) (p : ℕ) → length s ≤ most_bytes → Wrong s p → ((q : ℕ) → Large s q → ⊥) → ((q : ℕ) → Full s q → ⊥) → parse s ≡ refused text_wrong p
+pub reads_wrong : (s : List ℕ) (p : ℕ) → length s ≤ most_bytes → Wrong s p → ((q : ℕ) → Large s q → ⊥) → ((q : ℕ) → Full s q → ⊥) → parse s ≡ refused TextWrong p
 unfolding parse and_then
 reads_wrong s p h x a b = sized s _ h ∙ ap (λ (y : Result Scan). and_then y (λ σ. term_found (length s) (term_of (state_of (marks_in s))))) (wrong_scan x a b)
 
@@ -128,7 +128,7 @@ text_refused s c p h e = go (scan start 0 s) (text_told s) (sym (sized s _ h) �
     go (refused a i) x q = same q x
 
 -- a text that is too long
-pub too_long : (s : List ℕ) → most_bytes < length s → parse s ≡ refused input_too_long 0
+pub too_long : (s : List ℕ) → most_bytes < length s → parse s ≡ refused InputTooLong 0
 unfolding parse
 too_long s h = rw (lt-ltb most_bytes (length s) h)
 

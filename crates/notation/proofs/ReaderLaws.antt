@@ -7,7 +7,7 @@ use Prim.Native.Nat.{ℕ, ◌+◌, ◌<◌}
 use native.Mathlib.Omega.{arith}
 use lib.ListN.{length, length-append}
 use Rattle.format.specs.Limits.{most_term_fields}
-use Rattle.format.specs.Refusals.{Cause, limit_passed, text_wrong, value_too_large}
+use Rattle.format.specs.Refusals.{Cause, LimitPassed, TextWrong, ValueTooLarge}
 use Rattle.format.specs.Results.{Result, gives, refused, and_then}
 use Rattle.notation.specs.Scans as M
 use Rattle.notation.specs.Scans.{Scan}
@@ -24,9 +24,9 @@ use Rattle.notation.proofs.MeetLaws.{Stands, stands_viable, Refusal, is_wrong, i
 
 -- what is met
 pub data Verdict (text : List ℕ) : Cause → ℕ → Type 0 where
-  wrong : {x : ℕ} → Wrong text x → Verdict text text_wrong x
-  over : {x : ℕ} → Large text x → Verdict text value_too_large x
-  fulls : {x : ℕ} → Full text x → Verdict text limit_passed x
+  wrong : {x : ℕ} → Wrong text x → Verdict text TextWrong x
+  over : {x : ℕ} → Large text x → Verdict text ValueTooLarge x
+  fulls : {x : ℕ} → Full text x → Verdict text LimitPassed x
 
 abbrev pub Told : (text : List ℕ) → Result Scan → Type 0
 Told text (gives τ) = FitsIn text τ.fields τ.size
@@ -119,7 +119,7 @@ head_start of_goal s = refl
 head_start of_tactic s = refl
 head_start of_label s = refl
 
-over_scan : (κ : Numbered) (k d f z at v : ℕ) (ds r : List ℕ) → Rattle.notation.specs.Marks.Number ds v → most_value < v → NoDigit r → scan (scanned M.due k d f z) at (head_of κ ∷ (ds ++ r)) ≡ refused value_too_large (at + 1)
+over_scan : (κ : Numbered) (k d f z at v : ℕ) (ds r : List ℕ) → Rattle.notation.specs.Marks.Number ds v → most_value < v → NoDigit r → scan (scanned M.due k d f z) at (head_of κ ∷ (ds ++ r)) ≡ refused ValueTooLarge (at + 1)
 unfolding scan step step_in on_begun on_label_begun on_half on_due begins_numbered and_then
 over_scan of_rule k d f z at v ds r p h nd = let x = number-scan p at d f z (at + 1) r in x.2 ∙ digits_over x.0 at d f z (at + 1 + length ds) r nd (kept_under v x.0 x.1 h)
 over_scan of_goal k d f z at v ds r p h nd = let x = number-scan p at d f z (at + 1) r in x.2 ∙ digits_over x.0 at d f z (at + 1 + length ds) r nd (kept_under v x.0 x.1 h)
@@ -127,24 +127,24 @@ over_scan of_tactic k d f z at v ds r p h nd = let x = number-scan p at d f z (a
 over_scan of_label k d f z at v ds r p h nd = let x = label_number-scan p at d f z (at + 1) r in x.2 ∙ label_over x.0 at d f z (at + 1 + length ds) r nd (kept_under v x.0 x.1 h)
 
 -- 37, where it is met first
-pub large_scan : {text : List ℕ} {p : ℕ} → Large text p → scan start 0 text ≡ refused value_too_large p
+pub large_scan : {text : List ℕ} {p : ℕ} → Large text p → scan start 0 text ≡ refused ValueTooLarge p
 large_scan {text} {p} x =
     let c = unrefused_scan x.unrefused (head_of x.kind ∷ (x.digits ++ x.rest)) (head_start x.kind (x.digits ++ x.rest)) in
-    ap (scan start 0) x.is ∙ c.2 ∙ over_scan x.kind c.0 x.unrefused.depth x.count c.1 (length x.before) x.value x.digits x.rest x.numbered x.over x.last ∙ ap (refused value_too_large) (sym x.place)
+    ap (scan start 0) x.is ∙ c.2 ∙ over_scan x.kind c.0 x.unrefused.depth x.count c.1 (length x.before) x.value x.digits x.rest x.numbered x.over x.last ∙ ap (refused ValueTooLarge) (sym x.place)
 
-passed_full : {m : Mark} {at : ℕ} {x : Result Scan} {next : ℕ → Result Scan} → Rattle.notation.specs.Passing.MarkValue m → mark_fields m ≡ 1 → Passed m most_term_fields at x next → x ≡ refused limit_passed at
+passed_full : {m : Mark} {at : ℕ} {x : Result Scan} {next : ℕ → Result Scan} → Rattle.notation.specs.Passing.MarkValue m → mark_fields m ≡ 1 → Passed m most_term_fields at x next → x ≡ refused LimitPassed at
 passed_full v one (passes k e few) = absurd (let h : most_term_fields < most_term_fields = few (omega arith) in omega arith)
 passed_full v one (too_large e no_value) = absurd (no_value v)
 passed_full v one (too_many e h) = e
 
-full_at : {d : Bool} {m : Mark} {w : List ℕ} → FieldAt d m → Spells m w → Rattle.notation.specs.Passing.MarkValue m → (r : List ℕ) → LastOf m r → (k n z at : ℕ) → scan (scanned (mode_of d) k n most_term_fields z) at (w ++ r) ≡ refused limit_passed at
+full_at : {d : Bool} {m : Mark} {w : List ℕ} → FieldAt d m → Spells m w → Rattle.notation.specs.Passing.MarkValue m → (r : List ℕ) → LastOf m r → (k n z at : ℕ) → scan (scanned (mode_of d) k n most_term_fields z) at (w ++ r) ≡ refused LimitPassed at
 unfolding mark_fields
 full_at a_leaf sp v r la k n z at = passed_full v refl (leaf-scan sp k n most_term_fields z at r la)
 full_at a_label sp v r la k n z at = passed_full v refl (label_scan sp k n most_term_fields z at r)
 full_at a_sign sp v r la k n z at = passed_full v refl (sign_scan sp k n most_term_fields z at r)
 
 -- 5, where it is met first
-pub full_scan : {text : List ℕ} {p : ℕ} → Full text p → scan start 0 text ≡ refused limit_passed p
+pub full_scan : {text : List ℕ} {p : ℕ} → Full text p → scan start 0 text ≡ refused LimitPassed p
 full_scan {text} {p} x =
     let c = unrefused_scan x.unrefused (x.bytes ++ x.rest) (spells_start x.spells x.rest) in
-    ap (scan start 0) x.is ∙ c.2 ∙ full_at x.field x.spells x.value x.rest x.last c.0 x.unrefused.depth c.1 (length x.before) ∙ ap (refused limit_passed) (sym x.place)
+    ap (scan start 0) x.is ∙ c.2 ∙ full_at x.field x.spells x.value x.rest x.last c.0 x.unrefused.depth c.1 (length x.before) ∙ ap (refused LimitPassed) (sym x.place)

@@ -9,7 +9,7 @@ use lib.Dec.{leb, ltb}
 use lib.ListN.{length, length-append}
 use borrow.Author.Tests.{ltb-true, ltb-false, leb-true, leb-false, ne_eqb}
 use Rattle.format.specs.Limits.{most_term_fields}
-use Rattle.format.specs.Refusals.{limit_passed, text_wrong, value_too_large}
+use Rattle.format.specs.Refusals.{LimitPassed, TextWrong, ValueTooLarge}
 use Rattle.format.specs.Results.{Result, gives, refused, and_then}
 use Rattle.notation.specs.Scans.{Mode}
 use Rattle.notation.specs.Scans as M
@@ -85,12 +85,12 @@ label_digits-scan {v} (more {b = b} {ds = ds} e p) c k d f z at r h =
 
 -- behind the last digit of a leaf: 37, else 5, else the leaf is read
 module _ (c k d f z at : ℕ) where
-  pub digits_over : (r : List ℕ) → NoDigit r → ltb most_value c ≡ true → scan (scanned (M.in_digits c) k d f z) at r ≡ refused value_too_large (k + 1)
+  pub digits_over : (r : List ℕ) → NoDigit r → ltb most_value c ≡ true → scan (scanned (M.in_digits c) k d f z) at r ≡ refused ValueTooLarge (k + 1)
   unfolding scan step step_in on_begun on_label_begun on_half on_digits and_then at_end end_in leaf_ends
   digits_over [] n o = rw o
   digits_over (b ∷ s) n o = rw (n, o)
 
-  pub digits_full : (r : List ℕ) → NoDigit r → ltb most_value c ≡ false → leb most_term_fields f ≡ true → scan (scanned (M.in_digits c) k d f z) at r ≡ refused limit_passed k
+  pub digits_full : (r : List ℕ) → NoDigit r → ltb most_value c ≡ false → leb most_term_fields f ≡ true → scan (scanned (M.in_digits c) k d f z) at r ≡ refused LimitPassed k
   unfolding scan step step_in on_begun on_label_begun on_half on_digits and_then at_end end_in leaf_ends completes
   digits_full [] n o g = rw (o, g)
   digits_full (b ∷ s) n o g = rw (n, o, g)
@@ -101,12 +101,12 @@ module _ (c k d f z at : ℕ) where
   digits-done (b ∷ s) n o g = rw (n, o, g)
 
   -- behind the last digit of a label
-  pub label_over : (r : List ℕ) → NoDigit r → ltb most_value c ≡ true → scan (scanned (M.in_label_digits c) k d f z) at r ≡ refused value_too_large (k + 1)
+  pub label_over : (r : List ℕ) → NoDigit r → ltb most_value c ≡ true → scan (scanned (M.in_label_digits c) k d f z) at r ≡ refused ValueTooLarge (k + 1)
   unfolding scan step step_in on_begun on_label_begun on_half on_label_digits label_ends and_then at_end end_in
   label_over [] n o = rw o
   label_over (b ∷ s) n o = rw (n, o)
 
-  pub label_full : (r : List ℕ) → ltb most_value c ≡ false → leb most_term_fields f ≡ true → scan (scanned (M.in_label_digits c) k d f z) at (93 ∷ r) ≡ refused limit_passed k
+  pub label_full : (r : List ℕ) → ltb most_value c ≡ false → leb most_term_fields f ≡ true → scan (scanned (M.in_label_digits c) k d f z) at (93 ∷ r) ≡ refused LimitPassed k
   unfolding scan step step_in on_begun on_label_begun on_half on_label_digits label_ends and_then completes is_digit
   label_full r o g = rw (o, g)
 
@@ -122,7 +122,7 @@ number-scan (number {b = b} {ds = ds} e p) k d f z at r =
     let x = digits-scan p (b - 48) k d f z (at + 1) r (record { over = λ h. h; same = λ h. refl }) in (
       x.0,
       x.1,
-      ap (λ (t : Bool). and_then (cond t (gives (turned (M.in_digits (b - 48)) (scanned M.begun k d f z))) (refused text_wrong at)) (λ τ. scan τ (at + 1) (ds ++ r))) (digit_yes b e)
+      ap (λ (t : Bool). and_then (cond t (gives (turned (M.in_digits (b - 48)) (scanned M.begun k d f z))) (refused TextWrong at)) (λ τ. scan τ (at + 1) (ds ++ r))) (digit_yes b e)
           ∙ x.2
           ∙ ap (λ (i : ℕ). scan (scanned (M.in_digits x.0) k d f z) i r) (one_more at (length ds)),
     )
@@ -137,7 +137,7 @@ label_number-scan (number {b = b} {ds = ds} e p) k d f z at r =
     let x = label_digits-scan p (b - 48) k d f z (at + 1) r (record { over = λ h. h; same = λ h. refl }) in (
       x.0,
       x.1,
-      ap (λ (t : Bool). and_then (cond t (gives (turned (M.in_label_digits (b - 48)) (scanned M.label_begun k d f z))) (refused text_wrong at)) (λ τ. scan τ (at + 1) (ds ++ r))) (digit_yes b e)
+      ap (λ (t : Bool). and_then (cond t (gives (turned (M.in_label_digits (b - 48)) (scanned M.label_begun k d f z))) (refused TextWrong at)) (λ τ. scan τ (at + 1) (ds ++ r))) (digit_yes b e)
           ∙ x.2
           ∙ ap (λ (i : ℕ). scan (scanned (M.in_label_digits x.0) k d f z) i r) (one_more at (length ds)),
     )
@@ -148,8 +148,8 @@ label_number-scan (number {b = b} {ds = ds} e p) k d f z at r =
 -- what a mark at a place comes to: it is passed, or its value is too large, or it makes a field too many
 pub data Passed (m : Mark) (f at : ℕ) (x : Result Scan) (next : ℕ → Result Scan) : Type 0 where
   passes : (k : ℕ) → x ≡ next k → (1 ≤ mark_fields m → f < most_term_fields) → Passed m f at x next
-  too_large : x ≡ refused value_too_large (at + 1) → (MarkValue m → ⊥) → Passed m f at x next
-  too_many : x ≡ refused limit_passed at → (f + mark_fields m ≤ most_term_fields → ⊥) → Passed m f at x next
+  too_large : x ≡ refused ValueTooLarge (at + 1) → (MarkValue m → ⊥) → Passed m f at x next
+  too_many : x ≡ refused LimitPassed at → (f + mark_fields m ≤ most_term_fields → ⊥) → Passed m f at x next
 
 -- a kept value over the limit is a value over the limit
 pub kept_over : (n c : ℕ) → Kept n c → n < 65536 → ltb most_value c ≡ false
@@ -207,7 +207,7 @@ numbered_label {n} {ds} p k d f z at r =
     go c q same false o false e = passes at (same ∙ label_done c at d f z (at + 1 + length ds) r o e ∙ ap (λ (i : ℕ). scan (scanned M.due at d (f + 1) (z + 5)) i r) (one_more at (length ds))) (λ m. leb-false most_term_fields f e)
 
 -- a mark of fixed bytes that makes a field
-fixed : (m : Mark) (f at : ℕ) (x : Bool → Result Scan) (next : ℕ → Result Scan) → mark_fields m ≡ 1 → (k : ℕ) → x true ≡ refused limit_passed at → x false ≡ next k → Passed m f at (x (leb most_term_fields f)) next
+fixed : (m : Mark) (f at : ℕ) (x : Bool → Result Scan) (next : ℕ → Result Scan) → mark_fields m ≡ 1 → (k : ℕ) → x true ≡ refused LimitPassed at → x false ≡ next k → Passed m f at (x (leb most_term_fields f)) next
 fixed m f at x next one k full done = go (leb most_term_fields f) refl
   where
     go : (g : Bool) → leb most_term_fields f ≡ g → Passed m f at (x g) next
@@ -223,12 +223,12 @@ pub leaf-scan : {w : Leaf} {bs : List ℕ} → Spells (leaf w) bs → (k d f z a
 unfolding scan step step_in on_begun on_label_begun on_half on_due begins_numbered and_then mark_size MarkValue completes mark_fields
 leaf-scan (rule p) k d f z at r nd = numbered_leaf 97 rule_leaf (λ k d f z at s. refl) (λ n v. v) p k d f z at r nd
 leaf-scan identity k d f z at r nd =
-    fixed (leaf id_leaf) f at (λ g. and_then (cond g (refused limit_passed at) (gives (scanned M.had at d (f + 1) (z + 3)))) (λ τ. scan τ (at + 1 + 1) r)) (λ k'. scan (scanned M.had k' d (f + 1) (z + 3)) (at + 2) r) refl at refl (same_scan M.had at d r refl refl (two at))
+    fixed (leaf id_leaf) f at (λ g. and_then (cond g (refused LimitPassed at) (gives (scanned M.had at d (f + 1) (z + 3)))) (λ τ. scan τ (at + 1 + 1) r)) (λ k'. scan (scanned M.had k' d (f + 1) (z + 3)) (at + 2) r) refl at refl (same_scan M.had at d r refl refl (two at))
   where
     two : (at : ℕ) → at + 1 + 1 ≡ at + 2
     two at = omega arith
 leaf-scan nothing k d f z at r nd =
-    fixed (leaf empty_leaf) f at (λ g. and_then (cond g (refused limit_passed at) (gives (scanned M.had at d (f + 1) (z + 3)))) (λ τ. scan τ (at + 1 + 1) r)) (λ k'. scan (scanned M.had k' d (f + 1) (z + 3)) (at + 2) r) refl at refl (same_scan M.had at d r refl refl (two at))
+    fixed (leaf empty_leaf) f at (λ g. and_then (cond g (refused LimitPassed at) (gives (scanned M.had at d (f + 1) (z + 3)))) (λ τ. scan τ (at + 1 + 1) r)) (λ k'. scan (scanned M.had k' d (f + 1) (z + 3)) (at + 2) r) refl at refl (same_scan M.had at d r refl refl (two at))
   where
     two : (at : ℕ) → at + 1 + 1 ≡ at + 2
     two at = omega arith
@@ -246,9 +246,9 @@ label_scan {n} (labelling {ds = ds} p) k d f z at r =
 pub sign_scan : {s : Sign} {bs : List ℕ} → Spells (sign s) bs → (k d f z at : ℕ) (r : List ℕ)
     → Passed (sign s) f at (scan (scanned M.had k d f z) at (bs ++ r)) (λ k'. scan (scanned M.due k' d (f + 1) (z + mark_size (sign s))) (at + length bs) r)
 unfolding scan step step_in on_begun on_label_begun on_half on_had is_sign and_then mark_size completes mark_fields
-sign_scan (between semicolon) k d f z at r = fixed (sign semicolon) f at (λ g. and_then (cond g (refused limit_passed at) (gives (scanned M.due k d (f + 1) (z + 3)))) (λ τ. scan τ (at + 1) r)) (λ k'. scan (scanned M.due k' d (f + 1) (z + 3)) (at + 1) r) refl k refl refl
-sign_scan (between bar) k d f z at r = fixed (sign bar) f at (λ g. and_then (cond g (refused limit_passed at) (gives (scanned M.due k d (f + 1) (z + 3)))) (λ τ. scan τ (at + 1) r)) (λ k'. scan (scanned M.due k' d (f + 1) (z + 3)) (at + 1) r) refl k refl refl
-sign_scan (between star) k d f z at r = fixed (sign star) f at (λ g. and_then (cond g (refused limit_passed at) (gives (scanned M.due k d (f + 1) (z + 3)))) (λ τ. scan τ (at + 1) r)) (λ k'. scan (scanned M.due k' d (f + 1) (z + 3)) (at + 1) r) refl k refl refl
+sign_scan (between semicolon) k d f z at r = fixed (sign semicolon) f at (λ g. and_then (cond g (refused LimitPassed at) (gives (scanned M.due k d (f + 1) (z + 3)))) (λ τ. scan τ (at + 1) r)) (λ k'. scan (scanned M.due k' d (f + 1) (z + 3)) (at + 1) r) refl k refl refl
+sign_scan (between bar) k d f z at r = fixed (sign bar) f at (λ g. and_then (cond g (refused LimitPassed at) (gives (scanned M.due k d (f + 1) (z + 3)))) (λ τ. scan τ (at + 1) r)) (λ k'. scan (scanned M.due k' d (f + 1) (z + 3)) (at + 1) r) refl k refl refl
+sign_scan (between star) k d f z at r = fixed (sign star) f at (λ g. and_then (cond g (refused LimitPassed at) (gives (scanned M.due k d (f + 1) (z + 3)))) (λ τ. scan τ (at + 1) r)) (λ k'. scan (scanned M.due k' d (f + 1) (z + 3)) (at + 1) r) refl k refl refl
 
 -- brackets make no field
 opening_scan : {bs : List ℕ} → Spells opening bs → (k d f z at : ℕ) (r : List ℕ)
@@ -267,7 +267,7 @@ closing-scan : {bs : List ℕ} → Spells closing bs → (k d f z at : ℕ) (r :
 unfolding scan step step_in on_begun on_label_begun on_half on_had is_sign and_then mark_fields
 closing-scan closes k d f z at r =
     passes k
-    (ap (λ (t : Bool). and_then (cond t (refused text_wrong at) (gives (scanned M.had k (suc d - 1) f z))) (λ τ. scan τ (at + 1) r)) (ne_eqb (suc d) 0 (λ e. omega arith))
+    (ap (λ (t : Bool). and_then (cond t (refused TextWrong at) (gives (scanned M.had k (suc d - 1) f z))) (λ τ. scan τ (at + 1) r)) (ne_eqb (suc d) 0 (λ e. omega arith))
     ∙ ap (λ (i : ℕ). scan (scanned M.had k i f z) (at + 1) r) (one d) ∙ same_scan M.had k d r (none f) (none z) refl)
     (λ h. absurd (omega arith))
   where
@@ -280,8 +280,8 @@ closing-scan closes k d f z at r =
 -- what whole marks come to
 pub data Along (ms : List Mark) (f : ℕ) (x : Result Scan) (next : ℕ → Result Scan) : Type 0 where
   through : (k : ℕ) → x ≡ next k → Along ms f x next
-  large : (p : ℕ) → x ≡ refused value_too_large p → (MarkValues ms → ⊥) → Along ms f x next
-  full : (p : ℕ) → x ≡ refused limit_passed p → (f + field_marks ms ≤ most_term_fields → ⊥) → Along ms f x next
+  large : (p : ℕ) → x ≡ refused ValueTooLarge p → (MarkValues ms → ⊥) → Along ms f x next
+  full : (p : ℕ) → x ≡ refused LimitPassed p → (f + field_marks ms ≤ most_term_fields → ⊥) → Along ms f x next
 
 along_cons : {m : Mark} {ms : List Mark} {f at : ℕ} {x : Result Scan} (next₁ next₂ next₃ : ℕ → Result Scan) → Passed m f at x next₁ → ((k : ℕ) → Along ms (f + mark_fields m) (next₁ k) next₂) → ((k : ℕ) → next₂ k ≡ next₃ k) → Along (m ∷ ms) f x next₃
 unfolding field_marks

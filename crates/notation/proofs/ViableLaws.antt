@@ -7,7 +7,7 @@ use Prim.Native.Nat.{ℕ, zero, suc, ◌+◌, ◌≤◌}
 use native.Mathlib.Omega.{arith}
 use lib.ListN.{replicate}
 use Rattle.format.specs.Limits.{most_term_fields}
-use Rattle.format.specs.Refusals.{text_wrong}
+use Rattle.format.specs.Refusals.{TextWrong}
 use Rattle.format.specs.Results.{gives, refused}
 use Rattle.format.specs.Terms.{Term, fields, size}
 use Rattle.notation.specs.Scans as M
@@ -68,7 +68,7 @@ fits-scan {text} x = go (reads_along x.reads)
     go (full p e v) = let few : fields x.term ≤ most_term_fields = x.few in absurd (v (omega (arith, reads-fields x.reads.read)))
 
 -- no text of the notation is refused with 36
-pub reads_not_wrong : {text : List ℕ} {t : Term} (p : ℕ) → ReadsAs text t → scan start 0 text ≡ refused text_wrong p → ⊥
+pub reads_not_wrong : {text : List ℕ} {t : Term} (p : ℕ) → ReadsAs text t → scan start 0 text ≡ refused TextWrong p → ⊥
 reads_not_wrong {text} {t} p r e = go (reads_along r)
   where
     go : Along r.marks 0 (scan start 0 text) (λ k. gives (scanned M.had k 0 (fields t) (size t))) → ⊥

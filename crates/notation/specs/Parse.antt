@@ -2,7 +2,7 @@
 use Rattle.std.specs.Prelude.{ℕ, List, length}
 use Rattle.std.proofs.Math.Option.{Option, none, some}
 use Rattle.format.specs.Inputs.{of_size}
-use Rattle.format.specs.Refusals.{text_wrong}
+use Rattle.format.specs.Refusals.{TextWrong}
 use Rattle.format.specs.Results.{Result, gives, refused, and_then}
 use Rattle.format.specs.Terms.{Term}
 use Rattle.notation.specs.MarksIn.{marks_in}
@@ -11,7 +11,7 @@ use Rattle.notation.specs.Scans.{start, scan}
 
 -- the term that was read from the right; after a scan to the end there always is one
 unfoldable pub term_found : (end : ℕ) → Option Term → Result Term
-term_found end none = refused text_wrong end
+term_found end none = refused TextWrong end
 term_found end (some t) = gives t
 
 unfoldable pub parse : List ℕ → Result Term

@@ -3,7 +3,7 @@
 -- of these three the one met first in the text is given."
 use Rattle.std.specs.Prelude.{ℕ, ◌+◌, ◌*◌, ◌-◌, Bool, true, cond, List, [], ◌∷◌, eqb, leb, ltb}
 use Rattle.format.specs.Limits.{most_term_fields}
-use Rattle.format.specs.Refusals.{limit_passed, text_wrong, value_too_large}
+use Rattle.format.specs.Refusals.{LimitPassed, TextWrong, ValueTooLarge}
 use Rattle.format.specs.Results.{Result, gives, refused, and_then}
 use Rattle.notation.specs.Letters.{blank, letter_a, question, letter_t, letter_i, letter_d, less, greater, left_square, right_square, left_round, right_round, semicolon_byte, bar_byte, star_byte, is_digit}
 
@@ -48,7 +48,7 @@ begins m at σ = scanned m at σ.depth σ.fields σ.size
 -- a mark that began at a place is complete and makes a field, with so many bytes of its own
 unfoldable pub completes : Mode → (place bytes : ℕ) → Scan → Result Scan
 completes m place bytes σ =
-    cond (leb most_term_fields σ.fields) (refused limit_passed place)
+    cond (leb most_term_fields σ.fields) (refused LimitPassed place)
     (gives (scanned m σ.mark σ.depth (σ.fields + 1) (σ.size + bytes)))
 
 -- one of the bytes `a`, `?` and `T`
@@ -67,15 +67,15 @@ on_due σ at b =
     (cond (eqb b less) (gives (begins half_empty at σ))
     (cond (eqb b left_square) (gives (begins label_begun at σ))
     (cond (eqb b left_round) (gives (scanned due σ.mark (σ.depth + 1) σ.fields σ.size))
-    (refused text_wrong at))))))
+    (refused TextWrong at))))))
 
 -- an operand was read
 unfoldable pub on_had : Scan → (at b : ℕ) → Result Scan
 on_had σ at b =
     cond (eqb b blank) (gives (turned had σ))
     (cond (is_sign b) (completes due at 3 σ)
-    (cond (eqb b right_round) (cond (eqb σ.depth 0) (refused text_wrong at) (gives (scanned had σ.mark (σ.depth - 1) σ.fields σ.size)))
-    (refused text_wrong at)))
+    (cond (eqb b right_round) (cond (eqb σ.depth 0) (refused TextWrong at) (gives (scanned had σ.mark (σ.depth - 1) σ.fields σ.size)))
+    (refused TextWrong at)))
 
 -- the value with one digit more; a value that is too large stays so
 unfoldable pub digit_more : (v b : ℕ) → ℕ
@@ -83,7 +83,7 @@ digit_more v b = cond (ltb most_value v) v (v * 10 + (b - 48))
 
 -- the last digit of `a12`, `?30` or `T4` was read
 unfoldable pub leaf_ends : (v : ℕ) → Scan → Result Scan
-leaf_ends v σ = cond (ltb most_value v) (refused value_too_large (σ.mark + 1)) (completes had σ.mark 5 σ)
+leaf_ends v σ = cond (ltb most_value v) (refused ValueTooLarge (σ.mark + 1)) (completes had σ.mark 5 σ)
 
 unfoldable pub on_digits : (v : ℕ) → Scan → (at b : ℕ) → Result Scan
 on_digits v σ at b = cond (is_digit b) (gives (turned (in_digits (digit_more v b)) σ)) (and_then (leaf_ends v σ) (λ τ. on_had τ at b))
@@ -91,23 +91,23 @@ on_digits v σ at b = cond (is_digit b) (gives (turned (in_digits (digit_more v 
 -- behind the last digit of `[3]`
 unfoldable pub label_ends : (v : ℕ) → Scan → (at b : ℕ) → Result Scan
 label_ends v σ at b =
-    cond (ltb most_value v) (refused value_too_large (σ.mark + 1))
+    cond (ltb most_value v) (refused ValueTooLarge (σ.mark + 1))
     (cond (eqb b right_square) (completes due σ.mark 5 σ)
-    (refused text_wrong at))
+    (refused TextWrong at))
 
 unfoldable pub on_label_digits : (v : ℕ) → Scan → (at b : ℕ) → Result Scan
 on_label_digits v σ at b = cond (is_digit b) (gives (turned (in_label_digits (digit_more v b)) σ)) (label_ends v σ at b)
 
 -- the first digit behind `a`, `?`, `T` or `[`
 unfoldable pub on_begun : Scan → (at b : ℕ) → Result Scan
-on_begun σ at b = cond (is_digit b) (gives (turned (in_digits (b - 48)) σ)) (refused text_wrong at)
+on_begun σ at b = cond (is_digit b) (gives (turned (in_digits (b - 48)) σ)) (refused TextWrong at)
 
 unfoldable pub on_label_begun : Scan → (at b : ℕ) → Result Scan
-on_label_begun σ at b = cond (is_digit b) (gives (turned (in_label_digits (b - 48)) σ)) (refused text_wrong at)
+on_label_begun σ at b = cond (is_digit b) (gives (turned (in_label_digits (b - 48)) σ)) (refused TextWrong at)
 
 -- the second byte of `id` and `<>`
 unfoldable pub on_half : (second : ℕ) → Scan → (at b : ℕ) → Result Scan
-on_half second σ at b = cond (eqb b second) (completes had σ.mark 3 σ) (refused text_wrong at)
+on_half second σ at b = cond (eqb b second) (completes had σ.mark 3 σ) (refused TextWrong at)
 
 -- one more byte
 unfoldable pub step_in : Mode → Scan → (at b : ℕ) → Result Scan
@@ -125,18 +125,18 @@ step σ at b = step_in σ.mode σ at b
 
 -- every bracket is closed
 unfoldable pub finished : Scan → (at : ℕ) → Result Scan
-finished σ at = cond (eqb σ.depth 0) (gives σ) (refused text_wrong at)
+finished σ at = cond (eqb σ.depth 0) (gives σ) (refused TextWrong at)
 
 -- the end of the text, at its length
 unfoldable pub end_in : Mode → Scan → (at : ℕ) → Result Scan
-end_in due σ at = refused text_wrong at
+end_in due σ at = refused TextWrong at
 end_in had σ at = finished σ at
-end_in begun σ at = refused text_wrong at
-end_in label_begun σ at = refused text_wrong at
+end_in begun σ at = refused TextWrong at
+end_in label_begun σ at = refused TextWrong at
 end_in (in_digits v) σ at = and_then (leaf_ends v σ) (λ τ. finished τ at)
-end_in (in_label_digits v) σ at = cond (ltb most_value v) (refused value_too_large (σ.mark + 1)) (refused text_wrong at)
-end_in half_id σ at = refused text_wrong at
-end_in half_empty σ at = refused text_wrong at
+end_in (in_label_digits v) σ at = cond (ltb most_value v) (refused ValueTooLarge (σ.mark + 1)) (refused TextWrong at)
+end_in half_id σ at = refused TextWrong at
+end_in half_empty σ at = refused TextWrong at
 
 unfoldable pub at_end : Scan → (at : ℕ) → Result Scan
 at_end σ at = end_in σ.mode σ at

@@ -1,6 +1,6 @@
 -- P8: worked lines over bytes, one for each kind of mark, of binding, of bracket and of refusal. `proofs/Worked.antt` proves them.
 use Rattle.std.specs.Prelude.{ℕ, ◌≡◌, List, [], ◌∷◌}
-use Rattle.format.specs.Refusals.{Cause, limit_passed, text_wrong, value_too_large}
+use Rattle.format.specs.Refusals.{Cause, LimitPassed, TextWrong, ValueTooLarge}
 use Rattle.format.specs.Results.{gives, refused}
 use Rattle.format.specs.Values.{rule_name, goal, label_of, tactic_no}
 use Rattle.format.specs.Terms.{Term, atomic, id, label, sequence, tensor, empty, alternation, assert, defined}
@@ -48,49 +48,49 @@ worked_lines =
     -- `((T65535))`
     ∷ reads (40 ∷ 40 ∷ 84 ∷ 54 ∷ 53 ∷ 53 ∷ 51 ∷ 53 ∷ 41 ∷ 41 ∷ []) (defined (tactic_no 65535))
     -- ``: "or the end if it comes early"
-    ∷ refuses [] text_wrong 0
+    ∷ refuses [] TextWrong 0
     -- `(id`
-    ∷ refuses (40 ∷ 105 ∷ 100 ∷ []) text_wrong 3
+    ∷ refuses (40 ∷ 105 ∷ 100 ∷ []) TextWrong 3
     -- `id;`
-    ∷ refuses (105 ∷ 100 ∷ 59 ∷ []) text_wrong 3
+    ∷ refuses (105 ∷ 100 ∷ 59 ∷ []) TextWrong 3
     -- `[1]`
-    ∷ refuses (91 ∷ 49 ∷ 93 ∷ []) text_wrong 3
+    ∷ refuses (91 ∷ 49 ∷ 93 ∷ []) TextWrong 3
     -- `a 1`: no blank stands inside a mark
-    ∷ refuses (97 ∷ 32 ∷ 49 ∷ []) text_wrong 1
+    ∷ refuses (97 ∷ 32 ∷ 49 ∷ []) TextWrong 1
     -- `ix`: at the byte, not at the beginning of its mark
-    ∷ refuses (105 ∷ 120 ∷ []) text_wrong 1
+    ∷ refuses (105 ∷ 120 ∷ []) TextWrong 1
     -- `<id`
-    ∷ refuses (60 ∷ 105 ∷ 100 ∷ []) text_wrong 1
+    ∷ refuses (60 ∷ 105 ∷ 100 ∷ []) TextWrong 1
     -- `[1x`
-    ∷ refuses (91 ∷ 49 ∷ 120 ∷ []) text_wrong 2
+    ∷ refuses (91 ∷ 49 ∷ 120 ∷ []) TextWrong 2
     -- `id id`
-    ∷ refuses (105 ∷ 100 ∷ 32 ∷ 105 ∷ 100 ∷ []) text_wrong 3
+    ∷ refuses (105 ∷ 100 ∷ 32 ∷ 105 ∷ 100 ∷ []) TextWrong 3
     -- `id)`
-    ∷ refuses (105 ∷ 100 ∷ 41 ∷ []) text_wrong 2
+    ∷ refuses (105 ∷ 100 ∷ 41 ∷ []) TextWrong 2
     -- `*id`
-    ∷ refuses (42 ∷ 105 ∷ 100 ∷ []) text_wrong 0
+    ∷ refuses (42 ∷ 105 ∷ 100 ∷ []) TextWrong 0
     -- `A1`
-    ∷ refuses (65 ∷ 49 ∷ []) text_wrong 0
+    ∷ refuses (65 ∷ 49 ∷ []) TextWrong 0
     -- `a1(tab)`
-    ∷ refuses (97 ∷ 49 ∷ 9 ∷ []) text_wrong 2
+    ∷ refuses (97 ∷ 49 ∷ 9 ∷ []) TextWrong 2
     -- `a65536x`: "37, a value over 65,535, at its first digit, when its last digit is read"
-    ∷ refuses (97 ∷ 54 ∷ 53 ∷ 53 ∷ 51 ∷ 54 ∷ 120 ∷ []) value_too_large 1
+    ∷ refuses (97 ∷ 54 ∷ 53 ∷ 53 ∷ 51 ∷ 54 ∷ 120 ∷ []) ValueTooLarge 1
     -- `[65536x`
-    ∷ refuses (91 ∷ 54 ∷ 53 ∷ 53 ∷ 51 ∷ 54 ∷ 120 ∷ []) value_too_large 1
+    ∷ refuses (91 ∷ 54 ∷ 53 ∷ 53 ∷ 51 ∷ 54 ∷ 120 ∷ []) ValueTooLarge 1
     -- `[65536`
-    ∷ refuses (91 ∷ 54 ∷ 53 ∷ 53 ∷ 51 ∷ 54 ∷ []) value_too_large 1
+    ∷ refuses (91 ∷ 54 ∷ 53 ∷ 53 ∷ 51 ∷ 54 ∷ []) ValueTooLarge 1
     -- `id;a00065536`
-    ∷ refuses (105 ∷ 100 ∷ 59 ∷ 97 ∷ 48 ∷ 48 ∷ 48 ∷ 54 ∷ 53 ∷ 53 ∷ 51 ∷ 54 ∷ []) value_too_large 4
+    ∷ refuses (105 ∷ 100 ∷ 59 ∷ 97 ∷ 48 ∷ 48 ∷ 48 ∷ 54 ∷ 53 ∷ 53 ∷ 51 ∷ 54 ∷ []) ValueTooLarge 4
     -- `a1x`: the mark is complete with its last digit
-    ∷ meets (97 ∷ 49 ∷ 120 ∷ []) limit_passed 0
+    ∷ meets (97 ∷ 49 ∷ 120 ∷ []) LimitPassed 0
     -- `a70000`: "after any 37"
-    ∷ meets (97 ∷ 55 ∷ 48 ∷ 48 ∷ 48 ∷ 48 ∷ []) value_too_large 1
+    ∷ meets (97 ∷ 55 ∷ 48 ∷ 48 ∷ 48 ∷ 48 ∷ []) ValueTooLarge 1
     -- `ix`: "once complete"
-    ∷ meets (105 ∷ 120 ∷ []) text_wrong 1
+    ∷ meets (105 ∷ 120 ∷ []) TextWrong 1
     -- `[1x`
-    ∷ meets (91 ∷ 49 ∷ 120 ∷ []) text_wrong 2
+    ∷ meets (91 ∷ 49 ∷ 120 ∷ []) TextWrong 2
     -- `((id`: brackets make no field
-    ∷ meets (40 ∷ 40 ∷ 105 ∷ 100 ∷ []) limit_passed 2
+    ∷ meets (40 ∷ 40 ∷ 105 ∷ 100 ∷ []) LimitPassed 2
     -- `a1 * ([3]a2) ; a3`: "round the label itself if it would reach too far"
     ∷ writes (sequence (tensor (atomic (rule_name 1)) (label (label_of 3) (atomic (rule_name 2)))) (atomic (rule_name 3))) (97 ∷ 49 ∷ 32 ∷ 42 ∷ 32 ∷ 40 ∷ 91 ∷ 51 ∷ 93 ∷ 97 ∷ 50 ∷ 41 ∷ 32 ∷ 59 ∷ 32 ∷ 97 ∷ 51 ∷ [])
     -- `a1 * [3]a2 ; a3`

@@ -4,7 +4,7 @@ use Rattle.words.specs.Word.{word}
 use Rattle.format.specs.declared.headers.HeaderRead.{HeaderRead}
 use Rattle.format.specs.declared.headers.HeaderRead.TheVariants.{Refused, Field}
 use Rattle.format.specs.Limits.{most_bytes, most_goals, most_term_fields}
-use Rattle.format.specs.Refusals.{number, input_too_long, limit_passed, length_wrong}
+use Rattle.format.specs.Refusals.{number, InputTooLong, LimitPassed, LengthWrong}
 use Rattle.format.specs.Tags.{definition_kind, goal_list_kind, hiproof_kind, tactic_kind, entry_kind}
 use Rattle.format.specs.Next.{full_table, lowest, full_flat}
 use Rattle.parts.specs.declared.state.State.{State}
@@ -105,13 +105,13 @@ entry_taken s x tag close =
 unfoldable pub remaining_taken : State → (count close : ℕ) → State
 remaining_taken x n close =
     cond (eqb close x.end) (asking (counted x x.goals x.first n x.from x.rest x.field) mode_gave x.part close x.end)
-    (refusing x (number length_wrong) close)
+    (refusing x (number LengthWrong) close)
 
 -- behind a goal list
 unfoldable pub list_taken : List ℕ → State → (count close : ℕ) → State
 list_taken s x n close =
     let y = counted x n x.first x.second close x.rest x.field in
-    cond (ltb most_goals n) (refusing x (number limit_passed) x.at)
+    cond (ltb most_goals n) (refusing x (number LimitPassed) x.at)
     (cond (eqb x.part remaining_part) (remaining_taken x n close)
     (cond (eqb x.part roots_part) (next_entry s y close)
     (cond (eqb x.part job_goals_part) (asking y mode_reads job_term_part close x.end)
@@ -133,9 +133,9 @@ end_of s at = at + 3 + word s (at + 1)
 unfoldable pub behind_term : List ℕ → State → State
 behind_term s x =
     cond (eqb x.part body_part)
-    (cond (eqb x.at (end_of s x.field)) (next_field s (counted x x.goals x.first (x.second + 1) x.from x.rest x.field) x.at) (refusing x (number length_wrong) x.field))
+    (cond (eqb x.at (end_of s x.field)) (next_field s (counted x x.goals x.first (x.second + 1) x.from x.rest x.field) x.at) (refusing x (number LengthWrong) x.field))
     (cond (eqb x.part job_term_part)
-    (cond (eqb x.at (length s)) x (refusing x (number length_wrong) x.at))
+    (cond (eqb x.at (length s)) x (refusing x (number LengthWrong) x.at))
     (asking (counted x x.goals x.first x.second x.from x.at x.field) mode_reads remaining_part x.at (length s)))
 
 -- nothing of a file is read
@@ -146,7 +146,7 @@ blank_state part = record { mode = mode_refused; part = part; at = 0; end = 0; f
 unfoldable pub begun_file : List ℕ → (part : ℕ) → State
 begun_file s part =
     let x = asking (blank_state part) mode_reads part 0 (length s) in
-    cond (ltb most_bytes (length s)) (refusing x (number input_too_long) 0) x
+    cond (ltb most_bytes (length s)) (refusing x (number InputTooLong) 0) x
 
 -- a table
 unfoldable pub begun_table : List ℕ → State

@@ -6,7 +6,7 @@ use mathlib.Core.Path.{◌≡◌, refl, sym, subst, ap, ◌∙◌}
 use mathlib.Core.List.{List, [], ◌∷◌}
 use lib.ListN.{length}
 use Rattle.format.specs.declared.values.Goal.{Goal}
-use Rattle.format.specs.Refusals.{Cause, number, entry_wrong, goals_pending}
+use Rattle.format.specs.Refusals.{Cause, number, EntryWrong, GoalsPending}
 use Rattle.format.specs.Results.{Result, gives, refused, and_then}
 use Rattle.format.proofs.ResultLaws.{number_positive, same_place, same_cause, never_gives}
 use Rattle.rule_set.specs.Different.{different}
@@ -61,7 +61,7 @@ module _ (t f : List ℕ) (T : Table) (d : Derivation) (e : read_table t ≡ giv
   unfolding check_flat_outcome right and_then
   walk_refuses x = rw (e, g, x)
 
-  wrong_at : {q : ℕ} → walked ≡ refused entry_wrong q → A t f ≡ answer.refusal 27 2 q 0
+  wrong_at : {q : ℕ} → walked ≡ refused EntryWrong q → A t f ≡ answer.refusal 27 2 q 0
   unfolding number
   wrong_at x = walk_refuses x
 
@@ -153,11 +153,11 @@ module _ {B : Type 0} (f : List ℕ) (T : Table) (d : Derivation) (g : read_flat
   unfolding right and_then none_pending
   over_so x = rw x
 
-  pending_so : (γ : Goal) (k : List Goal) → flat_walk T (entries_place d) d.roots d.entries ≡ gives (γ ∷ k) → right T d (length f) v ≡ refused goals_pending (length f)
+  pending_so : (γ : Goal) (k : List Goal) → flat_walk T (entries_place d) d.roots d.entries ≡ gives (γ ∷ k) → right T d (length f) v ≡ refused GoalsPending (length f)
   unfolding right and_then none_pending
   pending_so γ k x = rw x
 
-  numbers : (number entry_wrong ≡ 27) × (number goals_pending ≡ 27)
+  numbers : (number EntryWrong ≡ 27) × (number GoalsPending ≡ 27)
   unfolding number
   numbers = (refl, refl)
 
@@ -166,7 +166,7 @@ module _ {B : Type 0} (f : List ℕ) (T : Table) (d : Derivation) (g : read_flat
 
   pub right_refuses : (r : Result (List Goal)) → flat_walk T (entries_place d) d.roots d.entries ≡ r → (c : Cause) (q : ℕ) → right T d (length f) v ≡ refused c q → CheckFlatRefuses f (number c) q
   right_refuses (gives []) x c q h = never_gives (sym h ∙ over_so x)
-  right_refuses (gives (γ ∷ k)) x c q h = moved goals_pending c (length f) q (sym (pending_so γ k x) ∙ h) numbers.1 (omega arith)
+  right_refuses (gives (γ ∷ k)) x c q h = moved GoalsPending c (length f) q (sym (pending_so γ k x) ∙ h) numbers.1 (omega arith)
   right_refuses (refused b i) x c q h =
       moved b c i q
       (sym (stopped_so b i x) ∙ h)

@@ -8,7 +8,7 @@ use mathlib.Core.Logic.{◌⊎◌, inl, inr, ◌↔◌}
 use mathlib.Core.List.{List, [], ◌∷◌}
 use lib.ListN.{length}
 use Rattle.format.specs.declared.values.Goal.{Goal}
-use Rattle.format.specs.Refusals.{Cause, number, remaining_differ}
+use Rattle.format.specs.Refusals.{Cause, number, RemainingDiffer}
 use Rattle.format.specs.Results.{Result, gives, refused, and_then}
 use Rattle.format.specs.Terms.{size, fields, Hiproof}
 use Rattle.format.proofs.ResultLaws.{number_positive, same_value, same_place, same_cause, never_gives}
@@ -208,11 +208,11 @@ module _ {B : Type 0} (t p : List ℕ) (T : Table) (x : Proof) (f : read_proof_f
   unfolding remaining_are
   agreeing l s = rw s
 
-  differing : (l : List Goal) → same_goals l x.remaining ≡ false → remaining_are x v l ≡ refused remaining_differ (remaining_place x)
+  differing : (l : List Goal) → same_goals l x.remaining ≡ false → remaining_are x v l ≡ refused RemainingDiffer (remaining_place x)
   unfolding remaining_are
   differing l s = rw s
 
-  own_21 : CheckRefuses p (number remaining_differ) (remaining_place x)
+  own_21 : CheckRefuses p (number RemainingDiffer) (remaining_place x)
   unfolding number
   own_21 = (inr refl, omega (arith, (proof_stands p x f).end_is))
 
@@ -221,7 +221,7 @@ module _ {B : Type 0} (t p : List ℕ) (T : Table) (x : Proof) (f : read_proof_f
 
   by_comparison : (l : List Goal) (b : Bool) → same_goals l x.remaining ≡ b → (c : Cause) (q : ℕ) → remaining_are x v l ≡ refused c q → CheckRefuses p (number c) q
   by_comparison l true s c q g = never_gives (sym g ∙ agreeing l s)
-  by_comparison l false s c q g = moved remaining_differ c (remaining_place x) q (sym (differing l s) ∙ g) own_21
+  by_comparison l false s c q g = moved RemainingDiffer c (remaining_place x) q (sym (differing l s) ∙ g) own_21
 
   given_on : (l : List Goal) → walk T x.term (term_place x) x.goals ≡ gives l → checked T x v ≡ remaining_are x v l
   unfolding checked and_then

@@ -12,7 +12,7 @@ use lib.Dec.{ltb}
 use lib.ListN.{length, take, drop}
 use borrow.Author.Tests.{lt-ltb, le-ltb}
 use Rattle.format.specs.declared.values.Goal.{Goal}
-use Rattle.format.specs.Refusals.{Cause, number, rule_missing, goal_count_wrong, goals_too_few, joined_too_long, remaining_differ}
+use Rattle.format.specs.Refusals.{Cause, number, RuleMissing, GoalCountWrong, GoalsTooFew, JoinedTooLong, RemainingDiffer}
 use Rattle.format.specs.Results.{Result, gives, refused, and_then}
 use Rattle.format.specs.Terms.{Term, atomic, id, label, sequence, tensor, empty, alternation, assert, defined, size}
 use Rattle.tables.specs.Tables.{Table}
@@ -44,11 +44,11 @@ kept n l z (inr (inr e)) = omega (arith, l)
 data FinerResult {A : Type 0} : Result A → Result A → Type 0 where
   same_value : (a : A) → FinerResult (gives a) (gives a)
   same_refusal : (c : Cause) (q : ℕ) → Kept (number c) → FinerResult (refused c q) (refused c q)
-  finer_refusal : (c : Cause) (q : ℕ) → Reason (number c) → FinerResult (refused rule_missing q) (refused c q)
+  finer_refusal : (c : Cause) (q : ℕ) → Reason (number c) → FinerResult (refused RuleMissing q) (refused c q)
 
-miscounted : {A : Type 0} (q : ℕ) → FinerResult {A = A} (refused rule_missing q) (refused goal_count_wrong q)
+miscounted : {A : Type 0} (q : ℕ) → FinerResult {A = A} (refused RuleMissing q) (refused GoalCountWrong q)
 unfolding number
-miscounted q = finer_refusal goal_count_wrong q (inr (inl refl))
+miscounted q = finer_refusal GoalCountWrong q (inr (inl refl))
 
 finer_then : {A B : Type 0} {r r' : Result A} {next next' : A → Result B} → FinerResult r r' → ((a : A) → FinerResult (next a) (next' a)) → FinerResult (and_then r next) (and_then r' next')
 unfolding and_then
@@ -56,9 +56,9 @@ finer_then (same_value a) more = more a
 finer_then (same_refusal c q k) more = same_refusal c q k
 finer_then (finer_refusal c q k) more = finer_refusal c q k
 
-finer_test : {A : Type 0} (b : Bool) (p : ℕ) {r r' : Result A} → FinerResult r r' → FinerResult (cond b (refused rule_missing p) r) (cond b (refused goals_too_few p) r')
+finer_test : {A : Type 0} (b : Bool) (p : ℕ) {r r' : Result A} → FinerResult r r' → FinerResult (cond b (refused RuleMissing p) r) (cond b (refused GoalsTooFew p) r')
 unfolding number
-finer_test true p x = finer_refusal goals_too_few p (inr (inr refl))
+finer_test true p x = finer_refusal GoalsTooFew p (inr (inr refl))
 finer_test false p x = x
 
 finer_one : (p : ℕ) (next next' : Goal → Result (List Goal)) (g : List Goal) → ((γ : Goal) → FinerResult (next γ) (next' γ)) → FinerResult (one_goal_before p next g) (on_one_goal p next' g)
@@ -72,17 +72,17 @@ unfolding no_goal_before on_no_goal
 finer_none p [] = same_value []
 finer_none p (γ ∷ g) = miscounted p
 
-finer_premises : (p : ℕ) (o : Option FoundRule) → FinerResult (premises_or rule_missing p o) (premises_or rule_missing p o)
+finer_premises : (p : ℕ) (o : Option FoundRule) → FinerResult (premises_or RuleMissing p o) (premises_or RuleMissing p o)
 unfolding premises_or number
-finer_premises p none = finer_refusal rule_missing p (inl refl)
+finer_premises p none = finer_refusal RuleMissing p (inl refl)
 finer_premises p (some r) = same_value r.premises
 
 finer_joined : (p : ℕ) (g : List Goal) → FinerResult (joined p g) (joined p g)
 unfolding joined number
 finer_joined p g = by_test (too_long g)
   where
-    by_test : (b : Bool) → FinerResult (cond b (refused joined_too_long p) (gives g)) (cond b (refused joined_too_long p) (gives g))
-    by_test true = same_refusal joined_too_long p (kept _ (omega arith) (λ z. omega arith))
+    by_test : (b : Bool) → FinerResult (cond b (refused JoinedTooLong p) (gives g)) (cond b (refused JoinedTooLong p) (gives g))
+    by_test true = same_refusal JoinedTooLong p (kept _ (omega arith) (λ z. omega arith))
     by_test false = same_value g
 
 finer_walk : (T : Table) (s : Term) (p : ℕ) (g : List Goal) → FinerResult (walk_before T s p g) (walk T s p g)
@@ -104,15 +104,15 @@ finer_remaining : {A : Type 0} (x : Proof) (a : A) (h : List Goal) → FinerResu
 unfolding remaining_are number
 finer_remaining {A} x a h = by_comparison (same_goals h x.remaining)
   where
-    by_comparison : (b : Bool) → FinerResult {A = A} (cond b (gives a) (refused remaining_differ (remaining_place x))) (cond b (gives a) (refused remaining_differ (remaining_place x)))
+    by_comparison : (b : Bool) → FinerResult {A = A} (cond b (gives a) (refused RemainingDiffer (remaining_place x))) (cond b (gives a) (refused RemainingDiffer (remaining_place x)))
     by_comparison true = same_value a
-    by_comparison false = same_refusal remaining_differ (remaining_place x) (kept _ (omega arith) (λ z. omega arith))
+    by_comparison false = same_refusal RemainingDiffer (remaining_place x) (kept _ (omega arith) (λ z. omega arith))
 
 -- the same of a call on two files, before lent space is looked at
 data FinerOutcome {A : Type 0} : Outcome A → Outcome A → Type 0 where
   same_success : (a : A) → FinerOutcome (done a) (done a)
   same_outcome : (c : Cause) (f q : ℕ) → Kept (number c) → FinerOutcome (refusal c f q 0) (refusal c f q 0)
-  finer_outcome : (c : Cause) (q : ℕ) → Reason (number c) → FinerOutcome (refusal rule_missing other_file q 0) (refusal c other_file q 0)
+  finer_outcome : (c : Cause) (q : ℕ) → Reason (number c) → FinerOutcome (refusal RuleMissing other_file q 0) (refusal c other_file q 0)
 
 in_proof : {A : Type 0} {r r' : Result A} → FinerResult r r' → FinerOutcome (in_file other_file r done) (in_file other_file r' done)
 in_proof (same_value a) = same_success a
@@ -132,7 +132,7 @@ on_proof_lem value t p =
 same_answer : (n f q k : ℕ) → Kept n → Finer (answer.refusal n f q k) (answer.refusal n f q k)
 same_answer n f q k z = unchanged (answer.refusal n f q k) z
 
-twenty : (c : Cause) (q : ℕ) → Reason (number c) → Finer (answer.refusal (number rule_missing) 2 q 0) (answer.refusal (number c) 2 q 0)
+twenty : (c : Cause) (q : ℕ) → Reason (number c) → Finer (answer.refusal (number RuleMissing) 2 q 0) (answer.refusal (number c) 2 q 0)
 unfolding number
 twenty c q k = refined (number c) q k
 

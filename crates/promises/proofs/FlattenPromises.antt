@@ -10,7 +10,7 @@ use lib.ListN.{length}
 use borrow.Author.Tests.{le-ltb}
 use Rattle.format.specs.declared.values.Goal.{Goal}
 use Rattle.format.specs.Encoding.{Bytes}
-use Rattle.format.specs.Refusals.{Cause, remaining_differ}
+use Rattle.format.specs.Refusals.{Cause, RemainingDiffer}
 use Rattle.format.specs.Results.{Result, gives, refused, and_then}
 use Rattle.format.specs.Terms.{fields}
 use Rattle.format.proofs.ResultLaws.{same_value}
@@ -189,9 +189,9 @@ module _ {A B : Type 0} (value : Table → Proof → A) (other : Table → Proof
   checked_alike T x = by_walk (walk T x.term (term_place x) x.goals)
     where
       by_comparison : (b : Bool)
-          → Alike (in_file other_file (cond b (gives (value T x)) (refused remaining_differ (remaining_place x))) done) (in_file other_file (cond b (gives (other T x)) (refused remaining_differ (remaining_place x))) done)
+          → Alike (in_file other_file (cond b (gives (value T x)) (refused RemainingDiffer (remaining_place x))) done) (in_file other_file (cond b (gives (other T x)) (refused RemainingDiffer (remaining_place x))) done)
       by_comparison true = both_done (value T x) (other T x)
-      by_comparison false = both_refused remaining_differ other_file (remaining_place x)
+      by_comparison false = both_refused RemainingDiffer other_file (remaining_place x)
 
       by_walk : (r : Result (List Goal)) → Alike (in_file other_file (and_then r (remaining_are x (value T x))) done) (in_file other_file (and_then r (remaining_are x (other T x))) done)
       by_walk (gives h) = by_comparison (same_goals h x.remaining)

@@ -8,7 +8,7 @@ use mathlib.Core.List.{List, ◌++◌}
 use lib.ListN.{length, take, drop, replicate}
 use lib.Seq.{take_at}
 use borrow.Author.Tests.{lt-ltb, le-ltb}
-use Rattle.format.specs.Refusals.{Cause, number, output_too_short}
+use Rattle.format.specs.Refusals.{Cause, number, OutputTooShort}
 use Rattle.format.specs.Results.{Result, gives, refused}
 use Rattle.format.proofs.ResultLaws.{number_positive}
 use Rattle.answers.specs.Answers as answer
@@ -60,14 +60,14 @@ module _ (table other work out : List ℕ) (Own : (number file place steps : ℕ
   refuses : (c : Cause) (f q k : ℕ) (w : List ℕ) → EndedWriting table other Own (answer.refusal (number c) f q k) → E (record { answer = answer.refusal (number c) f q k; work = w; out = out })
   refuses c f q k w e = record { answers = e; refused = λ z. (refl, refl); succeeded = λ z. absurd (omega (arith, z, number_positive c)) }
 
-  over : (k : ℕ) → EndedWriting table other Own (answer.refusal (number output_too_short) 0 0 k)
+  over : (k : ℕ) → EndedWriting table other Own (answer.refusal (number OutputTooShort) 0 0 k)
   unfolding number
   over k = ended_output k
 
   -- 26, or the result
   by_output : (b : List ℕ) (k : ℕ) → Dec (length out < length b) → E (write_out work out (success b k))
   unfolding write_out
-  by_output b k (yes h) = rw (lt-ltb (length out) (length b) h) (refuses output_too_short 0 0 k (replicate (length work) 0) (over k))
+  by_output b k (yes h) = rw (lt-ltb (length out) (length b) h) (refuses OutputTooShort 0 0 k (replicate (length work) 0) (over k))
   by_output b k (no h) =
       rw
       (le-ltb (length out) (length b) (omega arith))

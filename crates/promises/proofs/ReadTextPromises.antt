@@ -10,7 +10,7 @@ use native.Mathlib.Decide.{dec_lt}
 use lib.ListN.{length}
 use borrow.Author.Tests.{lt-ltb, le-ltb}
 use Rattle.format.specs.Limits.{most_bytes}
-use Rattle.format.specs.Refusals.{Cause, number, input_too_long, limit_passed, text_wrong, value_too_large}
+use Rattle.format.specs.Refusals.{Cause, number, InputTooLong, LimitPassed, TextWrong, ValueTooLarge}
 use Rattle.format.specs.Results.{Result, gives, refused}
 use Rattle.format.proofs.ResultLaws.{number_positive, same_cause}
 use Rattle.format.specs.Terms.{Term}
@@ -100,12 +100,12 @@ read_text-reads text work out h = record {
   no_room = λ t x k. answer_of text work out h (gives t) (reads_text_lem text t x.short x.reads x.values x.few) ∙ too_short text work out h t k;
 }
 
-first_number : number input_too_long ≡ 1
+first_number : number InputTooLong ≡ 1
 unfolding number
 first_number = refl
 
 pub read_text_too_long : ReadText-too-long
-read_text_too_long text work out h l = to_refusal text work out h input_too_long 0 (too_long text l) ∙ ap (λ (n : ℕ). answer.refusal n 2 0 0) first_number
+read_text_too_long text work out h l = to_refusal text work out h InputTooLong 0 (too_long text l) ∙ ap (λ (n : ℕ). answer.refusal n 2 0 0) first_number
 
 -- what each of the three is met as
 module _ (text work out : List ℕ) (p : ℕ) (h : read_text_work ≤ length work) (l : length text ≤ 65535) where
@@ -131,7 +131,7 @@ module _ (text work out : List ℕ) (p : ℕ) (h : read_text_work ≤ length wor
   other_cause : (c d : Cause) (q : ℕ) → parse text ≡ refused c p → parse text ≡ refused d q → number c ≡ number d
   other_cause c d q e f = let m : ◌≡◌ {A = Result Term} (refused c p) (refused d q) = sym e ∙ f in ap number (same_cause m)
 
-  numbers : (number value_too_large ≡ 37) × (number limit_passed ≡ 5) × (number text_wrong ≡ 36)
+  numbers : (number ValueTooLarge ≡ 37) × (number LimitPassed ≡ 5) × (number TextWrong ≡ 36)
   unfolding number
   numbers = (refl, refl, refl)
 
@@ -139,20 +139,20 @@ module _ (text work out : List ℕ) (p : ℕ) (h : read_text_work ≤ length wor
   refuses_text = record {
     large = (
       λ e. let x = from_refusal text work out h 37 p (λ z. omega (arith, z)) e in as_large x.0 (text_refused text x.0 p l x.1) x.2,
-      λ w. to_refusal text work out h value_too_large p (reads_large text p l w) ∙ ap (λ (n : ℕ). answer.refusal n 2 p 0) numbers.0,
+      λ w. to_refusal text work out h ValueTooLarge p (reads_large text p l w) ∙ ap (λ (n : ℕ). answer.refusal n 2 p 0) numbers.0,
     );
     full = (
       λ e. let x = from_refusal text work out h 5 p (λ z. omega (arith, z)) e in as_full x.0 (text_refused text x.0 p l x.1) x.2,
-      λ w. to_refusal text work out h limit_passed p (reads_full text p l w) ∙ ap (λ (n : ℕ). answer.refusal n 2 p 0) numbers.1,
+      λ w. to_refusal text work out h LimitPassed p (reads_full text p l w) ∙ ap (λ (n : ℕ). answer.refusal n 2 p 0) numbers.1,
     );
     wrong = (
       λ e.
           let x = from_refusal text work out h 36 p (λ z. omega (arith, z)) e in (
             as_wrong x.0 (text_refused text x.0 p l x.1) x.2,
-            λ q w. omega (arith, x.2, numbers.0, other_cause x.0 value_too_large q x.1 (reads_large text q l w)),
-            λ q w. omega (arith, x.2, numbers.1, other_cause x.0 limit_passed q x.1 (reads_full text q l w)),
+            λ q w. omega (arith, x.2, numbers.0, other_cause x.0 ValueTooLarge q x.1 (reads_large text q l w)),
+            λ q w. omega (arith, x.2, numbers.1, other_cause x.0 LimitPassed q x.1 (reads_full text q l w)),
           ),
-      λ w. to_refusal text work out h text_wrong p (reads_wrong text p l w.0 w.1 w.2) ∙ ap (λ (n : ℕ). answer.refusal n 2 p 0) numbers.2,
+      λ w. to_refusal text work out h TextWrong p (reads_wrong text p l w.0 w.1 w.2) ∙ ap (λ (n : ℕ). answer.refusal n 2 p 0) numbers.2,
     );
   }
 
@@ -162,13 +162,13 @@ read_text_refuses text work out p h l = refuses_text text work out p h l
 -- demand 1
 own : (text : List ℕ) (c : Cause) (p : ℕ) → Verdict text c p → Comes {A = List ℕ} [] text (ReadTextRefuses text) (outcomes.refusal c other_file p 0)
 unfolding number
-own text c p (wrong w) = comes_own text_wrong p (inl refl, verdict_place (wrong w))
-own text c p (over w) = comes_own value_too_large p (inr refl, verdict_place (over w))
-own text c p (fulls w) = comes_other limit_passed p (omega arith) (omega arith) (verdict_place (fulls w))
+own text c p (wrong w) = comes_own TextWrong p (inl refl, verdict_place (wrong w))
+own text c p (over w) = comes_own ValueTooLarge p (inr refl, verdict_place (over w))
+own text c p (fulls w) = comes_other LimitPassed p (omega arith) (omega arith) (verdict_place (fulls w))
 
-long : (text : List ℕ) → Comes {A = List ℕ} [] text (ReadTextRefuses text) (outcomes.refusal input_too_long other_file 0 0)
+long : (text : List ℕ) → Comes {A = List ℕ} [] text (ReadTextRefuses text) (outcomes.refusal InputTooLong other_file 0 0)
 unfolding number
-long text = comes_other input_too_long 0 (omega arith) (omega arith) (omega arith)
+long text = comes_other InputTooLong 0 (omega arith) (omega arith) (omega arith)
 
 comes_text : (text : List ℕ) → Comes [] text (ReadTextRefuses text) (read_text_outcome text)
 unfolding read_text_outcome
@@ -197,7 +197,7 @@ no_field text work out = by_work (dec_lt (length work) read_text_work)
     by_room h t e (no k) l m = omega (arith, l, m, ap (λ (a : Answer). a.number) (answer_of text work out h (gives t) e ∙ ap (λ (x : Written). x.answer) (fits text work out h t (omega arith))))
 
     refused_with : (h : read_text_work ≤ length work) (c : Cause) (p : ℕ) → parse text ≡ refused c p → Dec (most_bytes < length text) → 2 ≤ number c → number c ≤ 4 → ⊥
-    refused_with h c p e (yes k) l m = let q : ◌≡◌ {A = Result Term} (refused input_too_long 0) (refused c p) = sym (too_long text k) ∙ e in omega (arith, l, first_number, ap number (same_cause q))
+    refused_with h c p e (yes k) l m = let q : ◌≡◌ {A = Result Term} (refused InputTooLong 0) (refused c p) = sym (too_long text k) ∙ e in omega (arith, l, first_number, ap number (same_cause q))
     refused_with h c p e (no k) l m = unfielded text c p (text_refused text c p (omega arith) e) l m
 
     by_parse : (h : read_text_work ≤ length work) (r : Result Term) → parse text ≡ r → 2 ≤ (read_text text work out).answer.number → (read_text text work out).answer.number ≤ 4 → ⊥

@@ -8,7 +8,7 @@ use mathlib.Core.List.{List, []}
 use lib.ListN.{length}
 use Rattle.format.specs.declared.values.Goal.{Goal}
 use Rattle.format.specs.Limits.{most_entries}
-use Rattle.format.specs.Refusals.{entries_too_many}
+use Rattle.format.specs.Refusals.{EntriesTooMany}
 use Rattle.format.specs.Results.{gives}
 use Rattle.rule_set.specs.Different.{different, SetSize}
 use Rattle.tables.specs.Tables.{Table, HasRule}
@@ -99,7 +99,7 @@ rules_alike t p table_bytes_lem proof-bytes a f v o e =
     alike t p f a.the_table a.the_proof d a.table_reads a.proof_reads (ap read_flat (sym same) ∙ flat.reads t p table_bytes_lem proof-bytes a) a.validates (flat.derives t p table_bytes_lem proof-bytes a) refl
 
 -- a derivation of over 2,048 entries is not written
-too_many : (t f : List ℕ) (r : Right t f) → most_entries < length r.the_derivation.entries → write_outcome t f ≡ refusal entries_too_many other_file 0 0
+too_many : (t f : List ℕ) (r : Right t f) → most_entries < length r.the_derivation.entries → write_outcome t f ≡ refusal EntriesTooMany other_file 0 0
 unfolding write_outcome
 too_many t f r l = rw (r.table_reads, r.flat_reads, back.too_many t f r.the_table r.the_derivation r.flat_reads l)
 
@@ -121,5 +121,5 @@ rules_back t f bytes r p v o e = by_entries (dec_lt most_entries (length r.the_d
         (written-forest r.the_table (entries_place d) d.roots d.entries (back.walks t f bytes r l) (back.few_leaves t f bytes r l))
 
     by_entries : Dec (most_entries < length r.the_derivation.entries) → CountedAlike t p f
-    by_entries (yes l) = absurd (never_wrote write_proof_work v o p entries_too_many other_file 0 0 (sym (ap (write_in write_proof_work v o) (too_many t f r l)) ∙ e))
+    by_entries (yes l) = absurd (never_wrote write_proof_work v o p EntriesTooMany other_file 0 0 (sym (ap (write_in write_proof_work v o) (too_many t f r l)) ∙ e))
     by_entries (no l) = few (omega arith)

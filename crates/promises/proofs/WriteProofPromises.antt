@@ -11,7 +11,7 @@ use borrow.Author.Tests.{lt-ltb, le-ltb}
 use Rattle.format.specs.declared.values.Goal.{Goal}
 use Rattle.format.specs.Encoding.{Bytes}
 use Rattle.format.specs.Limits.{most_entries}
-use Rattle.format.specs.Refusals.{Cause, number, entries_too_many}
+use Rattle.format.specs.Refusals.{Cause, number, EntriesTooMany}
 use Rattle.format.proofs.ResultLaws.{same_place, same_cause}
 use Rattle.format.specs.Results.{Result, gives, refused, and_then}
 use Rattle.format.specs.Terms.{Term, fields}
@@ -147,7 +147,7 @@ writes_back t f bytes r few = back t f bytes r few
 
 -- demand 1
 module _ (t f : List ℕ) (T : Table) (d : Derivation) (g : read_flat f ≡ gives d) where
-  pub too_many : most_entries < length d.entries → written_file T d (length f) ≡ refused entries_too_many 0
+  pub too_many : most_entries < length d.entries → written_file T d (length f) ≡ refused EntriesTooMany 0
   unfolding written_file
   too_many h = rw (lt-ltb most_entries (length d.entries) h)
 
@@ -155,7 +155,7 @@ module _ (t f : List ℕ) (T : Table) (d : Derivation) (g : read_flat f ≡ give
   unfolding written_file
   enough h = rw (le-ltb most_entries (length d.entries) h)
 
-  number_28 : number entries_too_many ≡ 28
+  number_28 : number EntriesTooMany ≡ 28
   unfolding number
   number_28 = refl
 

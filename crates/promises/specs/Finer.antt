@@ -2,7 +2,7 @@
 -- and with the counts of now, so that P6's rules are among them.
 use Rattle.std.specs.Prelude.{ℕ, ◌+◌, ◌≡◌, cond, ◌⊎◌, List, [], ◌∷◌, ◌++◌, ltb, length, take, drop}
 use Rattle.format.specs.declared.values.Goal.{Goal}
-use Rattle.format.specs.Refusals.{rule_missing}
+use Rattle.format.specs.Refusals.{RuleMissing}
 use Rattle.format.specs.Results.{Result, gives, refused, and_then}
 use Rattle.format.specs.Terms.{Term, atomic, id, label, sequence, tensor, empty, alternation, assert, defined, size}
 use Rattle.tables.specs.Tables.{Table}
@@ -19,7 +19,7 @@ use Rattle.entries.specs.Check.{remaining_are, proof_counts, forest_file, check_
 
 -- "20: hiproof does not validate; place of the first term in the walk that cannot take its goals", for whatever reason: the cause that still has the number 20
 abbrev pub refused_before : (place : ℕ) → Result (List Goal)
-refused_before p = refused rule_missing p
+refused_before p = refused RuleMissing p
 
 -- the walk before P5: one number for every term that cannot take its goals
 unfoldable pub one_goal_before : (place : ℕ) → (Goal → Result (List Goal)) → List Goal → Result (List Goal)
@@ -32,7 +32,7 @@ no_goal_before p [] = gives []
 no_goal_before p (γ ∷ g) = refused_before p
 
 unfoldable pub walk_before : Table → Term → (place : ℕ) → List Goal → Result (List Goal)
-walk_before T (atomic a) p g = one_goal_before p (λ γ. premises_or rule_missing p (find_rule T a γ)) g
+walk_before T (atomic a) p g = one_goal_before p (λ γ. premises_or RuleMissing p (find_rule T a γ)) g
 walk_before T id p g = one_goal_before p (λ γ. gives (γ ∷ [])) g
 walk_before T (label l s) p g = one_goal_before p (λ γ. walk_before T s (p + 5) (γ ∷ [])) g
 walk_before T (sequence s t) p g = and_then (walk_before T s (p + 3) g) (λ h. walk_before T t (p + 3 + size s) h)

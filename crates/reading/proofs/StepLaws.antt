@@ -13,7 +13,7 @@ use Rattle.words.proofs.KeptLaws.{kept_same}
 use Rattle.format.specs.declared.headers.HeaderRead.{HeaderRead}
 use Rattle.format.specs.declared.headers.HeaderRead.TheVariants as H
 use Rattle.format.specs.Limits.{most_goals}
-use Rattle.format.specs.Refusals.{number, length_wrong, limit_passed}
+use Rattle.format.specs.Refusals.{number, LengthWrong, LimitPassed}
 use Rattle.format.proofs.HeaderLaws.{IsField, is_field, told-field}
 use Rattle.format.proofs.TableTags.{table_tag, lowest_least, two_bytes}
 use Rattle.parts.specs.declared.state.State.{State}
@@ -142,7 +142,7 @@ module _ (s w : List ℕ) (base : ℕ) (x : State) (r : Reading s w base x) (m :
     unfolding remaining_taken weight
     remaining_good n h = go (eqb close x.end) refl
       where
-        go : (t : Bool) → eqb close x.end ≡ t → Good (cond t (asking (counted x x.goals x.first n x.from x.rest x.field) 2 x.part close x.end) (refusing x (number length_wrong) close))
+        go : (t : Bool) → eqb close x.end ≡ t → Good (cond t (asking (counted x x.goals x.first n x.from x.rest x.field) 2 x.part close x.end) (refusing x (number LengthWrong) close))
         go true e = (
           record {
             going = bare_going s w base r.going.room _ none_waits F.contents (omega (arith, whole_file)) refl (omega arith);
@@ -163,7 +163,7 @@ module _ (s w : List ℕ) (base : ℕ) (x : State) (r : Reading s w base x) (m :
         y : State
         y = counted x n x.first x.second close x.rest x.field
 
-        go : (b c d e : Bool) → Good (cond b (refusing x (number limit_passed) x.at) (cond c (remaining_taken x n close) (cond d (next_entry s y close) (cond e (asking y 1 7 close x.end) (asking y 1 8 close x.end)))))
+        go : (b c d e : Bool) → Good (cond b (refusing x (number LimitPassed) x.at) (cond c (remaining_taken x n close) (cond d (next_entry s y close) (cond e (asking y 1 7 close x.end) (asking y 1 8 close x.end)))))
         go true c d e = refused_good _ _
         go false true d e = remaining_good n h
         go false false true e = from_fresh close _ (omega arith) closes (fresh_next s w base r.going.room y close none_waits (omega (arith, r.counts)) (omega (arith, r.counts)) 1 (omega arith) closes)
@@ -243,8 +243,8 @@ module _ (s w : List ℕ) (base : ℕ) (x : State) (r : Reading s w base x) (m :
       behind_good = go (eqb y.part 6) (eqb y.part 7) (eqb y.at (end_of s y.field)) (eqb y.at (length s)) refl
         where
           go : (b c d e : Bool) → eqb y.part 6 ≡ b
-              → Good' (cond b (cond d (next_field s (counted y y.goals y.first (y.second + 1) y.from y.rest y.field) y.at) (refusing y (number length_wrong) y.field))
-              (cond c (cond e y (refusing y (number length_wrong) y.at)) (asking (counted y y.goals y.first y.second y.from y.at y.field) 1 5 y.at (length s))))
+              → Good' (cond b (cond d (next_field s (counted y y.goals y.first (y.second + 1) y.from y.rest y.field) y.at) (refusing y (number LengthWrong) y.field))
+              (cond c (cond e y (refusing y (number LengthWrong) y.at)) (asking (counted y y.goals y.first y.second y.from y.at y.field) 1 5 y.at (length s))))
           go true c true e p = from_behind _ (fresh_next s w' base t.moved.going.room (counted y y.goals y.first (y.second + 1) y.from y.rest y.field) y.at (t.bare n) counted-less.0 (omega (arith, (in_body (eqb-true y.part 6 p)).1)) 2 (omega arith) inside_file)
           go true c false e p = refused_behind _ _
           go false true d true p = (same_reading, t.moved.less)

@@ -10,7 +10,7 @@ use Rattle.format.specs.declared.headers.HeaderRead.TheVariants as H
 use Rattle.format.specs.TermRead.{TermRead}
 use Rattle.format.specs.TermRead.{Refused, Read}
 use Rattle.format.specs.Limits.{most_term_fields}
-use Rattle.format.specs.Refusals.{number, length_wrong}
+use Rattle.format.specs.Refusals.{number, LengthWrong}
 use Rattle.format.specs.Results.{Result, gives, refused, and_then, told}
 use Rattle.format.specs.Tags.{least_of, inner_of, hiproof_kind}
 use Rattle.format.specs.Headers.{Header, header}
@@ -44,7 +44,7 @@ closed-ending : (at end : ℕ) (t : Term) (next n : ℕ) → term_shape (closed 
 unfolding term_shape told closed ending
 closed-ending at end t next n = go (eqb next end)
   where
-    go : (b : Bool) → told Refused (λ u. Read u.next u.count) (cond b (gives (parsed_term t next n)) (refused length_wrong at)) ≡ cond b (Read next n) (Refused (number length_wrong) at)
+    go : (b : Bool) → told Refused (λ u. Read u.next u.count) (cond b (gives (parsed_term t next n)) (refused LengthWrong at)) ≡ cond b (Read next n) (Refused (number LengthWrong) at)
     go true = refl
     go false = refl
 
@@ -52,7 +52,7 @@ within-ending : (at end close next n : ℕ) → at + 3 ≤ next → next ≤ end
 unfolding Within ending
 within-ending at end close next n l h = go (eqb next close)
   where
-    go : (b : Bool) → Within at end (cond b (Read next n) (Refused (number length_wrong) at))
+    go : (b : Bool) → Within at end (cond b (Read next n) (Refused (number LengthWrong) at))
     go true = (l, h)
     go false = tt
 

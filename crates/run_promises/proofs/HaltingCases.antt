@@ -12,7 +12,7 @@ use lib.Dec.{ltb}
 use lib.ListN.{length, take, drop, replicate}
 use lib.Seq.{take_at}
 use Rattle.format.specs.Limits.{most_steps}
-use Rattle.format.specs.Refusals.{number, joined_too_long, fields_too_many, budget_spent, budget_too_large}
+use Rattle.format.specs.Refusals.{number, JoinedTooLong, FieldsTooMany, BudgetSpent, BudgetTooLarge}
 use Rattle.format.specs.Results.{Result, gives, refused}
 use Rattle.tables.specs.Tables.{Table}
 use Rattle.tables.specs.ReadTables.{read_table}
@@ -52,7 +52,7 @@ abbrev pub ResumeMay : (number : ℕ) → Type 0
 ResumeMay k = RunMay k ⊎ (k ≡ 30)
 
 pub data HaltingComes (May : (number : ℕ) → Type 0) (t f : List ℕ) (n : ℕ) : HaltingOutcome → Type 0 where
-  comes_halted : (x : HaltsAfter t f n) → length (contents_of x) ≤ saved_size → HaltingComes May t f n (record { outcome = refusal budget_spent 0 0 n; saved = some (zeros_to saved_size (contents_of x)) })
+  comes_halted : (x : HaltsAfter t f n) → length (contents_of x) ≤ saved_size → HaltingComes May t f n (record { outcome = refusal BudgetSpent 0 0 n; saved = some (zeros_to saved_size (contents_of x)) })
   comes_ended : (o : Outcome (List ℕ)) → Refused May o → HaltingComes May t f n (unbegun o)
 
 -- a run of a table and a job that were read
@@ -69,8 +69,8 @@ module _ (t f : List ℕ) (T : Table) (j : Job) (e : read_table t ≡ gives T) (
       go : (x : End) → ending_of x ≡ ended c → RunMay (number c)
       go (proof s h) p = absurd (let z : ◌≡◌ {A = ℕ} 0 1 = cc in omega arith)
       go failure p = absurd (let z : ◌≡◌ {A = ℕ} 0 1 = cc in omega arith)
-      go overflow p = let z : joined_too_long ≡ c = cc in inl (omega (arith, ap number z))
-      go excess p = let z : fields_too_many ≡ c = cc in inr (inr (sym (ap number z)))
+      go overflow p = let z : JoinedTooLong ≡ c = cc in inl (omega (arith, ap number z))
+      go excess p = let z : FieldsTooMany ≡ c = cc in inr (inr (sym (ap number z)))
 
   module _ (l : n ≤ most_steps) where
     by_control : (k : ℕ) (κ : Control) → run T n (begins j) ≡ after k κ → HaltingComes RunMay t f n (record { outcome = run_end j k κ; saved = saved_in k κ })
@@ -79,7 +79,7 @@ module _ (t f : List ℕ) (T : Table) (j : Job) (e : read_table t ≡ gives T) (
         let r : Running (run T n (begins j)).control = subst (λ (σ : State). Running σ.control) (sym q) tt in
         let s : k ≡ n = ap (λ (σ : State). σ.steps) (sym q) ∙ spent_steps T n (at_job j) j.term j.goals r in
         let p : run T n (begins j) ≡ after n (running π u h w) = q ∙ ap (λ (m : ℕ). after m (running π u h w)) s in
-        subst (λ (m : ℕ). HaltingComes RunMay t f n (record { outcome = refusal budget_spent 0 0 m; saved = some (zeros_to saved_size (saved_contents m π h w)) })) (sym s)
+        subst (λ (m : ℕ). HaltingComes RunMay t f n (record { outcome = refusal BudgetSpent 0 0 m; saved = some (zeros_to saved_size (saved_contents m π h w)) })) (sym s)
         (comes_halted (record { table = T; job = j; table_read = e; job_read = g; place = π; term = u; goals = h; waiting = w; stands = p }) (contents_fit t f T j e g n l n π u h w p))
     by_control k (stopped x) q = comes_ended (run_end j k (stopped x)) (ended_refused k x q)
 
@@ -107,7 +107,7 @@ module _ (t f : List ℕ) (b : ℕ) where
 
   by_budget : Dec (most_steps < b) → C (halting_outcome t f b)
   unfolding halting_outcome number
-  by_budget (yes l) = subst C (sym (over_limit t f b next l)) (comes_ended (refusal budget_too_large 0 0 0) (inr (inl refl)))
+  by_budget (yes l) = subst C (sym (over_limit t f b next l)) (comes_ended (refusal BudgetTooLarge 0 0 0) (inr (inl refl)))
   by_budget (no l) = by_table (omega arith) (read_table t) refl
 
   pub halting_comes : C (halting_outcome t f b)
@@ -159,10 +159,10 @@ module _ (w : List ℕ) (fs : List LentFrame) (o st : List ℕ) where
 
   -- a halt, in spaces that suffice
   pub lent_halt : Enough w fs st → (n : ℕ) (c : List ℕ) → length c ≤ saved_size
-      → call (record { outcome = refusal budget_spent 0 0 n; saved = some (zeros_to saved_size c) }) ≡ halted_after n c w fs o st
+      → call (record { outcome = refusal BudgetSpent 0 0 n; saved = some (zeros_to saved_size c) }) ≡ halted_after n c w fs o st
   unfolding write_out save_in number
   lent_halt l n c fit =
-      lent_enough w fs o st l (record { outcome = refusal budget_spent 0 0 n; saved = some (zeros_to saved_size c) })
+      lent_enough w fs o st l (record { outcome = refusal BudgetSpent 0 0 n; saved = some (zeros_to saved_size c) })
       ∙ ap (λ (k : ℕ). record { answer = answer.refusal 24 0 0 n; work = replicate (length w) 0; frames = replicate (length fs) no_frame; out = o; state = zeros_to saved_size c ++ drop k st })
       (zeros_length saved_size c fit)
 
@@ -191,7 +191,7 @@ module _ (w : List ℕ) (fs : List LentFrame) (o st : List ℕ) where
     pub saved_first : (h : HaltingOutcome) → HaltingComes May t f n h → (call h).answer.number ≡ 24 → (s : List ℕ) × (h.saved ≡ some s) × (take saved_size (call h).state ≡ s)
     saved_first h (comes_halted x fit) z =
         let s = zeros_to saved_size (contents_of x) in
-        let q = lent_halt (spent_enough (record { outcome = refusal budget_spent 0 0 n; saved = some s }) z) n (contents_of x) fit in
+        let q = lent_halt (spent_enough (record { outcome = refusal BudgetSpent 0 0 n; saved = some s }) z) n (contents_of x) fit in
         (s, refl, ap (λ (y : Halting). take saved_size y.state) q ∙ take_at s (drop saved_size st) saved_size (zeros_length saved_size (contents_of x) fit))
     saved_first h (comes_ended x r) z = absurd (ended_24 (spent_enough (unbegun x) z) x r z)
 
@@ -203,5 +203,5 @@ module _ (w : List ℕ) (fs : List LentFrame) (o st : List ℕ) where
     -- an answer other than 24 has no saved state
     pub unsaved : Enough w fs st → (h : HaltingOutcome) → HaltingComes May t f n h → ((call h).answer.number ≡ 24 → ⊥) → h.saved ≡ none
     unsaved l h (comes_halted x fit) d =
-        absurd (d (saved_answer l (record { outcome = refusal budget_spent 0 0 n; saved = some (zeros_to saved_size (contents_of x)) }) (comes_halted x fit) (zeros_to saved_size (contents_of x)) refl))
+        absurd (d (saved_answer l (record { outcome = refusal BudgetSpent 0 0 n; saved = some (zeros_to saved_size (contents_of x)) }) (comes_halted x fit) (zeros_to saved_size (contents_of x)) refl))
     unsaved l h (comes_ended x r) d = refl

@@ -7,7 +7,7 @@ use mathlib.Core.Option.{none, some, none-ne-some}
 use lib.ListN.{length}
 use borrow.Author.Tests.{le-ltb}
 use Rattle.format.specs.Limits.{most_steps}
-use Rattle.format.specs.Refusals.{number, budget_spent}
+use Rattle.format.specs.Refusals.{number, BudgetSpent}
 use Rattle.format.specs.Results.{Result, gives, refused}
 use Rattle.tables.specs.Tables.{Table}
 use Rattle.tables.specs.ReadTables.{read_table}
@@ -51,7 +51,7 @@ state_size t f n l x = contents_fit t f x.table x.job x.table_read x.job_read n 
 
 -- HALTS: a run that has not ended is a halt, with all of its answer and every byte of the lent spaces.
 halts_at : (t f : List ℕ) (b : ℕ) → b ≤ most_steps → (x : HaltsAfter t f b)
-    → halting_outcome t f b ≡ record { outcome = refusal budget_spent 0 0 b; saved = some (zeros_to saved_size (promise.contents_of x)) }
+    → halting_outcome t f b ≡ record { outcome = refusal BudgetSpent 0 0 b; saved = some (zeros_to saved_size (promise.contents_of x)) }
 unfolding halting_outcome ran_for run_result run_end saved_state saved_in
 halts_at t f b l x =
     both_read t f b (λ T j. ran_for T j b) l x.table x.job x.table_read x.job_read

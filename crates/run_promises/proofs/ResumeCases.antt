@@ -7,7 +7,7 @@ use mathlib.Core.Logic.{inl, inr}
 use mathlib.Core.Bool.{Bool, true, false, false≢true}
 use mathlib.Core.List.{List}
 use Rattle.format.specs.Limits.{most_steps}
-use Rattle.format.specs.Refusals.{Cause, number, budget_too_large, state_not_genuine}
+use Rattle.format.specs.Refusals.{Cause, number, BudgetTooLarge, StateNotGenuine}
 use Rattle.format.specs.Results.{Result, gives, refused}
 use Rattle.tables.specs.Tables.{Table}
 use Rattle.tables.specs.ReadTables.{read_table}
@@ -24,7 +24,7 @@ is_false true d = absurd (d refl)
 is_false false d = refl
 
 module _ (t f s : List ℕ) (c : ℕ) where
-  pub resume_over : most_steps < steps_of s + c → resume_outcome t f s c ≡ unbegun (refusal budget_too_large 0 0 0)
+  pub resume_over : most_steps < steps_of s + c → resume_outcome t f s c ≡ unbegun (refusal BudgetTooLarge 0 0 0)
   unfolding resume_outcome
   resume_over l = over_limit t f (steps_of s + c) (going_on s c) l
 
@@ -39,7 +39,7 @@ module _ (t f s : List ℕ) (c : ℕ) where
       resume_job x p g = job_refused t f (steps_of s + c) (going_on s c) l T e x p g
 
       module _ (j : Job) (g : read_job f ≡ gives j) where
-        pub resume_forged : (genuine T j s ≡ true → ⊥) → resume_outcome t f s c ≡ unbegun (refusal state_not_genuine 0 0 0)
+        pub resume_forged : (genuine T j s ≡ true → ⊥) → resume_outcome t f s c ≡ unbegun (refusal StateNotGenuine 0 0 0)
         unfolding resume_outcome
         resume_forged d = both_read t f (steps_of s + c) (going_on s c) l T j e g ∙ not_genuine T j s c (is_false (genuine T j s) d)
 
@@ -50,10 +50,10 @@ module _ (t f s : List ℕ) (c : ℕ) where
 
 -- the five of them
 pub data Resumes (t f s : List ℕ) (c : ℕ) : HaltingOutcome → Type 0 where
-  over : most_steps < steps_of s + c → Resumes t f s c (unbegun (refusal budget_too_large 0 0 0))
+  over : most_steps < steps_of s + c → Resumes t f s c (unbegun (refusal BudgetTooLarge 0 0 0))
   in_table : steps_of s + c ≤ most_steps → (x : Cause) (p : ℕ) → read_table t ≡ refused x p → Resumes t f s c (unbegun (refusal x 1 p 0))
   in_job : steps_of s + c ≤ most_steps → (x : Cause) (p : ℕ) → read_job f ≡ refused x p → Resumes t f s c (unbegun (refusal x 2 p 0))
-  forged : steps_of s + c ≤ most_steps → (T : Table) (j : Job) → read_table t ≡ gives T → read_job f ≡ gives j → (genuine T j s ≡ true → ⊥) → Resumes t f s c (unbegun (refusal state_not_genuine 0 0 0))
+  forged : steps_of s + c ≤ most_steps → (T : Table) (j : Job) → read_table t ≡ gives T → read_job f ≡ gives j → (genuine T j s ≡ true → ⊥) → Resumes t f s c (unbegun (refusal StateNotGenuine 0 0 0))
   as_run : steps_of s + c ≤ most_steps → Resumes t f s c (halting_outcome t f (steps_of s + c))
 
 module _ (t f s : List ℕ) (c : ℕ) where
@@ -90,8 +90,8 @@ more_come (comes_ended o r) = comes_ended o (more_may o r)
 
 pub resume_comes : (t f s : List ℕ) (c : ℕ) (h : HaltingOutcome) → Resumes t f s c h → HaltingComes ResumeMay t f (steps_of s + c) h
 unfolding number
-resume_comes t f s c h (over l) = comes_ended (refusal budget_too_large 0 0 0) (inl (inr (inl refl)))
+resume_comes t f s c h (over l) = comes_ended (refusal BudgetTooLarge 0 0 0) (inl (inr (inl refl)))
 resume_comes t f s c h (in_table l x p e) = comes_ended (refusal x 1 p 0) (inl (inl (omega (arith, (table_place t x p e).most))))
 resume_comes t f s c h (in_job l x p g) = comes_ended (refusal x 2 p 0) (inl (inl (omega (arith, (Job-refused f x p g).most))))
-resume_comes t f s c h (forged l T j e g d) = comes_ended (refusal state_not_genuine 0 0 0) (inr refl)
+resume_comes t f s c h (forged l T j e g d) = comes_ended (refusal StateNotGenuine 0 0 0) (inr refl)
 resume_comes t f s c h (as_run l) = more_come (halting_comes t f (steps_of s + c))

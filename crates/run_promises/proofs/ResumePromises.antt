@@ -11,7 +11,7 @@ use lib.ListN.{length, take}
 use borrow.Author.Tests.{lt-ltb, le-ltb}
 use Rattle.words.specs.Word.{word}
 use Rattle.format.specs.Limits.{most_steps}
-use Rattle.format.specs.Refusals.{Cause, number, budget_too_large, state_not_genuine}
+use Rattle.format.specs.Refusals.{Cause, number, BudgetTooLarge, StateNotGenuine}
 use Rattle.format.specs.Results.{Result, gives, refused}
 use Rattle.tables.specs.Tables.{Table}
 use Rattle.tables.specs.ReadTables.{read_table}
@@ -115,10 +115,10 @@ lent_refused w fs o st l x file p = lent_enough w fs o st l (unbegun (refusal x 
 pub resume_order : promise.Resume-order
 unfolding resume_run run_halting number
 resume_order t f s c w fs o st l = record {
-  budget = λ k. ap (halt_in w fs o st) (resume_over t f s c k) ∙ lent_refused w fs o st l budget_too_large 0 0;
+  budget = λ k. ap (halt_in w fs o st) (resume_over t f s c k) ∙ lent_refused w fs o st l BudgetTooLarge 0 0;
   table = λ k x p e. ap (halt_in w fs o st) (resume_table t f s c k x p e) ∙ lent_refused w fs o st l x 1 p;
   job = λ k T e x p g. ap (halt_in w fs o st) (resume_job t f s c k T e x p g) ∙ lent_refused w fs o st l x 2 p;
-  forged = λ k T j e g d. ap (halt_in w fs o st) (resume_forged t f s c k T e j g d) ∙ lent_refused w fs o st l state_not_genuine 0 0;
+  forged = λ k T j e g d. ap (halt_in w fs o st) (resume_forged t f s c k T e j g d) ∙ lent_refused w fs o st l StateNotGenuine 0 0;
   goes_on = λ k T j e g q. ap (halt_in w fs o st) (resume_run_lem t f s c k T e j g q);
 }
 
@@ -142,7 +142,7 @@ module _ (t f s : List ℕ) (c : ℕ) (w : List ℕ) (fs : List LentFrame) (o st
 
     to_forged : (h : HaltingOutcome) → Resumes t f s c h → (call h).answer.number ≡ 30 → Forged
     unfolding number
-    to_forged h (over k) z = absurd (omega (arith, refusal_30 budget_too_large 0 0 z))
+    to_forged h (over k) z = absurd (omega (arith, refusal_30 BudgetTooLarge 0 0 z))
     to_forged h (in_table k x p e) z = absurd (omega (arith, refusal_30 x 1 p z, (table_place t x p e).most))
     to_forged h (in_job k x p g) z = absurd (omega (arith, refusal_30 x 2 p z, (Job-refused f x p g).most))
     to_forged h (forged k T j e g d) z = (l, k, (T, j, e, g, d))
@@ -155,7 +155,7 @@ module _ (t f s : List ℕ) (c : ℕ) (w : List ℕ) (fs : List LentFrame) (o st
   of_forged : Forged → (call (resume_outcome t f s c)).answer.number ≡ 30
   unfolding number
   of_forged (l, k, (T, j, e, g, d)) =
-      ap (λ (h : HaltingOutcome). (call h).answer.number) (resume_forged t f s c k T e j g d) ∙ ap (λ (x : Halting). x.answer.number) (lent_refused w fs o st l state_not_genuine 0 0)
+      ap (λ (h : HaltingOutcome). (call h).answer.number) (resume_forged t f s c k T e j g d) ∙ ap (λ (x : Halting). x.answer.number) (lent_refused w fs o st l StateNotGenuine 0 0)
 
 pub not_genuine : promise.Not-genuine
 unfolding resume_run

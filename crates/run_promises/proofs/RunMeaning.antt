@@ -14,7 +14,7 @@ use Rattle.tables.specs.Tables.{Table}
 use Rattle.tables.specs.ReadTables.{read_table}
 use Rattle.tables.proofs.ReadsTable.{reads_unique_rules, reads_unique_definitions}
 use Rattle.files.specs.Jobs.{Job, read_job}
-use Rattle.format.specs.Refusals.{number, budget_spent}
+use Rattle.format.specs.Refusals.{number, BudgetSpent}
 use Rattle.answers.specs.declared.Answer as answer
 use Rattle.evaluation.specs.Machine.{Control, running, stopped, State, after, run, start}
 use Rattle.evaluation.proofs.ArityMeaning.{arity↔computed}
@@ -61,7 +61,7 @@ module _ (t f : List ℕ) (b c : ℕ) (h : b ≤ c) (l : c ≤ most_steps) (w o 
       by_control (running π a k v) q =
           let p = outcome t f b T j (omega arith) e g ∙ ap (run_result j) (ap (after σ.steps) q) in
           let r = p ∙ still_running t f b T j (omega arith) e g (running π a k v) tt σ.steps in
-          let spent = answer_of t f b T j (omega arith) e g w o enough budget_spent σ.steps r in
+          let spent = answer_of t f b T j (omega arith) e g w o enough BudgetSpent σ.steps r in
           absurd (unspent (ap (λ (x : answer.Answer). x.number) spent))
 
     by_job : (T : Table) → read_table t ≡ gives T → (r : Result Job) → read_job f ≡ r → run_outcome t f c ≡ run_outcome t f b

@@ -11,7 +11,7 @@ use borrow.Author.Tests.{lt-ltb, le-ltb}
 use Rattle.format.specs.declared.values.Goal.{Goal}
 use Rattle.format.specs.Encoding.{Bytes, GoalValues, TermValues}
 use Rattle.format.specs.Limits.{most_steps}
-use Rattle.format.specs.Refusals.{Cause, number, joined_too_long, fields_too_many, tactic_failed, budget_spent, budget_too_large}
+use Rattle.format.specs.Refusals.{Cause, number, JoinedTooLong, FieldsTooMany, TacticFailed, BudgetSpent, BudgetTooLarge}
 use Rattle.format.specs.Results.{Result, gives, refused}
 use Rattle.format.specs.Terms.{Term}
 use Rattle.tables.specs.Tables.{Table, HasRule, UniqueRules, UniqueDefinitions}
@@ -72,16 +72,16 @@ module _ (t f : List ℕ) (b : ℕ) (T : Table) (j : Job) (l : b ≤ most_steps)
   ended_so n x d h = outcome ∙ ap (run_result j) ((run↔ends T rules definitions (at_job j) j.term j.goals b n x).1 (d, h))
 
   -- and of one that has not
-  pub still_running : (κ : Control) → Running κ → (n : ℕ) → run_end j n κ ≡ refusal budget_spent 0 0 n
+  pub still_running : (κ : Control) → Running κ → (n : ℕ) → run_end j n κ ≡ refusal BudgetSpent 0 0 n
   unfolding run_end
   still_running (running π u h w) r n = refl
   still_running (stopped _) r n = elim r [ ]
 
-  spent_so : ((n : ℕ) (x : End) → Ends T FewHeld 0 j.goals j.term n x → n ≤ b → ⊥) → run_outcome t f b ≡ refusal budget_spent 0 0 b
+  spent_so : ((n : ℕ) (x : End) → Ends T FewHeld 0 j.goals j.term n x → n ≤ b → ⊥) → run_outcome t f b ≡ refusal BudgetSpent 0 0 b
   unfolding run_result
   spent_so none =
       let r = (running↔no_end T rules definitions (at_job j) j.term j.goals b).1 none in
-      outcome ∙ still_running σ.control r σ.steps ∙ ap (λ (n : ℕ). refusal budget_spent 0 0 n) (spent_steps T b (at_job j) j.term j.goals r)
+      outcome ∙ still_running σ.control r σ.steps ∙ ap (λ (n : ℕ). refusal BudgetSpent 0 0 n) (spent_steps T b (at_job j) j.term j.goals r)
 
   pub answer_of : (w o : List ℕ) → run_work ≤ length w → (c : Cause) (n : ℕ) → run_outcome t f b ≡ refusal c 0 0 n → (run_tactic t f b w o).answer ≡ answer.refusal (number c) 0 0 n
   unfolding run_tactic write_in write_out
@@ -94,19 +94,19 @@ module _ (t f : List ℕ) (b : ℕ) (T : Table) (j : Job) (l : b ≤ most_steps)
 
   fails : (n : ℕ) → Ends T FewHeld 0 j.goals j.term n failure → n ≤ b → (w o : List ℕ) → run_work ≤ length w → (run_tactic t f b w o).answer ≡ answer.refusal 23 0 0 n
   unfolding run_end number
-  fails n d k w o x = answer_of w o x tactic_failed n (ended_so n failure d k)
+  fails n d k w o x = answer_of w o x TacticFailed n (ended_so n failure d k)
 
   overflows : (n : ℕ) → Ends T FewHeld 0 j.goals j.term n overflow → n ≤ b → (w o : List ℕ) → run_work ≤ length w → (run_tactic t f b w o).answer ≡ answer.refusal 22 0 0 n
   unfolding run_end number
-  overflows n d k w o x = answer_of w o x joined_too_long n (ended_so n overflow d k)
+  overflows n d k w o x = answer_of w o x JoinedTooLong n (ended_so n overflow d k)
 
   exceeds : (n : ℕ) → Ends T FewHeld 0 j.goals j.term n excess → n ≤ b → (w o : List ℕ) → run_work ≤ length w → (run_tactic t f b w o).answer ≡ answer.refusal 40 0 0 n
   unfolding run_end number
-  exceeds n d k w o x = answer_of w o x fields_too_many n (ended_so n excess d k)
+  exceeds n d k w o x = answer_of w o x FieldsTooMany n (ended_so n excess d k)
 
   spends : ((n : ℕ) (x : End) → Ends T FewHeld 0 j.goals j.term n x → n ≤ b → ⊥) → (w o : List ℕ) → run_work ≤ length w → (run_tactic t f b w o).answer ≡ answer.refusal 24 0 0 b
   unfolding number
-  spends none w o x = answer_of w o x budget_spent b (spent_so none)
+  spends none w o x = answer_of w o x BudgetSpent b (spent_so none)
 
   -- demand 1, for a run that was begun
   steps_few : σ.steps ≤ b
@@ -119,7 +119,7 @@ module _ (t f : List ℕ) (b : ℕ) (T : Table) (j : Job) (l : b ≤ most_steps)
   unfolding Answers
   own c n x y z = ended-specs.EndedWriting.ended_own (number c) 0 0 n (refl, refl, inl (x, y, z))
 
-  late : (n : ℕ) → 4096 < n → n ≤ b → May (refusal fields_too_many 0 0 n)
+  late : (n : ℕ) → 4096 < n → n ≤ b → May (refusal FieldsTooMany 0 0 n)
   unfolding Answers number
   late n x z = ended-specs.EndedWriting.ended_own 40 0 0 n (refl, refl, inr (inl (refl, x, z)))
 
@@ -127,14 +127,14 @@ module _ (t f : List ℕ) (b : ℕ) (T : Table) (j : Job) (l : b ≤ most_steps)
   unfolding number
   by_limit c n (proof s h) q d l = absurd (let z : ◌≡◌ {A = ℕ} 0 1 = cc in omega arith)
   by_limit c n failure q d l = absurd (let z : ◌≡◌ {A = ℕ} 0 1 = cc in omega arith)
-  by_limit c n overflow q d l = let z : joined_too_long ≡ c = cc in subst (λ (x : Cause). May (refusal x 0 0 n)) z (own joined_too_long n (omega arith) (omega arith) l)
-  by_limit c n excess q d l = let z : fields_too_many ≡ c = cc in subst (λ (x : Cause). May (refusal x 0 0 n)) z (late n (excess_late d) l)
+  by_limit c n overflow q d l = let z : JoinedTooLong ≡ c = cc in subst (λ (x : Cause). May (refusal x 0 0 n)) z (own JoinedTooLong n (omega arith) (omega arith) l)
+  by_limit c n excess q d l = let z : FieldsTooMany ≡ c = cc in subst (λ (x : Cause). May (refusal x 0 0 n)) z (late n (excess_late d) l)
 
   by_control : (κ : Control) → σ.control ≡ κ → May (run_end j σ.steps κ)
   unfolding run_end Answers number
-  by_control (running π u h w) q = own budget_spent σ.steps (omega arith) (omega arith) steps_few
+  by_control (running π u h w) q = own BudgetSpent σ.steps (omega arith) (omega arith) steps_few
   by_control (stopped (proved s h)) q = tt
-  by_control (stopped failed) q = own tactic_failed σ.steps (omega arith) (omega arith) steps_few
+  by_control (stopped failed) q = own TacticFailed σ.steps (omega arith) (omega arith) steps_few
   by_control (stopped (ended c)) q =
       let r = run-ending T rules definitions (at_job j) j.term j.goals b σ.steps (ended c) (ap (λ (κ : Control). after σ.steps κ) q) in
       by_limit c σ.steps r.0 r.1 r.2 steps_few
@@ -186,7 +186,7 @@ module _ (t f : List ℕ) (b : ℕ) where
   abbrev Ok : Outcome (List ℕ) → Type 0
   Ok = Answers t f (RunRefuses b)
 
-  over_budget : most_steps < b → run_outcome t f b ≡ refusal budget_too_large 0 0 0
+  over_budget : most_steps < b → run_outcome t f b ≡ refusal BudgetTooLarge 0 0 0
   unfolding run_outcome
   over_budget h = rw (lt-ltb most_steps b h)
 
@@ -198,7 +198,7 @@ module _ (t f : List ℕ) (b : ℕ) where
   unfolding run_outcome
   job_refused h T c q e g = rw (le-ltb most_steps b h, e, g)
 
-  too_large : most_steps < b → Ok (refusal budget_too_large 0 0 0)
+  too_large : most_steps < b → Ok (refusal BudgetTooLarge 0 0 0)
   unfolding Answers number
   too_large h = ended-specs.EndedWriting.ended_own 25 0 0 0 (refl, refl, inr (inr (refl, h, refl)))
 

@@ -11,7 +11,7 @@ use borrow.Author.Tests.{lt-ltb, le-ltb}
 use Rattle.format.specs.declared.values.Goal.{Goal}
 use Rattle.format.specs.Encoding.{Bytes, GoalValues, TermValues}
 use Rattle.format.specs.Limits.{least_height, most_height, most_search_steps}
-use Rattle.format.specs.Refusals.{Cause, number, budget_spent, budget_too_large, no_evaluation, height_outside}
+use Rattle.format.specs.Refusals.{Cause, number, BudgetSpent, BudgetTooLarge, NoEvaluation, HeightOutside}
 use Rattle.format.specs.Results.{Result, gives, refused}
 use Rattle.format.specs.Terms.{Term}
 use Rattle.tables.specs.Tables.{Table, HasRule, UniqueRules, UniqueDefinitions}
@@ -97,16 +97,16 @@ module _ (t f : List ℕ) (T : Table) (j : Job) (e : read_table t ≡ gives T) (
 
         late : b < n → call.answer ≡ answer.refusal 24 0 0 b
         unfolding search_end number
-        late m = refuses budget_spent b (outcome ∙ ap (search_end j) (search_first_spent T h j.term j.goals b first m))
+        late m = refuses BudgetSpent b (outcome ∙ ap (search_end j) (search_first_spent T h j.term j.goals b first m))
 
       module _ (never : NoneFound (events_of T h j)) where
         none_known : length (events_of T h j) ≤ b → call.answer ≡ answer.refusal 41 0 0 (length (events_of T h j))
         unfolding search_end number
-        none_known m = refuses no_evaluation _ (outcome ∙ ap (search_end j) (search_none T h j.term j.goals b never m))
+        none_known m = refuses NoEvaluation _ (outcome ∙ ap (search_end j) (search_none T h j.term j.goals b never m))
 
         none_unknown : b < length (events_of T h j) → call.answer ≡ answer.refusal 24 0 0 b
         unfolding search_end number
-        none_unknown m = refuses budget_spent b (outcome ∙ ap (search_end j) (search_none_spent T h j.term j.goals b never m))
+        none_unknown m = refuses BudgetSpent b (outcome ∙ ap (search_end j) (search_none_spent T h j.term j.goals b never m))
 
       -- one of the four
       data Way : Type 0 where
@@ -274,23 +274,23 @@ module _ (t f : List ℕ) (h b : ℕ) where
   abbrev Ok : Outcome (List ℕ) → Type 0
   Ok = Answers t f (SearchRefuses h b)
 
-  over_budget : most_search_steps < b → search_outcome t f h b ≡ refusal budget_too_large 0 0 0
+  over_budget : most_search_steps < b → search_outcome t f h b ≡ refusal BudgetTooLarge 0 0 0
   unfolding search_outcome
   over_budget x = rw (lt-ltb most_search_steps b x)
 
-  too_low : b ≤ most_search_steps → h < least_height → search_outcome t f h b ≡ refusal height_outside 0 0 0
+  too_low : b ≤ most_search_steps → h < least_height → search_outcome t f h b ≡ refusal HeightOutside 0 0 0
   unfolding search_outcome
   too_low x y = rw (le-ltb most_search_steps b x, lt-ltb h least_height y)
 
-  too_high : b ≤ most_search_steps → most_height < h → search_outcome t f h b ≡ refusal height_outside 0 0 0
+  too_high : b ≤ most_search_steps → most_height < h → search_outcome t f h b ≡ refusal HeightOutside 0 0 0
   unfolding search_outcome
   too_high x y = rw (le-ltb most_search_steps b x, le-ltb h least_height (omega (arith, y)), lt-ltb most_height h y)
 
-  too_large : most_search_steps < b → Ok (refusal budget_too_large 0 0 0)
+  too_large : most_search_steps < b → Ok (refusal BudgetTooLarge 0 0 0)
   unfolding Answers number
   too_large x = ended-specs.EndedWriting.ended_own 25 0 0 0 (budget_large x)
 
-  outside : b ≤ most_search_steps → Outside h → Ok (refusal height_outside 0 0 0)
+  outside : b ≤ most_search_steps → Outside h → Ok (refusal HeightOutside 0 0 0)
   unfolding Answers number
   outside l x = ended-specs.EndedWriting.ended_own 42 0 0 0 (outside_heights l x)
 
@@ -338,13 +338,13 @@ module _ (t f : List ℕ) (h b : ℕ) (w o : List ℕ) (enough : search_work ≤
   unfolding search_tactic write_in write_out
   refused_so c q = rw (le-ltb (length w) search_work enough, q)
 
-  by_side : b ≤ most_search_steps → Outside h → search_outcome t f h b ≡ refusal height_outside 0 0 0
+  by_side : b ≤ most_search_steps → Outside h → search_outcome t f h b ≡ refusal HeightOutside 0 0 0
   by_side l (inl x) = too_low t f h b l x
   by_side l (inr x) = too_high t f h b l x
 
   limits : SearchLimits t f h b w o
   unfolding number
-  limits = record { budget = λ x. refused_so budget_too_large (over_budget t f h b x); height = λ l x. refused_so height_outside (by_side l x) }
+  limits = record { budget = λ x. refused_so BudgetTooLarge (over_budget t f h b x); height = λ l x. refused_so HeightOutside (by_side l x) }
 
 pub search_limits : Search-limits
 search_limits t f h b w o enough = limits t f h b w o enough

@@ -5,7 +5,7 @@ use mathlib.Core.Path.{◌≡◌, refl, sym, ap, ◌∙◌}
 use mathlib.Core.List.{List}
 use borrow.Author.Tests.{lt-ltb, le-ltb}
 use Rattle.format.specs.Limits.{most_steps}
-use Rattle.format.specs.Refusals.{number, budget_too_large}
+use Rattle.format.specs.Refusals.{number, BudgetTooLarge}
 use Rattle.tables.specs.Tables.{Table}
 use Rattle.files.specs.Jobs.{Job}
 use Rattle.evaluation.specs.Machine as M
@@ -28,13 +28,13 @@ abbrev runs : (budget : ℕ) → Table → Job → Outcome (List ℕ)
 runs b T j = run_result j (M.run T b (begins j))
 
 module _ (t s : List ℕ) (b : ℕ) where
-  too_large : most_steps < b → run_outcome t s b ≡ refusal budget_too_large no_file 0 0
+  too_large : most_steps < b → run_outcome t s b ≡ refusal BudgetTooLarge no_file 0 0
   unfolding run_outcome
   too_large h = rw (lt-ltb most_steps b h)
 
   pub too_large_end : (o : List ℕ) (r : Answer) → most_steps < b → r ≡ said.refusal 25 0 0 0 → kept r o ≡ left_in o (run_outcome t s b)
   unfolding number
-  too_large_end o r h q = refuses budget_too_large 25 no_file 0 0 r o refl q ∙ ap (left_in o) (sym (too_large h))
+  too_large_end o r h q = refuses BudgetTooLarge 25 no_file 0 0 r o refl q ∙ ap (left_in o) (sym (too_large h))
 
   module _ (fits : b ≤ most_steps) where
     small_enough : run_outcome t s b ≡ on_job t s (runs b)

@@ -8,7 +8,7 @@ use lib.ListN.{length, drop}
 use lib.Seq.{paste}
 use Rattle.format.specs.declared.values.Goal.{Goal}
 use Rattle.format.specs.Limits.{most_held}
-use Rattle.format.specs.Refusals.{Cause, number, tactic_failed, budget_spent}
+use Rattle.format.specs.Refusals.{Cause, number, TacticFailed, BudgetSpent}
 use Rattle.format.specs.Terms.{Term, size}
 use Rattle.format.specs.Standing.{Stands}
 use Rattle.tables.specs.Tables.{Table, UniqueDefinitions}
@@ -80,13 +80,13 @@ limit_number exceeds = (λ e. absurd (omega (arith, e)), λ n. refl)
 module _ (job w : List ℕ) (s : State) (o : List ℕ) (r : Answer) where
   pub spent_end : s.mode ≡ 0 → r ≡ said.refusal 24 0 0 s.steps → Finishes job w s o r o
   unfolding run_end number
-  spent_end m q table j κ st h = if_running table job w s (λ x. kept r o ≡ left_in o (run_end j s.steps x)) m (λ π t g k i. refuses budget_spent 24 0 0 s.steps r o refl q) κ h
+  spent_end m q table j κ st h = if_running table job w s (λ x. kept r o ≡ left_in o (run_end j s.steps x)) m (λ π t g k i. refuses BudgetSpent 24 0 0 s.steps r o refl q) κ h
 
   pub failed_end : (s.mode ≡ 0 → ⊥) → s.mode ≡ 2 → r ≡ said.refusal 23 0 0 s.steps → Finishes job w s o r o
   unfolding run_end number
   failed_end n m q table j κ st h =
       if_stopped table job w s (λ x. kept r o ≡ left_in o (run_end j s.steps x)) n
-      (λ e i. if_failed table job w s [] (λ y. kept r o ≡ left_in o (run_end j s.steps (stopped y))) m (λ l. refuses tactic_failed 23 0 0 s.steps r o refl q) e i) κ h
+      (λ e i. if_failed table job w s [] (λ y. kept r o ≡ left_in o (run_end j s.steps (stopped y))) m (λ l. refuses TacticFailed 23 0 0 s.steps r o refl q) e i) κ h
 
   -- by a limit, whose number is the answer's
   limit_end : (n : ℕ) → ((c : Cause) → LimitMode s.mode c → number c ≡ n) → (s.mode ≡ 0 → ⊥) → (s.mode ≡ 1 → ⊥) → (s.mode ≡ 2 → ⊥) → r ≡ said.refusal n 0 0 s.steps → Finishes job w s o r o

@@ -8,7 +8,7 @@ use lib.ListN.{length}
 use borrow.Author.Tests.{lt-ltb, le-ltb}
 use Rattle.words.specs.Kept.{Kept}
 use Rattle.format.specs.Limits.{least_height, most_height, most_search_steps}
-use Rattle.format.specs.Refusals.{number, budget_too_large, height_outside}
+use Rattle.format.specs.Refusals.{number, BudgetTooLarge, HeightOutside}
 use Rattle.reading.specs.Waiting.{reading_room}
 use Rattle.tables.specs.Tables.{Table}
 use Rattle.index.specs.Build.{RulesIndexed, DefinitionsIndexed}
@@ -42,29 +42,29 @@ indexed_read t first w v e k r d = record {
 
 -- the limits
 module _ (t s : List ℕ) (h b : ℕ) where
-  too_large : most_search_steps < b → search_outcome t s h b ≡ refusal budget_too_large no_file 0 0
+  too_large : most_search_steps < b → search_outcome t s h b ≡ refusal BudgetTooLarge no_file 0 0
   unfolding search_outcome
   too_large x = rw (lt-ltb most_search_steps b x)
 
-  too_low : b ≤ most_search_steps → h < least_height → search_outcome t s h b ≡ refusal height_outside no_file 0 0
+  too_low : b ≤ most_search_steps → h < least_height → search_outcome t s h b ≡ refusal HeightOutside no_file 0 0
   unfolding search_outcome
   too_low x y = rw (le-ltb most_search_steps b x, lt-ltb h least_height y)
 
-  too_high : b ≤ most_search_steps → least_height ≤ h → most_height < h → search_outcome t s h b ≡ refusal height_outside no_file 0 0
+  too_high : b ≤ most_search_steps → least_height ≤ h → most_height < h → search_outcome t s h b ≡ refusal HeightOutside no_file 0 0
   unfolding search_outcome
   too_high x y z = rw (le-ltb most_search_steps b x, le-ltb h least_height y, lt-ltb most_height h z)
 
   pub too_large_end : (o : List ℕ) (r : Answer) → most_search_steps < b → r ≡ said.refusal 25 0 0 0 → kept r o ≡ left_in o (search_outcome t s h b)
   unfolding number
-  too_large_end o r x q = refuses budget_too_large 25 no_file 0 0 r o refl q ∙ ap (left_in o) (sym (too_large x))
+  too_large_end o r x q = refuses BudgetTooLarge 25 no_file 0 0 r o refl q ∙ ap (left_in o) (sym (too_large x))
 
   pub too_low_end : (o : List ℕ) (r : Answer) → b ≤ most_search_steps → h < least_height → r ≡ said.refusal 42 0 0 0 → kept r o ≡ left_in o (search_outcome t s h b)
   unfolding number
-  too_low_end o r x y q = refuses height_outside 42 no_file 0 0 r o refl q ∙ ap (left_in o) (sym (too_low x y))
+  too_low_end o r x y q = refuses HeightOutside 42 no_file 0 0 r o refl q ∙ ap (left_in o) (sym (too_low x y))
 
   pub too_high_end : (o : List ℕ) (r : Answer) → b ≤ most_search_steps → least_height ≤ h → most_height < h → r ≡ said.refusal 42 0 0 0 → kept r o ≡ left_in o (search_outcome t s h b)
   unfolding number
-  too_high_end o r x y z q = refuses height_outside 42 no_file 0 0 r o refl q ∙ ap (left_in o) (sym (too_high x y z))
+  too_high_end o r x y z q = refuses HeightOutside 42 no_file 0 0 r o refl q ∙ ap (left_in o) (sym (too_high x y z))
 
   -- a height is one more than the levels below
   pub height_end : (d : ℕ) (o : List ℕ) (x : Written) → suc d ≡ h → x ≡ left_in o (search_outcome t s (suc d) b) → x ≡ left_in o (search_outcome t s h b)

@@ -7,7 +7,7 @@ use native.Mathlib.Omega.{arith}
 use lib.ListN.{length, drop}
 use lib.Seq.{paste}
 use Rattle.format.specs.declared.values.Goal.{Goal}
-use Rattle.format.specs.Refusals.{number, budget_spent, no_evaluation}
+use Rattle.format.specs.Refusals.{number, BudgetSpent, NoEvaluation}
 use Rattle.format.specs.Goals.{goals_at}
 use Rattle.format.specs.Terms.{Term, size, Hiproof}
 use Rattle.format.specs.Standing.{Stands}
@@ -87,12 +87,12 @@ module _ (job w : List ℕ) (s : State) (o : List ℕ) (r : Answer) where
   pub spent_end : s.mode ≡ 0 → r ≡ said.refusal 24 0 0 s.steps → Finishes job w s o r o
   unfolding search_end outcome number
   spent_end m q table j κ st h f =
-      if_running table job w s (λ x. kept r o ≡ left_in o (search_end j (outcome s.steps x))) m (λ b t g k c i. refuses budget_spent 24 0 0 s.steps r o refl q) κ h
+      if_running table job w s (λ x. kept r o ≡ left_in o (search_end j (outcome s.steps x))) m (λ b t g k c i. refuses BudgetSpent 24 0 0 s.steps r o refl q) κ h
 
   pub none_end : (s.mode ≡ 1 → ⊥) → (s.mode ≡ 0 → ⊥) → r ≡ said.refusal 41 0 0 s.steps → Finishes job w s o r o
   unfolding search_end outcome number
   none_end n m q table j κ st h f =
-      if_nothing table job w s (λ x. kept r o ≡ left_in o (search_end j (outcome s.steps x))) m n (refuses no_evaluation 41 0 0 s.steps r o refl q) κ h
+      if_nothing table job w s (λ x. kept r o ≡ left_in o (search_end j (outcome s.steps x))) m n (refuses NoEvaluation 41 0 0 s.steps r o refl q) κ h
 
 -- the end of a search that found an evaluation
 module _ (job : List ℕ) (term : ℕ) (w : List ℕ) (s : State) (m : s.mode ≡ 1) (q : FinishGiven job term w s) where

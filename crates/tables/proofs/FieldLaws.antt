@@ -10,7 +10,7 @@ use lib.ListN.{length, get_or}
 use borrow.Author.Tests.{eqb-true, leb-false, eq-eqb, ne_eqb}
 use Rattle.words.specs.Word.{word}
 use Rattle.format.specs.Limits.{most_rules, most_definitions, most_term_fields}
-use Rattle.format.specs.Refusals.{length_wrong}
+use Rattle.format.specs.Refusals.{LengthWrong}
 use Rattle.format.specs.Results.{gives}
 use Rattle.format.specs.Values.{tactic_no}
 use Rattle.format.specs.Tags.{rows, find_row, row_of, kind_of, least_of, most_of, inner_of, rule_kind, definition_kind, tactic_kind}
@@ -111,7 +111,7 @@ module _ (s : List ℕ) (at r d n : ℕ) where
   by_tag len a_definition f x e =
       let b = and_gives _ e in
       let t = b.0 in
-      let k = kept (eqb t.next (at + 3 + len)) length_wrong at _ b.2 in
+      let k = kept (eqb t.next (at + 3 + len)) LengthWrong at _ b.2 in
       let l = read_gives (len + 1) s tactic_kind (omega arith) (at + 5) (at + 3 + len) n f.contents t b.1 in
       subst (FieldLaw s at r d n) (same_value k.1) (definition_law len f t l (eqb-true _ _ k.0))
 

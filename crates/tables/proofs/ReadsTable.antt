@@ -12,7 +12,7 @@ use lib.ListN.{length}
 use borrow.Author.Tests.{ltb-false, le-ltb}
 use Rattle.format.specs.declared.values.TacticNo.{TacticNo}
 use Rattle.format.specs.Limits.{most_bytes}
-use Rattle.format.specs.Refusals.{Cause, input_too_long}
+use Rattle.format.specs.Refusals.{Cause, InputTooLong}
 use Rattle.format.specs.Results.{Result, gives, and_then}
 use Rattle.format.specs.Encoding.{Bytes}
 use Rattle.format.specs.Standing.{Stands}
@@ -48,7 +48,7 @@ stays c (some p) x T e = never_gives e
 pub table_facts : (s : List ℕ) (T : Table) → read_table s ≡ gives T → TableFacts s T
 unfolding read_table whole_table
 table_facts s T e =
-    let a = passed (ltb most_bytes (length s)) input_too_long 0 _ e in
+    let a = passed (ltb most_bytes (length s)) InputTooLong 0 _ e in
     let b = and_gives _ a.1 in
     let c6 = stays _ _ _ T b.2 in
     let c7 = stays _ _ _ T c6.1 in

@@ -10,7 +10,7 @@ use lib.Dec.{eqb, ltb}
 use lib.ListN.{length}
 use borrow.Author.Tests.{ltb-false}
 use Rattle.format.specs.Limits.{most_bytes}
-use Rattle.format.specs.Refusals.{Cause, number, input_too_long, field_torn, length_wrong, rule_repeated, premise_count_differs, tactic_redefined, label_repeated}
+use Rattle.format.specs.Refusals.{Cause, number, InputTooLong, FieldTorn, LengthWrong, RuleRepeated, PremiseCountDiffers, TacticRedefined, LabelRepeated}
 use Rattle.format.specs.Results.{Result, gives, refused, and_then}
 use Rattle.format.specs.Tags.{definition_kind, tactic_kind}
 use Rattle.format.specs.Next.{full_table, lowest}
@@ -47,7 +47,7 @@ module _ {A : Type 0} where
 module _ (s : List ℕ) where
   definition_place : (at end to : ℕ) (t : ParsedTerm) → at ≤ to → RefusedWithin at to (definition_of s at end t)
   unfolding definition_of number
-  definition_place at end to t l = either at to (eqb t.next end) _ _ (no_refusal at to _) (at_own Field at at to length_wrong (omega arith) l (omega arith) (omega arith))
+  definition_place at end to t l = either at to (eqb t.next end) _ _ (no_refusal at to _) (at_own Field at at to LengthWrong (omega arith) l (omega arith) (omega arith))
 
   after-header : (at r d n : ℕ) → at ≤ length s → (h : Header) → header_at s at (length s) (lowest d) definition_kind (full_table s at r d) ≡ gives h → RefusedWithin at (length s) (field_of s at n h)
   unfolding field_of
@@ -71,7 +71,7 @@ module _ (s : List ℕ) where
 
   pub fields_place : (b at r d n : ℕ) → at ≤ length s → RefusedWithin 0 (length s) (read_fields b s at r d n)
   unfolding read_fields number
-  fields_place zero at r d n l = at_own Table at 0 (length s) field_torn (omega arith) l (omega arith) (omega arith)
+  fields_place zero at r d n l = at_own Table at 0 (length s) FieldTorn (omega arith) l (omega arith) (omega arith)
   fields_place (suc b) at r d n l =
       either 0 (length s) (ltb at (length s)) _ _
       (steps 0 (length s) _ _ (further at (length s) (length s) 0 (omega arith) (omega arith) _ (field_place at r d n l)) (λ x e. rest_place (read_fields b s) (fields_place b) at r d n x (field_law s at r d n x e)))
@@ -111,10 +111,10 @@ module _ (s : List ℕ) (fits : length s ≤ most_bytes) where
       let b = rules_run s 7 refl refl T.rules 0 first st.rules_stand in
       let c = tactics_run s T.definitions first (length s) st.definitions_stand in
       let d = labels_run s T.definitions first (length s) st.definitions_stand in
-      at_clash rule_repeated _ _ (λ p q. omega (arith, clash_place s 6 (clash_at 6 s) a.at [] 0 first p a.headers (sym (six s T.rules 0 first st.rules_stand) ∙ q))) (omega arith) (omega arith)
-      (at_clash premise_count_differs _ _ (λ p q. omega (arith, clash_place s 7 (clash_at 7 s) b.at [] 0 first p b.headers (sym (seven s T.rules 0 first st.rules_stand) ∙ q))) (omega arith) (omega arith)
-      (at_clash tactic_redefined _ _ (λ p q. omega (arith, clash_place s 8 (clash_at 8 s) c.at [] first (length s) p c.headers (sym (eight s T.definitions first (length s) st.definitions_stand) ∙ q))) (omega arith) (omega arith)
-      (at_clash label_repeated _ _ (λ p q. omega (arith, clash_place s 9 (clash_at 9 s) d.at [] first (length s) p d.headers (sym (nine s T.definitions first (length s) st.definitions_stand) ∙ q))) (omega arith) (omega arith)
+      at_clash RuleRepeated _ _ (λ p q. omega (arith, clash_place s 6 (clash_at 6 s) a.at [] 0 first p a.headers (sym (six s T.rules 0 first st.rules_stand) ∙ q))) (omega arith) (omega arith)
+      (at_clash PremiseCountDiffers _ _ (λ p q. omega (arith, clash_place s 7 (clash_at 7 s) b.at [] 0 first p b.headers (sym (seven s T.rules 0 first st.rules_stand) ∙ q))) (omega arith) (omega arith)
+      (at_clash TacticRedefined _ _ (λ p q. omega (arith, clash_place s 8 (clash_at 8 s) c.at [] first (length s) p c.headers (sym (eight s T.definitions first (length s) st.definitions_stand) ∙ q))) (omega arith) (omega arith)
+      (at_clash LabelRepeated _ _ (λ p q. omega (arith, clash_place s 9 (clash_at 9 s) d.at [] first (length s) p d.headers (sym (nine s T.definitions first (length s) st.definitions_stand) ∙ q))) (omega arith) (omega arith)
       tt)))
 
   -- the fields, then the whole table
@@ -123,7 +123,7 @@ module _ (s : List ℕ) (fits : length s ≤ most_bytes) where
   both_place (gives T) r h = h T refl
   both_place (refused c p) r h = record { within = r.below; below = omega (arith, r.below); least = omega (arith, r.least); most = omega (arith, r.most) }
 
-too_long : (s : List ℕ) → TableRefused s (refused input_too_long 0)
+too_long : (s : List ℕ) → TableRefused s (refused InputTooLong 0)
 unfolding TableRefused number
 too_long s = record { within = omega arith; below = omega arith; least = omega arith; most = omega arith }
 
@@ -131,7 +131,7 @@ place_of : (s : List ℕ) → TableRefused s (read_table s)
 unfolding read_table
 place_of s = go (ltb most_bytes (length s)) refl
   where
-    go : (b : Bool) → ltb most_bytes (length s) ≡ b → TableRefused s (cond b (refused input_too_long 0) (and_then (read_fields (length s + 1) s 0 0 0 0) whole_table))
+    go : (b : Bool) → ltb most_bytes (length s) ≡ b → TableRefused s (cond b (refused InputTooLong 0) (and_then (read_fields (length s + 1) s 0 0 0 0) whole_table))
     go true e = too_long s
     go false e = both_place s (ltb-false _ _ e) _ (fields_place s (length s + 1) 0 0 0 0 (omega arith)) (λ T q. whole_place s (ltb-false _ _ e) T (fields_stand (length s + 1) s T q))
 

@@ -12,7 +12,7 @@ use borrow.Author.Tests.{leb-true, eqb-true, eqb-false, eq-eqb, ne_eqb}
 use Rattle.format.specs.declared.headers.HeaderRead.{HeaderRead}
 use Rattle.format.specs.declared.headers.HeaderRead.TheVariants as H
 use Rattle.format.specs.TermRead.{TermRead, Read}
-use Rattle.format.specs.Refusals.{number, length_wrong}
+use Rattle.format.specs.Refusals.{number, LengthWrong}
 use Rattle.format.specs.Tags.{definition_kind, tactic_kind}
 use Rattle.format.specs.Next.{full_table, lowest}
 use Rattle.format.specs.Headers.{header_at}
@@ -103,8 +103,8 @@ module _ (s w : List ℕ) (base : ℕ) where
   behind_means y p = rw (eq-eqb y.part 6 p) (go (eqb y.at (end_of s y.field)))
     where
       go : (b : Bool)
-          → Means (cond b (table_at s y.first (y.second + 1) y.from y.at y.fields) (R.Refused (number length_wrong) y.field))
-          (cond b (next_field s (counted y y.goals y.first (y.second + 1) y.from y.rest y.field) y.at) (refusing y (number length_wrong) y.field))
+          → Means (cond b (table_at s y.first (y.second + 1) y.from y.at y.fields) (R.Refused (number LengthWrong) y.field))
+          (cond b (next_field s (counted y y.goals y.first (y.second + 1) y.from y.rest y.field) y.at) (refusing y (number LengthWrong) y.field))
       go true = next_means _ y.at (λ z. absurd (omega (arith, z)))
       go false = record { of_table = in_body s _ p (λ z. absurd (omega arith)); meaning_is = refl }
 

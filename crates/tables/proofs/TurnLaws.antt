@@ -11,7 +11,7 @@ use borrow.Author.Tests.{lt-ltb, le-ltb, eq-eqb, ne_eqb, eqb-true}
 use Rattle.words.specs.Word.{word}
 use Rattle.format.specs.declared.headers.HeaderRead.TheVariants as H
 use Rattle.format.specs.TermRead.{TermRead, Refused, Read}
-use Rattle.format.specs.Refusals.{number, length_wrong}
+use Rattle.format.specs.Refusals.{number, LengthWrong}
 use Rattle.format.specs.Results.{Result, gives, refused, and_then, told}
 use Rattle.format.specs.Values.{tactic_no}
 use Rattle.format.specs.Tags.{definition_kind, tactic_kind}
@@ -43,7 +43,7 @@ table_at s r d first at n = table_from r d first (read_fields (suc (length s)) s
 -- the same from the body of the definition at `field` on, by what the body comes to: nothing is left behind that
 unfoldable pub behind_body : List ℕ → (field rules definitions first : ℕ) → TermRead → TableRead
 behind_body s field r d first (Refused k p) = R.Refused k p
-behind_body s field r d first (Read next n) = cond (eqb next (end_of s field)) (table_at s r (d + 1) first next n) (R.Refused (number length_wrong) field)
+behind_body s field r d first (Read next n) = cond (eqb next (end_of s field)) (table_at s r (d + 1) first next n) (R.Refused (number LengthWrong) field)
 
 same_read : {a b c i j k : ℕ} → a ≡ i → b ≡ j → c ≡ k → R.Read a b c ≡ R.Read i j k
 same_read p q r = rw (p, q, r)
@@ -133,8 +133,8 @@ module _ (s : List ℕ) (r d first at n : ℕ) (l : at < length s) where
       behind (gives u) = rw (← field_is.the_length) (go (eqb u.next (at + 3 + len)) refl)
         where
           go : (b : Bool) → eqb u.next (at + 3 + len) ≡ b
-              → table_from r d first (and_then (cond b (gives (definition_field (record { tactic = tactic_no (word s (at + 3)); body = u.term }) u.next u.count)) (refused length_wrong at)) rest)
-              ≡ cond b (table_at s r (d + 1) first u.next u.count) (R.Refused (number length_wrong) at)
+              → table_from r d first (and_then (cond b (gives (definition_field (record { tactic = tactic_no (word s (at + 3)); body = u.term }) u.next u.count)) (refused LengthWrong at)) rest)
+              ≡ cond b (table_at s r (d + 1) first u.next u.count) (R.Refused (number LengthWrong) at)
           go true q = with_definition_lem r d first _ _ ∙ ap (table_from r (d + 1) first) (one_less u.next r (d + 1) u.count (omega (arith, eqb-true u.next (at + 3 + len) q)))
           go false q = refl
 

@@ -4,7 +4,7 @@ use mathlib.Core.Path.{◌≡◌, refl}
 use mathlib.Core.List.{List, [], ◌∷◌}
 use Prim.Native.Nat.{ℕ}
 use Rattle.format.specs.declared.values.Goal.{Goal}
-use Rattle.format.specs.Refusals.{rule_repeated, premise_count_differs, tactic_redefined, label_repeated}
+use Rattle.format.specs.Refusals.{RuleRepeated, PremiseCountDiffers, TacticRedefined, LabelRepeated}
 use Rattle.format.specs.Results.{refused}
 use Rattle.format.specs.Values.{rule_name, goal, label_of, tactic_no}
 use Rattle.format.specs.Terms.{Term, id, label, size}
@@ -22,21 +22,21 @@ abbrev twice : List Definition
 twice = define 1 (label (label_of 5) id) ∷ define 1 (label (label_of 5) id) ∷ []
 
 -- 7 at place 7, 6 at place 23, 8 and 9 behind them: 6
-pub six_first : whole_table (record { rules = rule 1 1 [] ∷ rule 1 2 (goal 3 ∷ []) ∷ rule 2 2 [] ∷ rule 2 2 [] ∷ []; definitions = twice }) ≡ refused rule_repeated 23
+pub six_first : whole_table (record { rules = rule 1 1 [] ∷ rule 1 2 (goal 3 ∷ []) ∷ rule 2 2 [] ∷ rule 2 2 [] ∷ []; definitions = twice }) ≡ refused RuleRepeated 23
 unfolding rule_size definition_size rules_size placed_rules placed_tactics placed_labels labels_of clashes_any first_clash repeats_rule recounts_rule repeats_tactic repeats_label refuse_at whole_table size
 six_first = refl
 
 -- without 6: 7
-pub seven_next : whole_table (record { rules = rule 1 1 [] ∷ rule 1 2 (goal 3 ∷ []) ∷ []; definitions = twice }) ≡ refused premise_count_differs 7
+pub seven_next : whole_table (record { rules = rule 1 1 [] ∷ rule 1 2 (goal 3 ∷ []) ∷ []; definitions = twice }) ≡ refused PremiseCountDiffers 7
 unfolding rule_size definition_size rules_size placed_rules placed_tactics placed_labels labels_of clashes_any first_clash repeats_rule recounts_rule repeats_tactic repeats_label refuse_at whole_table size
 seven_next = refl
 
 -- without 7: 8 at the second definition
-pub eight_next : whole_table (record { rules = rule 1 1 [] ∷ []; definitions = twice }) ≡ refused tactic_redefined 20
+pub eight_next : whole_table (record { rules = rule 1 1 [] ∷ []; definitions = twice }) ≡ refused TacticRedefined 20
 unfolding rule_size definition_size rules_size placed_rules placed_tactics placed_labels labels_of clashes_any first_clash repeats_rule recounts_rule repeats_tactic repeats_label refuse_at whole_table size
 eight_next = refl
 
 -- without 8: 9 at the label, twice in one body
-pub nine_last : whole_table (record { rules = rule 1 1 [] ∷ []; definitions = define 1 (label (label_of 5) (label (label_of 5) id)) ∷ [] }) ≡ refused label_repeated 17
+pub nine_last : whole_table (record { rules = rule 1 1 [] ∷ []; definitions = define 1 (label (label_of 5) (label (label_of 5) id)) ∷ [] }) ≡ refused LabelRepeated 17
 unfolding rule_size definition_size rules_size placed_rules placed_tactics placed_labels labels_of clashes_any first_clash repeats_rule recounts_rule repeats_tactic repeats_label refuse_at whole_table size
 nine_last = refl

@@ -1,7 +1,7 @@
 -- Document 01, "Fields" and "What the bytes bring about": reading a table, 1, "then field by field in byte order", then 6, 7, 8, 9.
 use Rattle.std.specs.Prelude.{ℕ, zero, suc, ◌+◌, ◌-◌, ◌/◌, cond, List, [], ◌∷◌, eqb, ltb, length}
 use Rattle.words.specs.Word.{word}
-use Rattle.format.specs.Refusals.{field_torn, length_wrong}
+use Rattle.format.specs.Refusals.{FieldTorn, LengthWrong}
 use Rattle.format.specs.Results.{Result, gives, refused, and_then}
 use Rattle.format.specs.Inputs.{of_size}
 use Rattle.format.specs.Values.{rule_name, goal, tactic_no}
@@ -27,7 +27,7 @@ unfoldable pub definition_of : List ℕ → (at end : ℕ) → ParsedTerm → Re
 definition_of s at end t =
     cond (eqb t.next end)
     (gives (definition_field (record { tactic = tactic_no (word s (at + 3)); body = t.term }) t.next t.count))
-    (refused length_wrong at)
+    (refused LengthWrong at)
 
 -- the field at a place, once its header is read
 unfoldable pub field_of : List ℕ → (at count : ℕ) → Header → Result Field
@@ -53,7 +53,7 @@ fields_of rec r d n (definition_field x next m) = with_definition x (rec next r 
 
 -- The fields from a place on. The first argument bounds their number: any above the bytes left does.
 unfoldable pub read_fields : (bound : ℕ) → List ℕ → (at rules definitions count : ℕ) → Result Table
-read_fields zero s at r d n = refused field_torn at
+read_fields zero s at r d n = refused FieldTorn at
 read_fields (suc b) s at r d n =
     cond (ltb at (length s)) (and_then (read_field s at r d n) (fields_of (read_fields b s) r d n)) (gives (record { rules = []; definitions = [] }))
 

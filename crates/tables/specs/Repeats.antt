@@ -3,7 +3,7 @@ use Rattle.std.specs.Prelude.{ℕ, ◌+◌, ◌*◌, Bool, true, false, cond, �
 use Rattle.std.proofs.Math.Option.{Option, none, some}
 use Rattle.format.specs.declared.values.Label.{Label}
 use Rattle.format.specs.declared.values.TacticNo.{TacticNo}
-use Rattle.format.specs.Refusals.{Cause, rule_repeated, premise_count_differs, tactic_redefined, label_repeated}
+use Rattle.format.specs.Refusals.{Cause, RuleRepeated, PremiseCountDiffers, TacticRedefined, LabelRepeated}
 use Rattle.format.specs.Results.{Result, gives, refused}
 use Rattle.format.specs.Terms.{Term, atomic, id, label, sequence, tensor, empty, alternation, assert, defined, size}
 use Rattle.tables.specs.Tables.{Rule, Definition, Table}
@@ -84,8 +84,8 @@ refuse_at c (some p) x = refused c p
 -- "Then 6, 7, 8, 9, each over the whole table"
 unfoldable pub whole_table : Table → Result Table
 whole_table T =
-    refuse_at rule_repeated (first_clash repeats_rule [] (placed_rules 0 T.rules))
-    (refuse_at premise_count_differs (first_clash recounts_rule [] (placed_rules 0 T.rules))
-    (refuse_at tactic_redefined (first_clash repeats_tactic [] (placed_tactics (rules_size T.rules) T.definitions))
-    (refuse_at label_repeated (first_clash repeats_label [] (labels_of (rules_size T.rules) T.definitions))
+    refuse_at RuleRepeated (first_clash repeats_rule [] (placed_rules 0 T.rules))
+    (refuse_at PremiseCountDiffers (first_clash recounts_rule [] (placed_rules 0 T.rules))
+    (refuse_at TacticRedefined (first_clash repeats_tactic [] (placed_tactics (rules_size T.rules) T.definitions))
+    (refuse_at LabelRepeated (first_clash repeats_label [] (labels_of (rules_size T.rules) T.definitions))
     (gives T))))

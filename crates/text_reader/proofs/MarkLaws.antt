@@ -8,7 +8,7 @@ use lib.Dec.{leb, ltb, eqb}
 use lib.ListN.{get_or}
 use borrow.Author.Tests.{eq-eqb, ne_eqb, eqb-true}
 use Rattle.format.specs.Limits.{most_term_fields}
-use Rattle.format.specs.Refusals.{limit_passed, text_wrong}
+use Rattle.format.specs.Refusals.{LimitPassed, TextWrong}
 use Rattle.format.specs.Results.{gives, refused, and_then}
 use Rattle.words.specs.Word.{word}
 use Rattle.notation.specs.Letters.{is_digit}
@@ -62,11 +62,11 @@ unfolding marks_in mark_at with_mark
 label_ends_marks r = refl
 
 -- behind the last digit, the text ends or another byte comes
-pub label_torn : (v k d f z at : ℕ) → ltb most_value v ≡ false → scan (scanned (M.in_label_digits v) k d f z) at [] ≡ refused text_wrong at
+pub label_torn : (v k d f z at : ℕ) → ltb most_value v ≡ false → scan (scanned (M.in_label_digits v) k d f z) at [] ≡ refused TextWrong at
 unfolding scan at_end end_in
 label_torn v k d f z at o = rw o
 
-pub label_unclosed : (v k d f z at b : ℕ) (r : List ℕ) → ltb most_value v ≡ false → is_digit b ≡ false → eqb b 93 ≡ false → scan (scanned (M.in_label_digits v) k d f z) at (b ∷ r) ≡ refused text_wrong at
+pub label_unclosed : (v k d f z at b : ℕ) (r : List ℕ) → ltb most_value v ≡ false → is_digit b ≡ false → eqb b 93 ≡ false → scan (scanned (M.in_label_digits v) k d f z) at (b ∷ r) ≡ refused TextWrong at
 unfolding scan step step_in on_label_digits label_ends and_then
 label_unclosed v k d f z at b r o n e = rw (n, o, e)
 
@@ -84,17 +84,17 @@ unfolding scan step step_in on_due begins_numbered and_then
 two_bytes_begins identity k d f z at r = refl
 two_bytes_begins nothing k d f z at r = refl
 
-pub two_bytes_torn : {b second tag : ℕ} (x : TwoBytes b second tag) (k d f z at : ℕ) → scan (scanned (half x) k d f z) at [] ≡ refused text_wrong at
+pub two_bytes_torn : {b second tag : ℕ} (x : TwoBytes b second tag) (k d f z at : ℕ) → scan (scanned (half x) k d f z) at [] ≡ refused TextWrong at
 unfolding scan at_end end_in
 two_bytes_torn identity k d f z at = refl
 two_bytes_torn nothing k d f z at = refl
 
-pub two_bytes_other : {b second tag : ℕ} (x : TwoBytes b second tag) (k d f z at c : ℕ) (r : List ℕ) → (c ≡ second → ⊥) → scan (scanned (half x) k d f z) at (c ∷ r) ≡ refused text_wrong at
+pub two_bytes_other : {b second tag : ℕ} (x : TwoBytes b second tag) (k d f z at c : ℕ) (r : List ℕ) → (c ≡ second → ⊥) → scan (scanned (half x) k d f z) at (c ∷ r) ≡ refused TextWrong at
 unfolding scan step step_in on_half and_then
 two_bytes_other identity k d f z at c r n = rw (ne_eqb c 100 n)
 two_bytes_other nothing k d f z at c r n = rw (ne_eqb c 62 n)
 
-pub two_bytes_full : {b second tag : ℕ} (x : TwoBytes b second tag) (k d f z at : ℕ) (r : List ℕ) → leb most_term_fields f ≡ true → scan (scanned (half x) k d f z) at (second ∷ r) ≡ refused limit_passed k
+pub two_bytes_full : {b second tag : ℕ} (x : TwoBytes b second tag) (k d f z at : ℕ) (r : List ℕ) → leb most_term_fields f ≡ true → scan (scanned (half x) k d f z) at (second ∷ r) ≡ refused LimitPassed k
 unfolding scan step step_in on_half and_then completes
 two_bytes_full identity k d f z at r g = rw g
 two_bytes_full nothing k d f z at r g = rw g
@@ -120,7 +120,7 @@ sign_of semicolon = K.semicolon
 sign_of star = K.star
 sign_of bar = K.bar
 
-pub sign_full : {b tag : ℕ} (x : SignByte b tag) (k d f z at : ℕ) (r : List ℕ) → leb most_term_fields f ≡ true → scan (scanned M.had k d f z) at (b ∷ r) ≡ refused limit_passed at
+pub sign_full : {b tag : ℕ} (x : SignByte b tag) (k d f z at : ℕ) (r : List ℕ) → leb most_term_fields f ≡ true → scan (scanned M.had k d f z) at (b ∷ r) ≡ refused LimitPassed at
 unfolding scan step step_in on_had is_sign and_then completes
 sign_full semicolon k d f z at r g = rw g
 sign_full star k d f z at r g = rw g
@@ -170,14 +170,14 @@ unfolding MarkStands
 closing_stands w at t = t
 
 -- a byte that begins no operand, and one that follows none
-pub due_wrong : (k d f z at b : ℕ) (r : List ℕ) → (b ≡ 32 → ⊥) → (b ≡ 40 → ⊥) → (b ≡ 91 → ⊥) → begins_numbered b ≡ false → (b ≡ 105 → ⊥) → (b ≡ 60 → ⊥) → scan (scanned M.due k d f z) at (b ∷ r) ≡ refused text_wrong at
+pub due_wrong : (k d f z at b : ℕ) (r : List ℕ) → (b ≡ 32 → ⊥) → (b ≡ 40 → ⊥) → (b ≡ 91 → ⊥) → begins_numbered b ≡ false → (b ≡ 105 → ⊥) → (b ≡ 60 → ⊥) → scan (scanned M.due k d f z) at (b ∷ r) ≡ refused TextWrong at
 unfolding scan step step_in on_due and_then
 due_wrong k d f z at b r n₁ n₂ n₃ e n₄ n₅ = rw (ne_eqb b 32 n₁, e, ne_eqb b 105 n₄, ne_eqb b 60 n₅, ne_eqb b 91 n₃, ne_eqb b 40 n₂)
 
-pub had_wrong : (k d f z at b : ℕ) (r : List ℕ) → (b ≡ 32 → ⊥) → is_sign b ≡ false → (b ≡ 41 → d ≡ 0) → scan (scanned M.had k d f z) at (b ∷ r) ≡ refused text_wrong at
+pub had_wrong : (k d f z at b : ℕ) (r : List ℕ) → (b ≡ 32 → ⊥) → is_sign b ≡ false → (b ≡ 41 → d ≡ 0) → scan (scanned M.had k d f z) at (b ∷ r) ≡ refused TextWrong at
 unfolding scan step step_in on_had and_then
 had_wrong k d f z at b r n e Open-none = rw (ne_eqb b 32 n, e) (go (eqb b 41) refl)
   where
-    go : (x : Bool) → eqb b 41 ≡ x → and_then (cond x (cond (eqb d 0) (refused text_wrong at) (gives (scanned M.had k (d - 1) f z))) (refused text_wrong at)) (λ τ. scan τ (at + 1) r) ≡ refused text_wrong at
+    go : (x : Bool) → eqb b 41 ≡ x → and_then (cond x (cond (eqb d 0) (refused TextWrong at) (gives (scanned M.had k (d - 1) f z))) (refused TextWrong at)) (λ τ. scan τ (at + 1) r) ≡ refused TextWrong at
     go true t = rw (eq-eqb d 0 (Open-none (eqb-true b 41 t)))
     go false t = refl

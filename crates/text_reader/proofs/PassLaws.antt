@@ -13,7 +13,7 @@ use lib.ListN.{length, get_or, drop, drop_of_length-le}
 use lib.Seq.{drop-cons}
 use borrow.Author.Tests.{ltb-true, ltb-false}
 use Rattle.format.specs.Results.{refused, and_then}
-use Rattle.format.specs.Refusals.{text_wrong}
+use Rattle.format.specs.Refusals.{TextWrong}
 use Rattle.notation.specs.Letters.{is_digit}
 use Rattle.notation.specs.Marks.{Mark}
 use Rattle.notation.specs.Meets.{NoDigit}
@@ -187,18 +187,18 @@ pub value_is : (s : List ℕ) (from v to : ℕ) → NumeralRead s from v to → 
 value_is s from v to x h = x.passed.value h ∙ number_stops v (drop to s) x.last
 
 -- a mark is begun and no digit follows
-begun_none : (k d f z at : ℕ) (r : List ℕ) → NoDigit r → scan (scanned M.begun k d f z) at r ≡ refused text_wrong at
+begun_none : (k d f z at : ℕ) (r : List ℕ) → NoDigit r → scan (scanned M.begun k d f z) at r ≡ refused TextWrong at
 unfolding scan step step_in on_begun and_then at_end end_in
 begun_none k d f z at [] h = refl
 begun_none k d f z at (b ∷ r) h = rw h
 
-label_begun_none : (k d f z at : ℕ) (r : List ℕ) → NoDigit r → scan (scanned M.label_begun k d f z) at r ≡ refused text_wrong at
+label_begun_none : (k d f z at : ℕ) (r : List ℕ) → NoDigit r → scan (scanned M.label_begun k d f z) at r ≡ refused TextWrong at
 unfolding scan step step_in on_label_begun and_then at_end end_in
 label_begun_none k d f z at [] h = refl
 label_begun_none k d f z at (b ∷ r) h = rw h
 
-pub no_numeral : (s : List ℕ) (from v to : ℕ) → NumeralRead s from v to → to ≡ from → (k d f z : ℕ) → scan (scanned M.begun k d f z) from (drop from s) ≡ refused text_wrong from
+pub no_numeral : (s : List ℕ) (from v to : ℕ) → NumeralRead s from v to → to ≡ from → (k d f z : ℕ) → scan (scanned M.begun k d f z) from (drop from s) ≡ refused TextWrong from
 no_numeral s from v to x e k d f z = begun_none k d f z from (drop from s) (subst (λ (i : ℕ). NoDigit (drop i s)) e x.last)
 
-pub no_label_numeral : (s : List ℕ) (from v to : ℕ) → NumeralRead s from v to → to ≡ from → (k d f z : ℕ) → scan (scanned M.label_begun k d f z) from (drop from s) ≡ refused text_wrong from
+pub no_label_numeral : (s : List ℕ) (from v to : ℕ) → NumeralRead s from v to → to ≡ from → (k d f z : ℕ) → scan (scanned M.label_begun k d f z) from (drop from s) ≡ refused TextWrong from
 no_label_numeral s from v to x e k d f z = label_begun_none k d f z from (drop from s) (subst (λ (i : ℕ). NoDigit (drop i s)) e x.last)

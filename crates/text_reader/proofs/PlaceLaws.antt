@@ -11,7 +11,7 @@ use borrow.Author.Tests.{leb-false, lt-ltb, le-ltb, eq-eqb, ne_eqb}
 use Rattle.words.specs.Word.{word, put_word}
 use Rattle.words.specs.Kept.{Kept}
 use Rattle.format.specs.Limits.{most_term_fields}
-use Rattle.format.specs.Refusals.{Cause, limit_passed, text_wrong, value_too_large, number}
+use Rattle.format.specs.Refusals.{Cause, LimitPassed, TextWrong, ValueTooLarge, number}
 use Rattle.format.specs.Results.{refused, told}
 use Rattle.notation.specs.Marks.{Mark, leaf, label_mark, sign, opening, closing}
 use Rattle.notation.specs.MarksIn.{marks_in}
@@ -139,7 +139,7 @@ module _ (s w : List ℕ) (p : ScanState) (h : Ready s w p) where
   -- a mark that makes a field is complete
   complete_ok : (w' : List ℕ) (r : ScanState) (m : Mark) (next : ℕ) (due : Bool) (bytes : ℕ) → r ≡ completed p next due bytes → p.at < next → next ≤ length s → bytes ≤ 5
       → marks_in (drop p.at s) ≡ m ∷ marks_in (drop next s) → Kept w w' (3 * p.count) (3 * p.count + 3) → MarkStands w' (3 * p.count) m
-      → (leb most_term_fields p.fields ≡ true → scan start 0 s ≡ refused limit_passed p.at)
+      → (leb most_term_fields p.fields ≡ true → scan start 0 s ≡ refused LimitPassed p.at)
       → (leb most_term_fields p.fields ≡ false → (k : ℕ) × (scan start 0 s ≡ scan (scanned (mode_of due) k p.depth (p.fields + 1) (p.size + bytes)) next (drop next s)))
       → After s w' p.at r
   unfolding completed number
@@ -149,7 +149,7 @@ module _ (s w : List ℕ) (p : ScanState) (h : Ready s w p) where
       behind = record { at = next; due = due; depth = p.depth; fields = p.fields + 1; size = p.size + bytes; count = p.count + 1; number = 0; place = 0 }
 
       go : (x : Bool) → leb most_term_fields p.fields ≡ x → After s w' p.at r
-      go true t = after_refused s w' p.at p r limit_passed 5 p.at (e ∙ ap (λ (x : Bool). cond x (refusing p 5 p.at) behind) t) refl (λ z. omega arith) (full t)
+      go true t = after_refused s w' p.at p r LimitPassed 5 p.at (e ∙ ap (λ (x : Bool). cond x (refusing p 5 p.at) behind) t) refl (λ z. omega arith) (full t)
       go false t =
           let d = done t in
           let less = leb-false most_term_fields p.fields t in
@@ -173,11 +173,11 @@ module _ (s w : List ℕ) (p : ScanState) (h : Ready s w p) where
 
   pub had_refused : (w' : List ℕ) (r : ScanState) (b : ℕ) → p.due ≡ false → get_or s p.at 0 ≡ b → (b ≡ 32 → ⊥) → is_sign b ≡ false → (b ≡ 41 → p.depth ≡ 0) → r ≡ refusing p 36 p.at → After s w' p.at r
   unfolding number
-  had_refused w' r b due is n₁ n₂ n₃ e = after_refused s w' p.at p r text_wrong 36 p.at e refl (λ z. omega arith) (scans_here false b due is ∙ had_wrong h.standing.mark p.depth p.fields p.size p.at b (drop (p.at + 1) s) n₁ n₂ n₃)
+  had_refused w' r b due is n₁ n₂ n₃ e = after_refused s w' p.at p r TextWrong 36 p.at e refl (λ z. omega arith) (scans_here false b due is ∙ had_wrong h.standing.mark p.depth p.fields p.size p.at b (drop (p.at + 1) s) n₁ n₂ n₃)
 
   pub due_refused : (w' : List ℕ) (r : ScanState) (b : ℕ) → p.due ≡ true → get_or s p.at 0 ≡ b → (b ≡ 32 → ⊥) → (b ≡ 40 → ⊥) → (b ≡ 91 → ⊥) → begins_numbered b ≡ false → (b ≡ 105 → ⊥) → (b ≡ 60 → ⊥) → r ≡ refusing p 36 p.at → After s w' p.at r
   unfolding number
-  due_refused w' r b due is n₁ n₂ n₃ n₄ n₅ n₆ e = after_refused s w' p.at p r text_wrong 36 p.at e refl (λ z. omega arith) (scans_here true b due is ∙ due_wrong h.standing.mark p.depth p.fields p.size p.at b (drop (p.at + 1) s) n₁ n₂ n₃ n₄ n₅ n₆)
+  due_refused w' r b due is n₁ n₂ n₃ n₄ n₅ n₆ e = after_refused s w' p.at p r TextWrong 36 p.at e refl (λ z. omega arith) (scans_here true b due is ∙ due_wrong h.standing.mark p.depth p.fields p.size p.at b (drop (p.at + 1) s) n₁ n₂ n₃ n₄ n₅ n₆)
 
   -- a sign
   pub sign_ok : (w' : List ℕ) (r : ScanState) (b tag : ℕ) → p.due ≡ false → get_or s p.at 0 ≡ b → SignByte b tag → w' ≡ set w (3 * p.count) tag → r ≡ completed p (p.at + 1) true 3 → After s w' p.at r
@@ -196,13 +196,13 @@ module _ (s w : List ℕ) (p : ScanState) (h : Ready s w p) where
     pub two_bytes_short : (w' : List ℕ) (r : ScanState) → length s ≤ p.at + 1 → r ≡ refusing p 36 (p.at + 1) → After s w' p.at r
     unfolding number
     two_bytes_short w' r l e =
-        after_refused s w' p.at p r text_wrong 36 (p.at + 1) e refl (λ z. omega arith)
+        after_refused s w' p.at p r TextWrong 36 (p.at + 1) e refl (λ z. omega arith)
         (half_scans ∙ ap (scan (scanned (half x) p.at p.depth p.fields p.size) (p.at + 1)) (at_end_lem s (p.at + 1) l) ∙ two_bytes_torn x p.at p.depth p.fields p.size (p.at + 1))
 
     pub two_bytes_refused : (w' : List ℕ) (r : ScanState) → p.at + 1 < length s → (get_or s (p.at + 1) 0 ≡ second → ⊥) → r ≡ refusing p 36 (p.at + 1) → After s w' p.at r
     unfolding number
     two_bytes_refused w' r l n e =
-        after_refused s w' p.at p r text_wrong 36 (p.at + 1) e refl (λ z. omega arith)
+        after_refused s w' p.at p r TextWrong 36 (p.at + 1) e refl (λ z. omega arith)
         (half_scans ∙ ap (scan (scanned (half x) p.at p.depth p.fields p.size) (p.at + 1)) (here s (p.at + 1) l)
         ∙ two_bytes_other x p.at p.depth p.fields p.size (p.at + 1) (get_or s (p.at + 1) 0) (drop (p.at + 1 + 1) s) n)
 
@@ -231,7 +231,7 @@ module _ (s w : List ℕ) (p : ScanState) (h : Ready s w p) where
 
       pub leaf_none : (w' : List ℕ) (r : ScanState) → next ≡ p.at + 1 → r ≡ refusing p 36 (p.at + 1) → After s w' p.at r
       unfolding number
-      leaf_none w' r l e = after_refused s w' p.at p r text_wrong 36 (p.at + 1) e refl (λ z. omega arith) (leaf_scans ∙ no_numeral s (p.at + 1) v next n l p.at p.depth p.fields p.size)
+      leaf_none w' r l e = after_refused s w' p.at p r TextWrong 36 (p.at + 1) e refl (λ z. omega arith) (leaf_scans ∙ no_numeral s (p.at + 1) v next n l p.at p.depth p.fields p.size)
 
       digits_scans : p.at + 1 < next → scan start 0 s ≡ scan (scanned (M.in_digits v) p.at p.depth p.fields p.size) next (drop next s)
       digits_scans l = leaf_scans ∙ n.passed.leaves l p.at p.depth p.fields p.size
@@ -242,7 +242,7 @@ module _ (s w : List ℕ) (p : ScanState) (h : Ready s w p) where
       pub leaf_large : (w' : List ℕ) (r : ScanState) → (next ≡ p.at + 1 → ⊥) → most_value < v → r ≡ refusing p 37 (p.at + 1) → After s w' p.at r
       unfolding number
       leaf_large w' r l o e =
-          after_refused s w' p.at p r value_too_large 37 (p.at + 1) e refl (λ z. omega arith)
+          after_refused s w' p.at p r ValueTooLarge 37 (p.at + 1) e refl (λ z. omega arith)
           (digits_scans (some_digit l) ∙ digits_over v p.at p.depth p.fields p.size next (drop next s) n.last (lt-ltb most_value v o))
 
       pub leaf_ok : (w₁ w' : List ℕ) (r : ScanState) → (next ≡ p.at + 1 → ⊥) → v ≤ most_value → w₁ ≡ put_word w (3 * p.count + 1) v → w' ≡ set w₁ (3 * p.count) tag → r ≡ completed p next false 5 → After s w' p.at r
@@ -266,7 +266,7 @@ module _ (s w : List ℕ) (p : ScanState) (h : Ready s w p) where
 
       pub label_none : (w' : List ℕ) (r : ScanState) → next ≡ p.at + 1 → r ≡ refusing p 36 (p.at + 1) → After s w' p.at r
       unfolding number
-      label_none w' r l e = after_refused s w' p.at p r text_wrong 36 (p.at + 1) e refl (λ z. omega arith) (label_scans ∙ no_label_numeral s (p.at + 1) v next n l p.at p.depth p.fields p.size)
+      label_none w' r l e = after_refused s w' p.at p r TextWrong 36 (p.at + 1) e refl (λ z. omega arith) (label_scans ∙ no_label_numeral s (p.at + 1) v next n l p.at p.depth p.fields p.size)
 
       label_digits : (next ≡ p.at + 1 → ⊥) → scan start 0 s ≡ scan (scanned (M.in_label_digits v) p.at p.depth p.fields p.size) next (drop next s)
       label_digits l = let up = n.passed.rises in label_scans ∙ n.passed.labels (omega arith) p.at p.depth p.fields p.size
@@ -274,19 +274,19 @@ module _ (s w : List ℕ) (p : ScanState) (h : Ready s w p) where
       pub label_large : (w' : List ℕ) (r : ScanState) → (next ≡ p.at + 1 → ⊥) → most_value < v → r ≡ refusing p 37 (p.at + 1) → After s w' p.at r
       unfolding number
       label_large w' r l o e =
-          after_refused s w' p.at p r value_too_large 37 (p.at + 1) e refl (λ z. omega arith)
+          after_refused s w' p.at p r ValueTooLarge 37 (p.at + 1) e refl (λ z. omega arith)
           (label_digits l ∙ label_over v p.at p.depth p.fields p.size next (drop next s) n.last (lt-ltb most_value v o))
 
       pub label_short : (w' : List ℕ) (r : ScanState) → (next ≡ p.at + 1 → ⊥) → v ≤ most_value → length s ≤ next → r ≡ refusing p 36 next → After s w' p.at r
       unfolding number
       label_short w' r l o end e =
-          after_refused s w' p.at p r text_wrong 36 next e refl (λ z. omega arith)
+          after_refused s w' p.at p r TextWrong 36 next e refl (λ z. omega arith)
           (label_digits l ∙ ap (scan (scanned (M.in_label_digits v) p.at p.depth p.fields p.size) next) (at_end_lem s next end) ∙ label_torn v p.at p.depth p.fields p.size next (le-ltb most_value v o))
 
       pub label_refused : (w' : List ℕ) (r : ScanState) → (next ≡ p.at + 1 → ⊥) → v ≤ most_value → next < length s → (get_or s next 0 ≡ 93 → ⊥) → r ≡ refusing p 36 next → After s w' p.at r
       unfolding number
       label_refused w' r l o end other e =
-          after_refused s w' p.at p r text_wrong 36 next e refl (λ z. omega arith)
+          after_refused s w' p.at p r TextWrong 36 next e refl (λ z. omega arith)
           (label_digits l ∙ ap (scan (scanned (M.in_label_digits v) p.at p.depth p.fields p.size) next) (here s next end)
           ∙ label_unclosed v p.at p.depth p.fields p.size next (get_or s next 0) (drop (next + 1) s) (le-ltb most_value v o) (subst NoDigit (here s next end) n.last) (ne_eqb (get_or s next 0) 93 other))
 

@@ -12,7 +12,7 @@ use Rattle.words.specs.Kept.{Kept}
 use Rattle.words.proofs.WordLaws.{length-put_word, word_same, word_other}
 use Rattle.words.proofs.KeptLaws.{kept_put, kept_same, kept_both}
 use Rattle.format.specs.Limits.{most_bytes}
-use Rattle.format.specs.Refusals.{number, goals_too_few}
+use Rattle.format.specs.Refusals.{number, GoalsTooFew}
 use Rattle.format.specs.Results.{and_then}
 use Rattle.format.specs.Terms.{Term, sequence, tensor, size, fields}
 use Rattle.format.specs.Standing.{Stands}
@@ -198,9 +198,9 @@ module _ {C : Type 0} (act : Act C) (x : Aim C) (A : List C) (s w : List ℕ) (n
     unfolding Turned walk_of arities number
     few a c f h q =
         let y = ahead_first w n.arity (input_arity a) (arities a (arities c (later f))) q.ahead in (
-          goals_too_few,
+          GoalsTooFew,
           refl,
-          q.same ∙ ap (resumed act f) (rw (length_values w n.top n.count, ← (is ∙ y.0), lt-ltb n.count share h)) ∙ resumed_refused act f goals_too_few n.at,
+          q.same ∙ ap (resumed act f) (rw (length_values w n.top n.count, ← (is ∙ y.0), lt-ltb n.count share h)) ∙ resumed_refused act f GoalsTooFew n.at,
           omega (arith, (known s n.at (tensor a c) q.stands).inside),
         )
 

@@ -9,7 +9,7 @@ use lib.Dec.{eqb}
 use lib.ListN.{length, get_or}
 use borrow.Author.Tests.{eqb-true, eqb-false, not-true, not-false}
 use Rattle.format.specs.declared.values.Label.{Label}
-use Rattle.format.specs.Refusals.{goal_count_wrong}
+use Rattle.format.specs.Refusals.{GoalCountWrong}
 use Rattle.format.specs.Results.{refused}
 use Rattle.format.specs.Terms.{Term, atomic, id, label, sequence, tensor, empty, alternation, assert, defined, size, fields}
 use Rattle.format.specs.Standing.{Stands}
@@ -138,7 +138,7 @@ module _ {C : Type 0} (act : Act C) (A : List C) where
   on_label (n ∷ []) l t at e = on_one n t (at + 5)
   on_label (n ∷ m ∷ ns) l t at e = absurd (omega arith)
 
-  not_on_label : (ns : List ℕ) (l : Label) (t : Term) (at : ℕ) → (length ns ≡ 1 → ⊥) → walk_of act (label l t) at A ns ≡ refused goal_count_wrong at
+  not_on_label : (ns : List ℕ) (l : Label) (t : Term) (at : ℕ) → (length ns ≡ 1 → ⊥) → walk_of act (label l t) at A ns ≡ refused GoalCountWrong at
   unfolding walk_of on_one_value
   not_on_label [] l t at e = refl
   not_on_label (n ∷ []) l t at e = absurd (e refl)
@@ -158,7 +158,7 @@ module _ {C : Type 0} (act : Act C) (A : List C) where
     bare_walks (defined n) at e = refl
 
     -- a label on another number of values
-    pub label_refused : (t : Term) (at : ℕ) → label_count_wrong t count ≡ true → walk_of act t at A ns ≡ refused goal_count_wrong at
+    pub label_refused : (t : Term) (at : ℕ) → label_count_wrong t count ≡ true → walk_of act t at A ns ≡ refused GoalCountWrong at
     unfolding label_count_wrong
     label_refused (atomic a) at e = absurd (apart e)
     label_refused id at e = absurd (apart e)

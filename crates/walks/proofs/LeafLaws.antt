@@ -10,7 +10,7 @@ use lib.ListN.{length, get_or}
 use Rattle.words.specs.Kept.{Kept}
 use Rattle.words.proofs.KeptLaws.{kept_same, kept_both}
 use Rattle.format.specs.Limits.{most_bytes, most_term_fields, most_goals}
-use Rattle.format.specs.Refusals.{Cause, number, goal_count_wrong}
+use Rattle.format.specs.Refusals.{Cause, number, GoalCountWrong}
 use Rattle.format.specs.Results.{refused}
 use Rattle.format.specs.Terms.{Term, atomic, id, label, sequence, tensor, empty, alternation, assert, defined, size, fields}
 use Rattle.format.specs.Standing.{Stands}
@@ -78,7 +78,7 @@ module _ {C : Type 0} (act : Act C) (x : Aim C) (A : List C) (s w : List ℕ) (n
   pub label_stops : (b : Begins act x A s w n) → label_count_wrong b.0 n.count ≡ true → (at : ℕ) → Steps act x A s w w at (U.Refused 34 n.at)
   unfolding number
   label_stops b e at = record {
-    turned = refused_with b.0 b.1 goal_count_wrong 34 n.at refl (omega (arith, (known s n.at b.0 b.2.stands).inside)) b.2 (label_refused act A _ n.count (length_values w n.top n.count) b.0 n.at e) w at;
+    turned = refused_with b.0 b.1 GoalCountWrong 34 n.at refl (omega (arith, (known s n.at b.0 b.2.stands).inside)) b.2 (label_refused act A _ n.count (length_values w n.top n.count) b.0 n.at e) w at;
     kept = kept_same w _ _;
   }
 

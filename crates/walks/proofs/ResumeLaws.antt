@@ -13,7 +13,7 @@ use Rattle.words.specs.Kept.{Kept}
 use Rattle.words.proofs.WordLaws.{word_same}
 use Rattle.words.proofs.KeptLaws.{kept_put, kept_same, kept_both, kept_copy, word_below}
 use Rattle.format.specs.Limits.{most_joined}
-use Rattle.format.specs.Refusals.{number, joined_too_long}
+use Rattle.format.specs.Refusals.{number, JoinedTooLong}
 use Rattle.format.specs.Results.{gives, refused, and_then}
 use Rattle.format.specs.Terms.{Term, size}
 use Rattle.input_arities.specs.Layout.{stack_end, frames_end}
@@ -251,9 +251,9 @@ module _ {C : Type 0} (act : Act C) (x : Aim C) (A : List C) (s w : List ℕ) (a
       unfolding Turned number joined_values
       over m =
           let e = place_here p q 20 o in (
-            joined_too_long,
+            JoinedTooLong,
             refl,
-            joining ∙ ap (resumed act f) (rw (both, length_values w first count, lt-ltb most_joined count m)) ∙ resumed_refused act f joined_too_long q ∙ ap (refused joined_too_long) e,
+            joining ∙ ap (resumed act f) (rw (both, length_values w first count, lt-ltb most_joined count m)) ∙ resumed_refused act f JoinedTooLong q ∙ ap (refused JoinedTooLong) e,
             omega (arith, e, o.inside),
           )
 

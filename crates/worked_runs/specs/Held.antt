@@ -1,6 +1,6 @@
 -- Document 02, P12: runs of more than 4,096 steps, with as many held fields as there may be and with one more. `proofs/Held.antt` proves the lines.
 use Rattle.std.specs.Prelude.{ℕ, zero, suc, List, [], ◌∷◌, ◌++◌, replicate}
-use Rattle.format.specs.Refusals.{joined_too_long, tactic_failed, budget_spent, fields_too_many}
+use Rattle.format.specs.Refusals.{JoinedTooLong, TacticFailed, BudgetSpent, FieldsTooMany}
 use Rattle.format.specs.Values.{goal, label_of, tactic_no}
 use Rattle.format.specs.Terms.{Term, id, label, sequence, tensor, empty, alternation, defined}
 use Rattle.files.specs.Proofs.{Proof, proof_bytes}
@@ -42,16 +42,16 @@ held_lines =
     -- 4,096 fields may be held: [1]T11
     runs table_c (job_on40 (label (label_of 1) (tactic 11))) 16384 (success (proof_on40 (label (label_of 1) (doubled 11))) 8191)
     -- "a finished term that makes the held fields more than 4,096": T11 ; id, at the sequence; 40 with the last step of the budget, 24 with one step less
-    ∷ runs table_c (job_on40 (sequence (tactic 11) id)) 8192 (refusal fields_too_many no_file 0 8192)
-    ∷ runs table_c (job_on40 (sequence (tactic 11) id)) 8191 (refusal budget_spent no_file 0 8191)
+    ∷ runs table_c (job_on40 (sequence (tactic 11) id)) 8192 (refusal FieldsTooMany no_file 0 8192)
+    ∷ runs table_c (job_on40 (sequence (tactic 11) id)) 8191 (refusal BudgetSpent no_file 0 8191)
     -- "with no alternative tried"
-    ∷ runs table_c (job_on40 (alternation (sequence (tactic 11) id) id)) 16384 (refusal fields_too_many no_file 0 8193)
+    ∷ runs table_c (job_on40 (alternation (sequence (tactic 11) id) id)) 16384 (refusal FieldsTooMany no_file 0 8193)
     -- "fields of a failed alternative are no longer held", and an alternation leaves no field: (T11 ; empty) | [1]T11, with the last step of the largest budget
     ∷ runs table_c (job_on40 (alternation (sequence (tactic 11) empty) (label (label_of 1) (tactic 11)))) 16384 (success (proof_on40 (label (label_of 1) (doubled 11))) 16384)
     -- terms that have begun count nothing: [1](T11 ; empty) fails
-    ∷ runs table_c (job_on40 (label (label_of 1) (sequence (tactic 11) empty))) 16384 (refusal tactic_failed no_file 0 8193)
+    ∷ runs table_c (job_on40 (label (label_of 1) (sequence (tactic 11) empty))) 16384 (refusal TacticFailed no_file 0 8193)
     -- "after 22 at the same term": 4,033 fields beside 63, on 33 goals, leave 257 goals and would leave 4,097 fields
-    ∷ runs table_c (job_bytes (record { goals = replicate 33 (goal 40); term = tensor fields4033 (beside 31) })) 16384 (refusal joined_too_long no_file 0 8123)
+    ∷ runs table_c (job_bytes (record { goals = replicate 33 (goal 40); term = tensor fields4033 (beside 31) })) 16384 (refusal JoinedTooLong no_file 0 8123)
     -- and one field more is 40 in the right part, before that 22
-    ∷ runs table_c (job_bytes (record { goals = replicate 33 (goal 40); term = tensor (label (label_of 3) fields4033) (beside 31) })) 16384 (refusal fields_too_many no_file 0 8124)
+    ∷ runs table_c (job_bytes (record { goals = replicate 33 (goal 40); term = tensor (label (label_of 3) fields4033) (beside 31) })) 16384 (refusal FieldsTooMany no_file 0 8124)
     ∷ []

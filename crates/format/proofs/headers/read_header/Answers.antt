@@ -1,6 +1,6 @@
 -- `headers::read_header` meets its contract: at each `return` the tests that led there say which case of `header_at` holds.
 -- Assumes nothing.
-use Rattle.format.proofs.HeaderCases.{torn, kind_below, kind_above, too_many, contents_torn, field_there, length_wrong_lem}
+use Rattle.format.proofs.HeaderCases.{torn, kind_below, kind_above, too_many, contents_torn, field_there, length_not_right}
 use Rattle.format.proofs.headers.read_header.Goals as goal
 
 pub returns-then-end-at : goal.returns-then-end-at
@@ -22,4 +22,4 @@ pub returns-then-length_fits : goal.returns-then-length_fits
 returns-then-length_fits c = field_there _ _ _ _ _ _ c.if-end-at.false _ (c.kind_at-kind.ensures _ c.row_of-row.ensures.0) c.if-kind-low.false c.if-high-kind.false c.if-full.false _ c.load16-len.ensures c.if-end-at-2.false _ (c.length_fits.ensures _ c.row_of-row.ensures.0) c.if-length_fits.true
 
 pub returns-else-length_fits : goal.returns-else-length_fits
-returns-else-length_fits c = length_wrong_lem _ _ _ _ _ _ c.if-end-at.false _ (c.kind_at-kind.ensures _ c.row_of-row.ensures.0) c.if-kind-low.false c.if-high-kind.false c.if-full.false _ c.load16-len.ensures c.if-end-at-2.false _ (c.length_fits.ensures _ c.row_of-row.ensures.0) c.if-length_fits.false
+returns-else-length_fits c = length_not_right _ _ _ _ _ _ c.if-end-at.false _ (c.kind_at-kind.ensures _ c.row_of-row.ensures.0) c.if-kind-low.false c.if-high-kind.false c.if-full.false _ c.load16-len.ensures c.if-end-at-2.false _ (c.length_fits.ensures _ c.row_of-row.ensures.0) c.if-length_fits.false
