@@ -2,6 +2,13 @@
 -- A success adds the bytes written or the counts. What does not apply is 0.
 use Rattle.std.specs.Prelude.{ℕ}
 use Rattle.answers.specs.declared.Answer.{Answer}
+use Rattle.answers.specs.declared.File.{File}
+use Rattle.answers.specs.declared.File.TheVariants as F
+
+abbrev pub file_number : File → ℕ
+file_number F.Neither = 0
+file_number F.Table = 1
+file_number F.Other = 2
 
 abbrev pub refusal : (number file place steps : ℕ) → Answer
 refusal n f p k = record { number = n; file = f; place = p; steps = k; length = 0; fields = 0; uses = 0; remaining = 0; rules = 0; goals = 0; longest = 0; tactic = 0 }
