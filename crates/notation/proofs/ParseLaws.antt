@@ -11,7 +11,8 @@ use lib.ListN.{length, length-append}
 use borrow.Author.Tests.{ltb-true, ltb-false, lt-ltb, le-ltb}
 use Rattle.format.specs.Inputs.{of_size}
 use Rattle.format.specs.Limits.{most_bytes, most_term_fields}
-use Rattle.format.specs.Refusals.{Cause, InputTooLong, LimitPassed, TextWrong, ValueTooLarge}
+use Rattle.format.specs.declared.refusals.Cause.{Cause}
+use Rattle.format.specs.declared.refusals.Cause.TheVariants.{InputTooLong, LimitPassed, TextWrong, ValueTooLarge}
 use Rattle.format.specs.Results.{Result, gives, refused, and_then}
 use Rattle.format.specs.Terms.{Term, fields}
 use Rattle.format.specs.Encoding.{TermValues}

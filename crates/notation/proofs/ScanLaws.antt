@@ -9,7 +9,7 @@ use lib.Dec.{leb, ltb}
 use lib.ListN.{length, length-append}
 use borrow.Author.Tests.{ltb-true, ltb-false, leb-true, leb-false, ne_eqb}
 use Rattle.format.specs.Limits.{most_term_fields}
-use Rattle.format.specs.Refusals.{LimitPassed, TextWrong, ValueTooLarge}
+use Rattle.format.specs.declared.refusals.Cause.TheVariants.{LimitPassed, TextWrong, ValueTooLarge}
 use Rattle.format.specs.Results.{Result, gives, refused, and_then}
 use Rattle.notation.specs.Scans.{Mode}
 use Rattle.notation.specs.Scans as M

@@ -7,7 +7,7 @@ use Prim.Native.Nat.{ℕ, zero, suc, ◌+◌, ◌≤◌}
 use native.Mathlib.Omega.{arith}
 use lib.ListN.{replicate}
 use Rattle.format.specs.Limits.{most_term_fields}
-use Rattle.format.specs.Refusals.{TextWrong}
+use Rattle.format.specs.declared.refusals.Cause.TheVariants.{TextWrong}
 use Rattle.format.specs.Results.{gives, refused}
 use Rattle.format.specs.Terms.{Term, fields, size}
 use Rattle.notation.specs.Scans as M

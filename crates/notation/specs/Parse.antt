@@ -2,7 +2,7 @@
 use Rattle.std.specs.Prelude.{ℕ, List, length}
 use Rattle.std.proofs.Math.Option.{Option, none, some}
 use Rattle.format.specs.Inputs.{of_size}
-use Rattle.format.specs.Refusals.{TextWrong}
+use Rattle.format.specs.declared.refusals.Cause.TheVariants.{TextWrong}
 use Rattle.format.specs.Results.{Result, gives, refused, and_then}
 use Rattle.format.specs.Terms.{Term}
 use Rattle.notation.specs.MarksIn.{marks_in}

@@ -3,7 +3,7 @@
 -- of these three the one met first in the text is given."
 use Rattle.std.specs.Prelude.{ℕ, ◌+◌, ◌*◌, ◌-◌, Bool, true, cond, List, [], ◌∷◌, eqb, leb, ltb}
 use Rattle.format.specs.Limits.{most_term_fields}
-use Rattle.format.specs.Refusals.{LimitPassed, TextWrong, ValueTooLarge}
+use Rattle.format.specs.declared.refusals.Cause.TheVariants.{LimitPassed, TextWrong, ValueTooLarge}
 use Rattle.format.specs.Results.{Result, gives, refused, and_then}
 use Rattle.notation.specs.Letters.{blank, letter_a, question, letter_t, letter_i, letter_d, less, greater, left_square, right_square, left_round, right_round, semicolon_byte, bar_byte, star_byte, is_digit}
 

@@ -1,6 +1,7 @@
 -- P8: worked lines over bytes, one for each kind of mark, of binding, of bracket and of refusal. `proofs/Worked.antt` proves them.
 use Rattle.std.specs.Prelude.{ℕ, ◌≡◌, List, [], ◌∷◌}
-use Rattle.format.specs.Refusals.{Cause, LimitPassed, TextWrong, ValueTooLarge}
+use Rattle.format.specs.declared.refusals.Cause.{Cause}
+use Rattle.format.specs.declared.refusals.Cause.TheVariants.{LimitPassed, TextWrong, ValueTooLarge}
 use Rattle.format.specs.Results.{gives, refused}
 use Rattle.format.specs.Values.{rule_name, goal, label_of, tactic_no}
 use Rattle.format.specs.Terms.{Term, atomic, id, label, sequence, tensor, empty, alternation, assert, defined}
