@@ -31,6 +31,8 @@ use Rattle.tactics.specs.Source.{source}
 use Rattle.frames.specs.declared.Frame.{Frame}
 use Rattle.frames.specs.Frames.{frame_at, put_frame}
 use Rattle.frames.proofs.FrameLaws.{only_frame, frame_same}
+use Rattle.machine.specs.declared.state.Mode.{Mode}
+use Rattle.machine.specs.declared.state.Mode.TheVariants as is
 use Rattle.machine.specs.declared.state.State.{State}
 use Rattle.machine.specs.Shows.{here, GoalsIs, FrameIs, Began, FramesAt, Sizes, Runs, Lost, exceeds, Ends, Config, next, done, Holds}
 use Rattle.machine.specs.Begun.{enter, Room, Begins, lost, failed, exceeded, kept, entered, id_next, empty_next, assert_next, sequence_next, alternation_next, label_next, sequence_frame, alternation_frame, label_frame}
@@ -68,11 +70,11 @@ unfolding held
 holds_none x k e = omega (arith, e)
 
 module _ (w : List ℕ) (s : State) (room : Room w s) where
-  pub lose_grown : (mode : ℕ) (r : State) → r ≡ lost mode s → Grown w s w r
+  pub lose_grown : (mode : Mode) (r : State) → r ≡ lost mode s → Grown w s w r
   lose_grown mode r q = subst (λ (x : State). Grown w s w x) (sym q) (record { beyond = λ i b. refl; same_length = refl; one_step = refl })
 
   -- the term ends without a proof
-  lose_holds : (mode : ℕ) (table job : List ℕ) (π : M.Place) (t : Term) (g : List Goal) (k : List M.Frame) → Runs table job w s π t g k → Lost mode table job w (lost mode s) k
+  lose_holds : (mode : Mode) (table job : List ℕ) (π : M.Place) (t : Term) (g : List Goal) (k : List M.Frame) → Runs table job w s π t g k → Lost mode table job w (lost mode s) k
   lose_holds mode table job π t g k h = record {
     mode_is = refl;
     from = s.out;
@@ -89,11 +91,11 @@ module _ (w : List ℕ) (s : State) (room : Room w s) where
 
   -- it fails
   pub fail_grown : (r : State) → r ≡ failed s → Grown w s w r
-  fail_grown r q = lose_grown 2 r q
+  fail_grown r q = lose_grown is.Failed r q
 
   pub fail_holds : (table job : List ℕ) (π : M.Place) (t : Term) (g : List Goal) (k : List M.Frame) (r : State) → r ≡ failed s → Runs table job w s π t g k → Holds table job w r (done outcome.failed k)
   unfolding Holds Ends
-  fail_holds table job π t g k r q h = subst (λ (x : State). Holds table job w x (done outcome.failed k)) (sym q) (lose_holds 2 table job π t g k h)
+  fail_holds table job π t g k r q h = subst (λ (x : State). Holds table job w x (done outcome.failed k)) (sym q) (lose_holds is.Failed table job π t g k h)
 
   pub fail_begins : (t : Term) (c : M.Place → List Goal → List M.Frame → Config) → ((π : M.Place) (g : List Goal) (k : List M.Frame) → GoalsIs w s.arena s.start s.count g → c π g k ≡ done outcome.failed k)
       → (r : State) → r ≡ failed s → Begins w s w r t c
@@ -106,7 +108,7 @@ module _ (w : List ℕ) (s : State) (room : Room w s) where
   unfolding Holds Ends
   exceed_begins t c e r q table job π g k h =
       subst (λ (y : Config). Holds table job w r y) (sym (e π g k h.held_is h.goals))
-      (subst (λ (x : State). Holds table job w x (done (ended FieldsTooMany) k)) (sym q) (record { limit = exceeds; lost = lose_holds 4 table job π t g k h }))
+      (subst (λ (x : State). Holds table job w x (done (ended FieldsTooMany) k)) (sym q) (record { limit = exceeds; lost = lose_holds is.Exceeded table job π t g k h }))
 
   -- what lies elsewhere than the output stays
   module _ (v : List ℕ) (n : ℕ) (only : Only s.out (s.out + n) w v) (small : n ≤ 5) where
@@ -197,7 +199,7 @@ module _ (w : List ℕ) (s : State) (room : Room w s) where
   id_fails r n q = (fail_begins id id_next (λ π g k h. by_none w s.start s.count one_goal (λ o. done (finished (held k) id o) k) g h.are (not_one_at w s.start _ s.count n)) r q, fail_grown r q)
 
   pub id_exceeds : (r : State) → s.count ≡ 1 → most_held ≤ s.held → r ≡ exceeded s → Begins w s w r id id_next × Grown w s w r
-  id_exceeds r n full q = (exceed_begins id id_next (gives_much id one_id one_goal (same_one w s.start s.count n) full) r q, lose_grown 4 r q)
+  id_exceeds r n full q = (exceed_begins id id_next (gives_much id one_id one_goal (same_one w s.start s.count n) full) r q, lose_grown is.Exceeded r q)
 
   pub id_keeps : (v : List ℕ) (r : State) → s.count ≡ 1 → s.held < most_held → v ≡ put_header w s.out 17 0 → r ≡ kept s → Begins w s v r id id_next × Grown w s v r
   id_keeps v r n fits q₁ q₂ =
@@ -207,7 +209,7 @@ module _ (w : List ℕ) (s : State) (room : Room w s) where
   empty_fails r n q = (fail_begins empty empty_next (λ π g k h. by_none w s.start s.count no_goal (λ o. done (finished (held k) empty o) k) g h.are (not_none_at w s.start s.count n)) r q, fail_grown r q)
 
   pub empty_exceeds : (r : State) → s.count ≡ 0 → most_held ≤ s.held → r ≡ exceeded s → Begins w s w r empty empty_next × Grown w s w r
-  empty_exceeds r n full q = (exceed_begins empty empty_next (gives_much empty one_empty no_goal (none_at w s.start s.count n) full) r q, lose_grown 4 r q)
+  empty_exceeds r n full q = (exceed_begins empty empty_next (gives_much empty one_empty no_goal (none_at w s.start s.count n) full) r q, lose_grown is.Exceeded r q)
 
   pub empty_keeps : (v : List ℕ) (r : State) → s.count ≡ 0 → s.held < most_held → v ≡ put_header w s.out 21 0 → r ≡ kept s → Begins w s v r empty empty_next × Grown w s v r
   empty_keeps v r n fits q₁ q₂ =
@@ -232,7 +234,7 @@ module _ (w : List ℕ) (s : State) (room : Room w s) where
   pub assert_exceeds : (value : ℕ) (r : State) → s.count ≡ 1 → word w s.start ≡ value → most_held ≤ s.held → r ≡ exceeded s → Asserts value w r
   assert_exceeds value r n i full q = (
     λ T γ e. exceed_begins (assert γ) (assert_next T γ) (gives_much id one_id (assert_gives T γ) (assert_at w s.start T γ s.count n (i ∙ e)) full) r q,
-    lose_grown 4 r q,
+    lose_grown is.Exceeded r q,
   )
 
   pub assert_end : (value : ℕ) (v : List ℕ) (r : State) → s.count ≡ 1 → word w s.start ≡ value → s.held < most_held → v ≡ put_header w s.out 17 0 → r ≡ kept s → Asserts value v r

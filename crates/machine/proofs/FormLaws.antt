@@ -39,6 +39,7 @@ use Rattle.tactics.proofs.FoundLaws.{rule_gives_lem, body_stands, body_placed}
 use Rattle.tactics.proofs.NumberLaws.{only_header, header_tag, header_head}
 use Rattle.tactics.specs.Source.{source}
 use Rattle.frames.specs.Frames.{put_frame}
+use Rattle.machine.specs.declared.state.Mode.TheVariants as is
 use Rattle.machine.specs.declared.state.State.{State}
 use Rattle.machine.specs.Shows.{GoalsIs, FrameIs, Ends, Config, next, done, Holds}
 use Rattle.machine.specs.Begun.{enter, Room, Begins, BeginsIn, failed, exceeded, entered, tensor_next, tensor_frame, atomic_next, rule_next, used, defined_next, unfolded}
@@ -131,7 +132,7 @@ module _ (w : List ℕ) (s : State) (room : Room w s) where
   use_exceeds b place n name r full q = (
     λ a e. exceed_begins w s room (atomic a) (atomic_next a (some (goals_at b place n)))
         (λ π g k i h. ap (λ (x : Ending). done x k) (within_over (held k) (atomic a) (goals_at b place n) (omega (arith, one_atomic a, full, i)))) r q,
-    lose_grown w s room 4 r q,
+    lose_grown w s room is.Exceeded r q,
   )
 
   -- a rule used

@@ -26,6 +26,8 @@ use Rattle.tactics.specs.Goals.{Joined}
 use Rattle.tactics.proofs.MemoryLaws.{only_word, same_term, same_goals}
 use Rattle.frames.specs.declared.Frame.{Frame}
 use Rattle.frames.specs.Frames.{frame_at}
+use Rattle.machine.specs.declared.state.Mode.{Mode}
+use Rattle.machine.specs.declared.state.Mode.TheVariants as is
 use Rattle.machine.specs.declared.state.State.{State}
 use Rattle.machine.specs.Shows.{GoalsIs, FrameIs, Began, FramesAt, Sizes, overflows, exceeds, Proved, Lost, Ends, Holds}
 use Rattle.machine.specs.Popping.{pop, Fits, Smaller, Waiting, Popped, joined, ended_by}
@@ -46,7 +48,7 @@ pub record Joins (w : List ℕ) (s : State) (f : Frame) : Type 0 where
   pub before : f.arena ≤ s.arena
   pub room : s.arena + 512 ≤ goals_end
 
-module _ (w : List ℕ) (s : State) (wait : Waiting w s) (m : s.mode ≡ 1) (f : Frame) (e : f ≡ frame_at w s.top) (n : f.kind ≡ 5) where
+module _ (w : List ℕ) (s : State) (wait : Waiting w s) (m : s.mode ≡ is.Proved) (f : Frame) (e : f ≡ frame_at w s.top) (n : f.kind ≡ 5) where
   pub fits : Fits w s
   fits = waiting-fits w s wait
 
@@ -64,7 +66,7 @@ module _ (w : List ℕ) (s : State) (wait : Waiting w s) (m : s.mode ≡ 1) (f :
     pub began : Began f s.arena k
     pub held_is : s.held ≡ fields q + held k + fields p
     pub sizes : Sizes s
-    pub lost : (mode : ℕ) → Lost mode table job w (ended_by mode s) k
+    pub lost : (mode : Mode) → Lost mode table job w (ended_by mode s) k
 
   -- a statement of every ending and every frame is one of a proof and a tensor whose right term ended
   if_beside : (P : Ending → M.Frame → Type 0) (table job : List ℕ) (k : List M.Frame)
@@ -115,30 +117,30 @@ module _ (w : List ℕ) (s : State) (wait : Waiting w s) (m : s.mode ≡ 1) (f :
   joined_or_not kept q p i g t h = ap (λ (b : Bool). cond b (within kept (tensor q p) (i ++ g)) (ended JoinedTooLong)) h
 
   -- too many goals
-  pub overflow_end : (r : State) → 256 < f.count + s.count → r ≡ ended_by 3 s → Popped w s w r × Smaller w s w r
+  pub overflow_end : (r : State) → 256 < f.count + s.count → r ≡ ended_by is.Overflowed s → Popped w s w r × Smaller w s w r
   unfolding Ends Holds pop
   overflow_end r c o =
       subst (λ (y : State). Popped w s w y × Smaller w s w y) (sym o) (
-        λ table job z x k h. if_beside (λ y j. Holds table job w (ended_by 3 s) (pop y j k)) table job k
+        λ table job z x k h. if_beside (λ y j. Holds table job w (ended_by is.Overflowed s) (pop y j k)) table job k
             (λ π q i p g b.
-            subst (λ (y : Ending). Ends table job w (ended_by 3 s) y k)
+            subst (λ (y : Ending). Ends table job w (ended_by is.Overflowed s) y k)
             (sym (joined_or_not (held k) q p i g false (lt-leb (length (i ++ g)) 256 (omega (arith, c, counted i g b.gave b.goals)))))
-            (record { limit = overflows; lost = b.lost 3 })) z x h,
-        leave_smaller w s 3,
+            (record { limit = overflows; lost = b.lost is.Overflowed })) z x h,
+        leave_smaller w s is.Overflowed,
       )
 
   -- not too many: a field more than may be held
-  pub exceed_end : (r : State) → f.count + s.count ≤ 256 → most_held ≤ s.held → r ≡ ended_by 4 s → Popped w s w r × Smaller w s w r
+  pub exceed_end : (r : State) → f.count + s.count ≤ 256 → most_held ≤ s.held → r ≡ ended_by is.Exceeded s → Popped w s w r × Smaller w s w r
   unfolding Ends Holds pop fields
   exceed_end r c over o =
       subst (λ (y : State). Popped w s w y × Smaller w s w y) (sym o) (
-        λ table job z x k h. if_beside (λ y j. Holds table job w (ended_by 4 s) (pop y j k)) table job k
+        λ table job z x k h. if_beside (λ y j. Holds table job w (ended_by is.Exceeded s) (pop y j k)) table job k
             (λ π q i p g b.
-            subst (λ (y : Ending). Ends table job w (ended_by 4 s) y k)
+            subst (λ (y : Ending). Ends table job w (ended_by is.Exceeded s) y k)
             (sym (joined_or_not (held k) q p i g true (le-leb (length (i ++ g)) 256 (omega (arith, c, counted i g b.gave b.goals)))
             ∙ within_over (held k) (tensor q p) (i ++ g) (omega (arith, over, b.held_is))))
-            (record { limit = exceeds; lost = b.lost 4 })) z x h,
-        leave_smaller w s 4,
+            (record { limit = exceeds; lost = b.lost is.Exceeded })) z x h,
+        leave_smaller w s is.Exceeded,
       )
 
   module _ (c : f.count + s.count ≤ 256) (under-most : s.held < most_held) (y : List ℕ) (jo : Joined w y f.arena s.arena f.start f.count s.start s.count) where

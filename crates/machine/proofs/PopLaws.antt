@@ -21,6 +21,8 @@ use Rattle.tactics.specs.Memory.{Same, Only}
 use Rattle.tactics.proofs.MemoryLaws.{only_word, same_word, same_term}
 use Rattle.frames.specs.declared.Frame.{Frame}
 use Rattle.frames.specs.Frames.{frame_at}
+use Rattle.machine.specs.declared.state.Mode.{Mode}
+use Rattle.machine.specs.declared.state.Mode.TheVariants as is
 use Rattle.machine.specs.declared.state.State.{State}
 use Rattle.machine.specs.Shows.{GoalsIs, FrameIs, FramesAt, Sizes, exceeds, Proved, Lost, Ends, Config, done, Holds}
 use Rattle.machine.specs.Popping.{pop, settle, Fits, Smaller, Waiting, Popped, Closing, leave, alternative, closed, ended_by}
@@ -73,7 +75,7 @@ module _ (w : List ℕ) (s : State) where
     frames_fit = omega (arith, z.frames_fit);
   }
 
-  pub lost_under : (mode : ℕ) (table job : List ℕ) (x : M.Frame) (k : List M.Frame) → Under table job w s (x ∷ k) → Lost mode table job w (ended_by mode s) k
+  pub lost_under : (mode : Mode) (table job : List ℕ) (x : M.Frame) (k : List M.Frame) → Under table job w s (x ∷ k) → Lost mode table job w (ended_by mode s) k
   unfolding FramesAt
   lost_under mode table job x k h =
       let m = frame_mark table job w s.arena x k s.top h.from h.frames in
@@ -86,14 +88,14 @@ module _ (w : List ℕ) (s : State) where
         sizes = record { output_fits = z.output_fits; held_fits = z.held_fits; goals_low = z.goals_low; goals_fit = z.goals_fit; frames_fit = z.frames_fit };
       }
 
-  pub leave_smaller : (mode : ℕ) → Smaller w s w (ended_by mode s)
+  pub leave_smaller : (mode : Mode) → Smaller w s w (ended_by mode s)
   leave_smaller mode = record { beyond = λ i b. refl; same_length = refl; same_steps = refl; further = λ n. omega arith }
 
   leave_end : (r : State) → r ≡ leave s → Popped w s w (leave s) → Popped w s w r × Smaller w s w r
   leave_end r e p = subst (λ (x : State). Popped w s w x × Smaller w s w x) (sym e) (p, leave_smaller s.mode)
 
   -- a limit passes every frame
-  pub ended_end : (r : State) → (s.mode ≡ 1 → ⊥) → (s.mode ≡ 2 → ⊥) → r ≡ leave s → Popped w s w r × Smaller w s w r
+  pub ended_end : (r : State) → (s.mode ≡ is.Proved → ⊥) → (s.mode ≡ is.Failed → ⊥) → r ≡ leave s → Popped w s w r × Smaller w s w r
   unfolding Ends Holds
   ended_end r a b q = leave_end r q (λ table job e x k h.
       if_ended table job w s (x ∷ k) (λ y. Holds table job w (leave s) (pop y x k)) a b
@@ -101,16 +103,16 @@ module _ (w : List ℕ) (s : State) where
       (record { limit = o.limit; lost = lost_under s.mode table job x k (under table job w s (ended c) (x ∷ k) o) })) e h)
 
   module _ (f : Frame) (e : f ≡ frame_at w s.top) where
-    pub failed_end : (r : State) → s.mode ≡ 2 → (f.kind ≡ 6 → ⊥) → r ≡ leave s → Popped w s w r × Smaller w s w r
+    pub failed_end : (r : State) → s.mode ≡ is.Failed → (f.kind ≡ 6 → ⊥) → r ≡ leave s → Popped w s w r × Smaller w s w r
     unfolding Ends Holds
     failed_end r m n q = leave_end r q (λ table job z x k h.
         if_failed table job w s (x ∷ k) (λ y. Holds table job w (leave s) (pop y x k)) m
         (λ l. subst (λ (y : Config). Holds table job w (leave s) y)
         (sym (failure_passes x k (λ i. n ((innermost table job w s f l.from x k e l.frames).kind ∙ i))))
-        (subst (λ (y : ℕ). Lost y table job w (leave s) k) m (lost_under s.mode table job x k (under table job w s failed (x ∷ k) l)))) z h)
+        (subst (λ (y : Mode). Lost y table job w (leave s) k) m (lost_under s.mode table job x k (under table job w s failed (x ∷ k) l)))) z h)
 
     -- the right term of an alternation, on the same goals; output, goals and fields held are what they were
-    pub alternative_end : s.mode ≡ 2 → f.kind ≡ 6 → Popped w s w (alternative s f) × Smaller w s w (alternative s f)
+    pub alternative_end : s.mode ≡ is.Failed → f.kind ≡ 6 → Popped w s w (alternative s f) × Smaller w s w (alternative s f)
     unfolding Ends Holds pop FrameIs
     alternative_end m n = (
       λ table job z x k h.
@@ -136,7 +138,7 @@ module _ (w : List ℕ) (s : State) where
     )
 
     -- "Once the left has succeeded the choice stands"
-    pub chosen_end : (r : State) → s.mode ≡ 1 → f.kind ≡ 6 → r ≡ leave s → Popped w s w r × Smaller w s w r
+    pub chosen_end : (r : State) → s.mode ≡ is.Proved → f.kind ≡ 6 → r ≡ leave s → Popped w s w r × Smaller w s w r
     unfolding Ends Holds pop FrameIs held
     chosen_end r m n q = leave_end r q (λ table job z x k h.
         if_proved table job w s (x ∷ k) (λ y. Holds table job w (leave s) (pop y x k)) m
@@ -156,7 +158,7 @@ module _ (w : List ℕ) (s : State) where
         }) x (sym n ∙ i.kind) a i.frame) z h)
 
     -- a label's or a sequence's field is closed: its length is stored, and it is held too
-    module _ (wait : Waiting w s) (m : s.mode ≡ 1) (no : Closing f.kind) where
+    module _ (wait : Waiting w s) (m : s.mode ≡ is.Proved) (no : Closing f.kind) where
       -- what is said of labels and of the right terms of sequences
       if_closing : (P : M.Frame → Type 0) → ((π : M.Place) (l : _) → P (labelled π l)) → ((π : M.Place) (q : Term) → P (sequence_right π q)) → (x : M.Frame) → f.kind ≡ kind_of x → P x
       unfolding kind_of
@@ -186,20 +188,20 @@ module _ (w : List ℕ) (s : State) where
       fits = waiting-fits w s wait
 
       -- one field more than may be held
-      pub exceed_end : (r : State) → most_held ≤ s.held → r ≡ ended_by 4 s → Popped w s w r × Smaller w s w r
+      pub exceed_end : (r : State) → most_held ≤ s.held → r ≡ ended_by is.Exceeded s → Popped w s w r × Smaller w s w r
       unfolding Ends Holds pop held fields
       exceed_end r over q =
           subst (λ (y : State). Popped w s w y × Smaller w s w y) (sym q) (
             λ table job z x k h.
-                if_proved table job w s (x ∷ k) (λ y. Holds table job w (ended_by 4 s) (pop y x k)) m
+                if_proved table job w s (x ∷ k) (λ y. Holds table job w (ended_by is.Exceeded s) (pop y x k)) m
                 (λ p g a. let i = innermost table job w s f a.from x k e a.frames in
-                let lost : Lost 4 table job w (ended_by 4 s) k = lost_under 4 table job x k (under table job w s (proved p g) (x ∷ k) a) in
-                if_closing (λ y. Proved table job w s p g (y ∷ k) → Holds table job w (ended_by 4 s) (pop (proved p g) y k))
-                (λ π l b. subst (λ (y : Ending). Ends table job w (ended_by 4 s) y k)
+                let lost : Lost is.Exceeded table job w (ended_by is.Exceeded s) k = lost_under is.Exceeded table job x k (under table job w s (proved p g) (x ∷ k) a) in
+                if_closing (λ y. Proved table job w s p g (y ∷ k) → Holds table job w (ended_by is.Exceeded s) (pop (proved p g) y k))
+                (λ π l b. subst (λ (y : Ending). Ends table job w (ended_by is.Exceeded s) y k)
                 (sym (within_over (held k) (label l p) g (omega (arith, over, b.held_is)))) (record { limit = exceeds; lost = lost }))
-                (λ π t b. subst (λ (y : Ending). Ends table job w (ended_by 4 s) y k)
+                (λ π t b. subst (λ (y : Ending). Ends table job w (ended_by is.Exceeded s) y k)
                 (sym (within_over (held k) (sequence t p) g (omega (arith, over, b.held_is)))) (record { limit = exceeds; lost = lost })) x i.kind a) z h,
-            leave_smaller 4,
+            leave_smaller is.Exceeded,
           )
 
       abbrev v : List ℕ

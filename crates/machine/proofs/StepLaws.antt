@@ -26,6 +26,7 @@ use Rattle.arities.specs.Arities.{arity_code, ArityTable, arities, Pair}
 use Rattle.arities.proofs.ArityLaws.{Inner, pair_of}
 use Rattle.tactics.specs.Source.{source}
 use Rattle.tactics.proofs.SourceLaws.{in_file_lem, by_pair}
+use Rattle.machine.specs.declared.state.Mode.TheVariants as is
 use Rattle.machine.specs.declared.state.State.{State}
 use Rattle.machine.specs.Shows.{GoalsIs, Runs, Config, Holds, Shows}
 use Rattle.machine.specs.Popping.{settle, Fewer, Unwinding, Unwound}
@@ -140,12 +141,12 @@ module _ (bytes : List ℕ) (first : ℕ) (src w : List ℕ) (s : State) where
     pair_any b T job π t g k st so ar h = b bytes job T π t g k so ar h
 
     -- the next term is there at once
-    pub steps_next : BeginsAny bytes first src w s v r → r.mode ≡ 0 → Stepped bytes first src w s v r
+    pub steps_next : BeginsAny bytes first src w s v r → r.mode ≡ is.Running → Stepped bytes first src w s v r
     steps_next b m T job π t g k st so ar h =
         subst (λ (κ : M.Control). Shows bytes job v r κ) (settle-begun T π t g k) (after_next v r bytes job (begun T π t g k) (b T job π t g k st so ar h) m)
 
     -- or the frames are unwound
-    module _ (b : BeginsAny bytes first src w s v r) (m : r.mode ≡ 0 → ⊥) where
+    module _ (b : BeginsAny bytes first src w s v r) (m : r.mode ≡ is.Running → ⊥) where
       pub unwinding : Given bytes first src w s → Grown w s v r → Unwinding v r
       unwinding q gr =
           let c = after-done v r bytes q.job (begun q.table q.place q.term q.goals q.frames) (b q.table q.job q.place q.term q.goals q.frames q.table_stands q.so q.known q.runs) m in

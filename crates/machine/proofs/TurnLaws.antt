@@ -17,13 +17,14 @@ use Rattle.tactics.proofs.MemoryLaws.{same_term}
 use Rattle.frames.specs.declared.Frame.{Frame}
 use Rattle.frames.specs.Frames.{frame_at, put_frame}
 use Rattle.frames.proofs.FrameLaws.{only_frame, frame_same}
+use Rattle.machine.specs.declared.state.Mode.TheVariants as is
 use Rattle.machine.specs.declared.state.State.{State}
 use Rattle.machine.specs.Shows.{GoalsIs, FrameIs, Began, FramesAt, Sizes, Proved, Ends, Holds}
 use Rattle.machine.specs.Popping.{pop, Fits, Smaller, Waiting, Popped, turn, turned, beside}
 use Rattle.machine.proofs.KeepLaws.{kept-behind, goals_kept_lem, frames_kept}
 use Rattle.machine.proofs.WaitingLaws.{by_kind, if_proved, waiting-fits, waiting_top, waiting_mark, waiting-began, innermost}
 
-module _ (w : List ℕ) (s : State) (wait : Waiting w s) (m : s.mode ≡ 1) where
+module _ (w : List ℕ) (s : State) (wait : Waiting w s) (m : s.mode ≡ is.Proved) where
   fits : Fits w s
   fits = waiting-fits w s wait
 
@@ -91,7 +92,7 @@ module _ (w : List ℕ) (s : State) (wait : Waiting w s) (m : s.mode ≡ 1) wher
           subst (λ (y : Frame). Began y s.arena k) (sym back) same,
         )
 
-    smaller : (r : State) → r.steps ≡ s.steps → r.mode ≡ 0 → Smaller w s v r
+    smaller : (r : State) → r.steps ≡ s.steps → r.mode ≡ is.Running → Smaller w s v r
     smaller r q z = record { beyond = λ i b. only.kept.above i (omega (arith, waiting_top w s wait)); same_length = only.same_length; same_steps = q; further = λ n. absurd (n z) }
 
     -- the right term of a sequence, on the goals that its left gave

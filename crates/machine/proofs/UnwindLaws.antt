@@ -8,11 +8,12 @@ use Rattle.evaluation.specs.Outcomes.{Ending, proved, failed, ended}
 use Rattle.evaluation.specs.Machine as M
 use Rattle.evaluation.specs.Machine.{unwind}
 use Rattle.arities.specs.Layout.{frames_end}
+use Rattle.machine.specs.declared.state.Mode.TheVariants as is
 use Rattle.machine.specs.declared.state.State.{State}
 use Rattle.machine.specs.Shows.{FramesAt, Ends, Config, next, done, Holds, Shows}
 use Rattle.machine.specs.Popping.{pop, settle, Smaller, Fewer, Waiting, Popped, Unwinding, Unwound}
 use Rattle.machine.proofs.KeepLaws.{frame_top}
-use Rattle.machine.proofs.WaitingLaws.{limit_mode, under}
+use Rattle.machine.proofs.WaitingLaws.{limit_not_running, under}
 use Rattle.machine.proofs.PopLaws.{settle-pop}
 
 -- what is left to unwind comes to the same
@@ -43,18 +44,18 @@ module _ (w : List ℕ) (s : State) where
       let u = under table job w s e (x ∷ k) h in
       absurd (omega (arith, t, frame_top table job w s.arena x k s.top u.from u.frames))
 
-  pub not_running : (table job : List ℕ) (e : Ending) (k : List M.Frame) → Ends table job w s e k → s.mode ≡ 0 → ⊥
+  pub not_running : (table job : List ℕ) (e : Ending) (k : List M.Frame) → Ends table job w s e k → s.mode ≡ is.Running → ⊥
   unfolding Ends
-  not_running table job (proved p g) k h m = omega (arith, m, h.mode_is)
-  not_running table job failed k h m = omega (arith, m, h.mode_is)
-  not_running table job (ended c) k h m = omega (arith, m, limit_mode s.mode c h.limit)
+  not_running table job (proved p g) k h m = let e = h.mode_is in cc
+  not_running table job failed k h m = let e = h.mode_is in cc
+  not_running table job (ended c) k h m = limit_not_running s.mode c h.limit m
 
-  pub after-done : (table job : List ℕ) (c : Config) → Holds table job w s c → (s.mode ≡ 0 → ⊥) → Reached table job w s (settle c)
+  pub after-done : (table job : List ℕ) (c : Config) → Holds table job w s c → (s.mode ≡ is.Running → ⊥) → Reached table job w s (settle c)
   unfolding Holds settle
   after-done table job (next π t g k) h n = absurd (n h.mode_is)
   after-done table job (done e k) h n = record { ending = e; frames = k; ends = h; same = refl }
 
-  pub after_next : (table job : List ℕ) (c : Config) → Holds table job w s c → s.mode ≡ 0 → Shows table job w s (settle c)
+  pub after_next : (table job : List ℕ) (c : Config) → Holds table job w s c → s.mode ≡ is.Running → Shows table job w s (settle c)
   unfolding Holds settle Shows
   after_next table job (next π t g k) h m = h
   after_next table job (done e k) h m = absurd (not_running table job e k h m)
@@ -102,12 +103,12 @@ module _ (w₀ : List ℕ) (s₀ : State) (w : List ℕ) (s : State) (way : Towa
           settle-pop y.ending x.0 x.1 ∙ sym (ap (λ (i : List M.Frame). unwind y.ending i) x.2) ∙ y.same,
         )
 
-    pub way_next : (r.mode ≡ 0 → ⊥) → Towards w₀ s₀ v r
+    pub way_next : (r.mode ≡ is.Running → ⊥) → Towards w₀ s₀ v r
     way_next n table job e k h =
         let a = taken_off table job e k h in
         subst (λ (κ : M.Control). Reached table job v r κ) a.2 (after-done v r table job a.0 a.1 n)
 
-    pub found : r.mode ≡ 0 → Unwound w₀ s₀ v r
+    pub found : r.mode ≡ is.Running → Unwound w₀ s₀ v r
     found m table job e k h =
         let a = taken_off table job e k h in
         subst (λ (κ : M.Control). Shows table job v r κ) a.2 (after_next v r table job a.0 a.1 m)

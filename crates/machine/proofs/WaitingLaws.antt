@@ -19,6 +19,8 @@ use Rattle.evaluation.specs.Machine.{labelled, sequence_left, sequence_right, te
 use Rattle.arities.specs.Layout.{space_end, frames_end}
 use Rattle.frames.specs.declared.Frame.{Frame}
 use Rattle.frames.specs.Frames.{frame_at}
+use Rattle.machine.specs.declared.state.Mode.{Mode}
+use Rattle.machine.specs.declared.state.Mode.TheVariants as is
 use Rattle.machine.specs.declared.state.State.{State}
 use Rattle.machine.specs.Shows.{FrameIs, FramesAt, Began, Sizes, LimitMode, overflows, exceeds, Proved, Lost, Limited, Ends}
 use Rattle.machine.specs.Popping.{Fits, Waiting, Unwinding}
@@ -61,32 +63,34 @@ by_kind P k c (tensor_left π u g) e = subst (Case P) e c π u g
 by_kind P k c (tensor_right π s g) e = subst (Case P) e c π s g
 by_kind P k c (alternation_left π u g) e = subst (Case P) e c π u g
 
--- a limit is neither a proof nor a failure
-pub limit_mode : (mode : ℕ) (c : Cause) → LimitMode mode c → 3 ≤ mode
-limit_mode _ _ overflows = omega arith
-limit_mode _ _ exceeds = omega arith
+-- a limit is neither a proof nor a failure, nor is a term to begin
+pub limit_not_running : (mode : Mode) (c : Cause) → LimitMode mode c → mode ≡ is.Running → ⊥
+limit_not_running _ _ overflows m = cc
+limit_not_running _ _ exceeds m = cc
 
-limit_not_proved : (mode : ℕ) (c : Cause) → LimitMode mode c → mode ≡ 1 → ⊥
-limit_not_proved mode c l m = omega (arith, m, limit_mode mode c l)
+limit_not_proved : (mode : Mode) (c : Cause) → LimitMode mode c → mode ≡ is.Proved → ⊥
+limit_not_proved _ _ overflows m = cc
+limit_not_proved _ _ exceeds m = cc
 
-limit_not_failed : (mode : ℕ) (c : Cause) → LimitMode mode c → mode ≡ 2 → ⊥
-limit_not_failed mode c l m = omega (arith, m, limit_mode mode c l)
+limit_not_failed : (mode : Mode) (c : Cause) → LimitMode mode c → mode ≡ is.Failed → ⊥
+limit_not_failed _ _ overflows m = cc
+limit_not_failed _ _ exceeds m = cc
 
 -- which ending it is
 module _ (table job w : List ℕ) (s : State) (k : List M.Frame) (P : Ending → Type 0) where
-  pub if_proved : s.mode ≡ 1 → ((p : Term) (g : List Goal) → Proved table job w s p g k → P (proved p g)) → (e : Ending) → Ends table job w s e k → P e
+  pub if_proved : s.mode ≡ is.Proved → ((p : Term) (g : List Goal) → Proved table job w s p g k → P (proved p g)) → (e : Ending) → Ends table job w s e k → P e
   unfolding Ends
   if_proved m f (proved p g) h = f p g h
-  if_proved m f failed h = absurd (omega (arith, m, h.mode_is))
+  if_proved m f failed h = let e = h.mode_is in cc
   if_proved m f (ended c) h = absurd (limit_not_proved s.mode c h.limit m)
 
-  pub if_failed : s.mode ≡ 2 → (Lost 2 table job w s k → P failed) → (e : Ending) → Ends table job w s e k → P e
+  pub if_failed : s.mode ≡ is.Failed → (Lost is.Failed table job w s k → P failed) → (e : Ending) → Ends table job w s e k → P e
   unfolding Ends
-  if_failed m f (proved p g) h = absurd (omega (arith, m, h.mode_is))
+  if_failed m f (proved p g) h = let e = h.mode_is in cc
   if_failed m f failed h = f h
   if_failed m f (ended c) h = absurd (limit_not_failed s.mode c h.limit m)
 
-  pub if_ended : (s.mode ≡ 1 → ⊥) → (s.mode ≡ 2 → ⊥) → ((c : Cause) → Limited table job w s c k → P (ended c)) → (e : Ending) → Ends table job w s e k → P e
+  pub if_ended : (s.mode ≡ is.Proved → ⊥) → (s.mode ≡ is.Failed → ⊥) → ((c : Cause) → Limited table job w s c k → P (ended c)) → (e : Ending) → Ends table job w s e k → P e
   unfolding Ends
   if_ended a b f (proved p g) h = absurd (a h.mode_is)
   if_ended a b f failed h = absurd (b h.mode_is)

@@ -17,6 +17,8 @@ use Rattle.evaluation.specs.Machine as M
 use Rattle.evaluation.specs.Machine.{past, labelled, sequence_left, tensor_left, alternation_left, held}
 use Rattle.arities.specs.Layout.{output_end, goals_end, frames_end, space_end}
 use Rattle.frames.specs.declared.Frame.{Frame}
+use Rattle.machine.specs.declared.state.Mode.{Mode}
+use Rattle.machine.specs.declared.state.Mode.TheVariants as is
 use Rattle.machine.specs.declared.state.State.{State}
 use Rattle.machine.specs.Shows.{Config, next, done, Runs, Holds}
 
@@ -87,23 +89,23 @@ abbrev pub Begins : List ℕ → State → List ℕ → State → Term → (M.Pl
 Begins w s v r t c = (table job : List ℕ) → BeginsIn table job w s v r t c
 
 -- the term ends without a proof: it fails, or the run ends by a limit
-abbrev pub lost : (mode : ℕ) → State → State
+abbrev pub lost : (mode : Mode) → State → State
 lost mode s = record { mode = mode; file = s.file; at = s.at; start = s.start; count = s.count; top = s.top; arena = s.arena; out = s.out; held = s.held; steps = s.steps + 1 }
 
 abbrev pub failed : State → State
-failed = lost 2
+failed = lost is.Failed
 
 abbrev pub exceeded : State → State
-exceeded = lost 4
+exceeded = lost is.Exceeded
 
 -- the term gives its goals back and leaves a field of three bytes
 abbrev pub kept : State → State
-kept s = record { mode = 1; file = s.file; at = s.at; start = s.start; count = s.count; top = s.top; arena = s.arena; out = s.out + 3; held = s.held + 1; steps = s.steps + 1 }
+kept s = record { mode = is.Proved; file = s.file; at = s.at; start = s.start; count = s.count; top = s.top; arena = s.arena; out = s.out + 3; held = s.held + 1; steps = s.steps + 1 }
 
 -- the inner term is next: so many bytes on in the file, on the first of the goals; the hiproof's new end
 abbrev pub entered : State → (on count out : ℕ) → State
 entered s on count out =
-    record { mode = 0; file = s.file; at = s.at + on; start = s.start; count = count; top = s.top - 19; arena = s.arena; out = out; held = s.held; steps = s.steps + 1 }
+    record { mode = is.Running; file = s.file; at = s.at + on; start = s.start; count = count; top = s.top - 19; arena = s.arena; out = out; held = s.held; steps = s.steps + 1 }
 
 -- a frame with what it keeps of the moment at which its term begins
 abbrev pub frame_of : State → (kind at count start : ℕ) → Frame
@@ -125,8 +127,8 @@ tensor_frame s right n = frame_of s 4 right (s.count - n) (s.start + n * 2)
 -- the premises at the top of the goals, the field of a rule's name in the output
 abbrev pub used : State → (count : ℕ) → State
 used s n =
-    record { mode = 1; file = s.file; at = s.at; start = s.arena; count = n; top = s.top; arena = s.arena + n * 2; out = s.out + 5; held = s.held + 1; steps = s.steps + 1 }
+    record { mode = is.Proved; file = s.file; at = s.at; start = s.arena; count = n; top = s.top; arena = s.arena + n * 2; out = s.out + 5; held = s.held + 1; steps = s.steps + 1 }
 
 -- the body of a definition is next
 abbrev pub unfolded : State → (place : ℕ) → State
-unfolded s place = record { mode = 0; file = 0; at = place; start = s.start; count = s.count; top = s.top; arena = s.arena; out = s.out; held = s.held; steps = s.steps + 1 }
+unfolded s place = record { mode = is.Running; file = 0; at = place; start = s.start; count = s.count; top = s.top; arena = s.arena; out = s.out; held = s.held; steps = s.steps + 1 }

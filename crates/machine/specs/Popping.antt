@@ -6,6 +6,8 @@ use Rattle.evaluation.specs.Machine as M
 use Rattle.evaluation.specs.Machine.{labelled, sequence_left, sequence_right, tensor_left, tensor_right, alternation_left, held, running, unwind}
 use Rattle.arities.specs.Layout.{output_end, goals_end, frames_end, space_end}
 use Rattle.frames.specs.declared.Frame.{Frame}
+use Rattle.machine.specs.declared.state.Mode.{Mode}
+use Rattle.machine.specs.declared.state.Mode.TheVariants as is
 use Rattle.machine.specs.declared.state.State.{State}
 use Rattle.machine.specs.Shows.{Config, next, done, Ends, Holds, Shows}
 
@@ -43,7 +45,7 @@ pub record Smaller (w : List ℕ) (s : State) (v : List ℕ) (r : State) : Type 
   pub beyond : (i : ℕ) → frames_end ≤ i → get_or v i 0 ≡ get_or w i 0
   pub same_length : length v ≡ length w
   pub same_steps : r.steps ≡ s.steps
-  pub further : (r.mode ≡ 0 → ⊥) → s.top < r.top
+  pub further : (r.mode ≡ is.Running → ⊥) → s.top < r.top
 
 -- after any frames were taken off
 pub record Fewer (w : List ℕ) (s : State) (v : List ℕ) (r : State) : Type 0 where
@@ -88,15 +90,15 @@ leave s = record { mode = s.mode; file = s.file; at = s.at; start = s.start; cou
 
 -- go on with the term of a frame, on the goals of the frame: output, goals and fields held are what they were when the frame's term began
 abbrev pub alternative : State → Frame → State
-alternative s f = record { mode = 0; file = f.file; at = f.at; start = f.start; count = f.count; top = s.top + 19; arena = f.arena; out = f.mark; held = f.held; steps = s.steps }
+alternative s f = record { mode = is.Running; file = f.file; at = f.at; start = f.start; count = f.count; top = s.top + 19; arena = f.arena; out = f.mark; held = f.held; steps = s.steps }
 
 -- go on with the right term of a frame that stays, on the goals that its left term gave
 abbrev pub turn : State → Frame → State
-turn s f = record { mode = 0; file = f.file; at = f.at; start = s.start; count = s.count; top = s.top; arena = s.arena; out = s.out; held = s.held; steps = s.steps }
+turn s f = record { mode = is.Running; file = f.file; at = f.at; start = s.start; count = s.count; top = s.top; arena = s.arena; out = s.out; held = s.held; steps = s.steps }
 
 -- the same, on the goals of the frame
 abbrev pub beside : State → Frame → State
-beside s f = record { mode = 0; file = f.file; at = f.at; start = f.start; count = f.count; top = s.top; arena = s.arena; out = s.out; held = s.held; steps = s.steps }
+beside s f = record { mode = is.Running; file = f.file; at = f.at; start = f.start; count = f.count; top = s.top; arena = s.arena; out = s.out; held = s.held; steps = s.steps }
 
 -- the frame that stays, with the goals that the left term gave
 abbrev pub turned : (kind : ℕ) → State → Frame → Frame
@@ -104,12 +106,12 @@ turned kind s f = record { kind = kind; file = f.file; at = f.at; count = s.coun
 
 -- the field of a label or of a sequence closed: it is held too
 abbrev pub closed : State → State
-closed s = record { mode = 1; file = s.file; at = s.at; start = s.start; count = s.count; top = s.top + 19; arena = s.arena; out = s.out; held = s.held + 1; steps = s.steps }
+closed s = record { mode = is.Proved; file = s.file; at = s.at; start = s.start; count = s.count; top = s.top + 19; arena = s.arena; out = s.out; held = s.held + 1; steps = s.steps }
 
 -- the two lists joined, in the place of all goals since the tensor began
 abbrev pub joined : State → Frame → State
 joined s f = record {
-  mode = 1;
+  mode = is.Proved;
   file = s.file;
   at = s.at;
   start = f.arena;
@@ -122,5 +124,5 @@ joined s f = record {
 }
 
 -- the run ended by a limit, when the term of a frame was to end
-abbrev pub ended_by : (mode : ℕ) → State → State
+abbrev pub ended_by : (mode : Mode) → State → State
 ended_by mode s = record { mode = mode; file = s.file; at = s.at; start = s.start; count = s.count; top = s.top + 19; arena = s.arena; out = s.out; held = s.held; steps = s.steps }

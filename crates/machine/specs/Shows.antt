@@ -14,6 +14,8 @@ use Rattle.arities.specs.Layout.{output_end, frames_end}
 use Rattle.tactics.specs.Source.{source}
 use Rattle.frames.specs.declared.Frame.{Frame}
 use Rattle.frames.specs.Frames.{frame_at}
+use Rattle.machine.specs.declared.state.Mode.{Mode}
+use Rattle.machine.specs.declared.state.Mode.TheVariants as is
 use Rattle.machine.specs.declared.state.State.{State}
 
 -- a list of goals lies in the part of the goals that is in use
@@ -65,7 +67,7 @@ pub record Sizes (s : State) : Type 0 where
 
 -- a term that is to begin
 pub record Runs (table job w : List ℕ) (s : State) (π : M.Place) (t : Term) (g : List Goal) (k : List M.Frame) : Type 0 where
-  pub mode_is : s.mode ≡ 0
+  pub mode_is : s.mode ≡ is.Running
   pub place_is : here s ≡ π
   pub stands : Stands (source table job s.file) s.at t
   pub goals : GoalsIs w s.arena s.start s.count g
@@ -75,7 +77,7 @@ pub record Runs (table job w : List ℕ) (s : State) (π : M.Place) (t : Term) (
 
 -- a term that ended with a proof, whose field is the last of the output
 pub record Proved (table job w : List ℕ) (s : State) (p : Term) (g : List Goal) (k : List M.Frame) : Type 0 where
-  pub mode_is : s.mode ≡ 1
+  pub mode_is : s.mode ≡ is.Proved
   pub from : ℕ
   pub stands : Stands w from p
   pub out_is : s.out ≡ from + size p
@@ -86,7 +88,7 @@ pub record Proved (table job w : List ℕ) (s : State) (p : Term) (g : List Goal
   pub sizes : Sizes s
 
 -- a term that ended without one
-pub record Lost (mode : ℕ) (table job w : List ℕ) (s : State) (k : List M.Frame) : Type 0 where
+pub record Lost (mode : Mode) (table job w : List ℕ) (s : State) (k : List M.Frame) : Type 0 where
   pub mode_is : s.mode ≡ mode
   pub from : ℕ
   pub below : from ≤ s.out
@@ -94,9 +96,9 @@ pub record Lost (mode : ℕ) (table job w : List ℕ) (s : State) (k : List M.Fr
   pub sizes : Sizes s
 
 -- how a state stands that a limit ended: a joined list too long (22), or more fields than may be held (40)
-pub data LimitMode : (mode : ℕ) → Cause → Type 0 where
-  overflows : LimitMode 3 JoinedTooLong
-  exceeds : LimitMode 4 FieldsTooMany
+pub data LimitMode : (mode : Mode) → Cause → Type 0 where
+  overflows : LimitMode is.Overflowed JoinedTooLong
+  exceeds : LimitMode is.Exceeded FieldsTooMany
 
 pub record Limited (table job w : List ℕ) (s : State) (c : Cause) (k : List M.Frame) : Type 0 where
   pub limit : LimitMode s.mode c
@@ -104,7 +106,7 @@ pub record Limited (table job w : List ℕ) (s : State) (c : Cause) (k : List M.
 
 unfoldable pub Ends : (table job w : List ℕ) → State → Ending → List M.Frame → Type 0
 Ends table job w s (proved p g) k = Proved table job w s p g k
-Ends table job w s failed k = Lost 2 table job w s k
+Ends table job w s failed k = Lost is.Failed table job w s k
 Ends table job w s (ended c) k = Limited table job w s c k
 
 -- between two frames: a term to begin, or a term that ended

@@ -13,10 +13,10 @@ ghost use Rattle.tables.specs.Standing.{TableStands};
 ghost use Rattle.arities.specs.Arities.{arity_code};
 ghost use Rattle.tactics.specs.Numbers.{put_header};
 ghost use Rattle.machine.specs.Shows.{GoalsIs};
-ghost use Rattle.machine.specs.Begun.{Room, Begins, BeginsIn, id_next, empty_next, assert_next, sequence_next, alternation_next, label_next, tensor_next, atomic_next, rule_next, defined_next, lost, kept};
+ghost use Rattle.machine.specs.Begun.{Room, Begins, BeginsIn, id_next, empty_next, assert_next, sequence_next, alternation_next, label_next, tensor_next, atomic_next, rule_next, defined_next, lost, kept, entered, frame_of};
 ghost use Rattle.machine.specs.Step.{Given, BeginsAny, BeginsPair, Grown, PairStands};
 
-use crate::state::{EXCEEDED, FAILED, MOST_HELD, PROVED, RUNNING, State};
+use crate::state::{MOST_HELD, Mode, State};
 use arities::arity::{arity_of, right_of};
 use format::values::{
     Goal, Label, RuleName, TacticNo, goal_at, label_at, rule_name_at, tactic_no_at,
@@ -31,21 +31,14 @@ const ASSERTED: u8 = 17;
 
 impl State {
     // The term ends without a proof: it cannot take its goals, or one more field cannot be held.
-    fn lose(self, mode: u8) -> State
+    fn lose(self, mode: Mode) -> State
         requires { self.steps < most_steps }
         ensures { result ≡ lost mode self }
     {
         State {
             mode,
-            file: self.file,
-            at: self.at,
-            start: self.start,
-            count: self.count,
-            top: self.top,
-            arena: self.arena,
-            out: self.out,
-            held: self.held,
             steps: self.steps + 1,
+            ..self
         }
     }
 
@@ -55,19 +48,46 @@ impl State {
         ensures written { work.new ≡ put_header work.old self.out tag 0 }
         ensures kept { result ≡ kept self }
     {
-        let out = self.out;
-        put_header(work, out, tag, 0);
+        put_header(work, self.out, tag, 0);
         State {
-            mode: PROVED,
-            file: self.file,
-            at: self.at,
-            start: self.start,
-            count: self.count,
-            top: self.top,
-            arena: self.arena,
-            out: out + 3,
+            mode: Mode::Proved,
+            out: self.out + 3,
             held: self.held + 1,
             steps: self.steps + 1,
+            ..self
+        }
+    }
+
+    // The frame of a term that begins here, with the place of its right term and the goals that it keeps.
+    fn frame(self, kind: u16, at: u16, count: usize, start: usize) -> Frame
+        requires { (self.held ≤ most_held) × (count ≤ 256) }
+        ensures { result ≡ frame_of self kind at count start }
+    {
+        Frame {
+            kind,
+            file: self.file,
+            at,
+            count: count as u16,
+            start,
+            mark: self.out,
+            held: self.held as u16,
+            arena: self.arena,
+        }
+    }
+
+    // The inner term so many bytes on is next, on the first of the goals, under one frame more.
+    fn enter(self, on: usize, count: usize, out: usize) -> State
+        requires { (self.steps < most_steps) × (self.at + on < 65536) × (19 ≤ self.top) }
+        ensures { result ≡ entered self on count out }
+    {
+        State {
+            mode: Mode::Running,
+            at: self.at + on,
+            count,
+            top: self.top - 19,
+            out,
+            steps: self.steps + 1,
+            ..self
         }
     }
 
@@ -77,10 +97,10 @@ impl State {
         ensures grown { Grown work.old self work.new result }
     {
         if self.count != 1 {
-            return self.lose(FAILED);
+            return self.lose(Mode::Failed);
         }
         if MOST_HELD <= self.held {
-            return self.lose(EXCEEDED);
+            return self.lose(Mode::Exceeded);
         }
         self.keep(17, work)
     }
@@ -91,10 +111,10 @@ impl State {
         ensures grown { Grown work.old self work.new result }
     {
         if self.count != 0 {
-            return self.lose(FAILED);
+            return self.lose(Mode::Failed);
         }
         if MOST_HELD <= self.held {
-            return self.lose(EXCEEDED);
+            return self.lose(Mode::Exceeded);
         }
         self.keep(21, work)
     }
@@ -105,16 +125,15 @@ impl State {
         ensures begun { (T : Table) (γ : Goal) → goal.0 ≡ γ.0 → Begins work.old self work.new result (assert γ) (assert_next T γ) }
         ensures grown { Grown work.old self work.new result }
     {
-        let start = self.start;
         if self.count != 1 {
-            return self.lose(FAILED);
+            return self.lose(Mode::Failed);
         }
-        let here = goal_at(work, start);
+        let here = goal_at(work, self.start);
         if here.0 != goal.0 {
-            return self.lose(FAILED);
+            return self.lose(Mode::Failed);
         }
         if MOST_HELD <= self.held {
-            return self.lose(EXCEEDED);
+            return self.lose(Mode::Exceeded);
         }
         self.keep(ASSERTED, work)
     }
@@ -124,35 +143,10 @@ impl State {
         ensures begun { (t u : Term) → right ≡ self.at + 3 + size t → Begins work.old self work.new result (sequence t u) (sequence_next t u) }
         ensures grown { Grown work.old self work.new result }
     {
-        let file = self.file;
-        let out = self.out;
-        let top = self.top - 19;
-        let arena = self.arena;
-        let held = self.held;
-        put_header(work, out, 19, 0);
-        let f = Frame {
-            kind: SEQUENCE_LEFT,
-            file,
-            at: right,
-            count: 0,
-            start: 0,
-            mark: out,
-            held: held as u16,
-            arena,
-        };
-        store_frame(work, top, f);
-        State {
-            mode: RUNNING,
-            file,
-            at: self.at + 3,
-            start: self.start,
-            count: self.count,
-            top,
-            arena,
-            out: out + 3,
-            held,
-            steps: self.steps + 1,
-        }
+        put_header(work, self.out, 19, 0);
+        let next = self.enter(3, self.count, self.out + 3);
+        store_frame(work, next.top, self.frame(SEQUENCE_LEFT, right, 0, 0));
+        next
     }
 
     // An alternation leaves no field; its frame keeps the goals for the right term.
@@ -161,36 +155,13 @@ impl State {
         ensures begun { (t u : Term) → right ≡ self.at + 3 + size t → Begins work.old self work.new result (alternation t u) (alternation_next t u) }
         ensures grown { Grown work.old self work.new result }
     {
-        let file = self.file;
-        let out = self.out;
-        let top = self.top - 19;
-        let arena = self.arena;
-        let held = self.held;
-        let start = self.start;
-        let count = self.count;
-        let f = Frame {
-            kind: ALTERNATION_LEFT,
-            file,
-            at: right,
-            count: count as u16,
-            start,
-            mark: out,
-            held: held as u16,
-            arena,
-        };
-        store_frame(work, top, f);
-        State {
-            mode: RUNNING,
-            file,
-            at: self.at + 3,
-            start,
-            count,
-            top,
-            arena,
-            out,
-            held,
-            steps: self.steps + 1,
-        }
+        let next = self.enter(3, self.count, self.out);
+        store_frame(
+            work,
+            next.top,
+            self.frame(ALTERNATION_LEFT, right, self.count, self.start),
+        );
+        next
     }
 
     fn begin_label(self, name: Label, work: &mut [u8]) -> State
@@ -199,39 +170,13 @@ impl State {
         ensures grown { Grown work.old self work.new result }
     {
         if self.count != 1 {
-            return self.lose(FAILED);
+            return self.lose(Mode::Failed);
         }
-        let file = self.file;
-        let out = self.out;
-        let top = self.top - 19;
-        let arena = self.arena;
-        let held = self.held;
-        let inner = self.at + 5;
-        put_header(work, out, 18, 0);
-        store16(work, out + 3, name.0);
-        let f = Frame {
-            kind: LABELLED,
-            file,
-            at: inner as u16,
-            count: 0,
-            start: 0,
-            mark: out,
-            held: held as u16,
-            arena,
-        };
-        store_frame(work, top, f);
-        State {
-            mode: RUNNING,
-            file,
-            at: inner,
-            start: self.start,
-            count: self.count,
-            top,
-            arena,
-            out: out + 5,
-            held,
-            steps: self.steps + 1,
-        }
+        put_header(work, self.out, 18, 0);
+        store16(work, self.out + 3, name.0);
+        let next = self.enter(5, self.count, self.out + 5);
+        store_frame(work, next.top, self.frame(LABELLED, next.at as u16, 0, 0));
+        next
     }
 
     // The left term takes as many goals as its arity, which comes with one added, and 0 for none; the frame keeps the others for the right term.
@@ -241,11 +186,11 @@ impl State {
         ensures grown { Grown work.old self work.new result }
     {
         if arity == 0 {
-            return self.lose(FAILED);
+            return self.lose(Mode::Failed);
         }
         let left = (arity - 1) as usize;
         if self.count < left {
-            return self.lose(FAILED);
+            return self.lose(Mode::Failed);
         }
         self.split(right, left, work)
     }
@@ -256,36 +201,11 @@ impl State {
         ensures begun { (t u : Term) → right ≡ self.at + 3 + size t → Begins work.old self work.new result (tensor t u) (tensor_next (some left) t u) }
         ensures grown { Grown work.old self work.new result }
     {
-        let file = self.file;
-        let out = self.out;
-        let start = self.start;
-        let top = self.top - 19;
-        let arena = self.arena;
-        let held = self.held;
-        put_header(work, out, 20, 0);
-        let f = Frame {
-            kind: TENSOR_LEFT,
-            file,
-            at: right,
-            count: (self.count - left) as u16,
-            start: start + left * 2,
-            mark: out,
-            held: held as u16,
-            arena,
-        };
-        store_frame(work, top, f);
-        State {
-            mode: RUNNING,
-            file,
-            at: self.at + 3,
-            start,
-            count: left,
-            top,
-            arena,
-            out: out + 3,
-            held,
-            steps: self.steps + 1,
-        }
+        put_header(work, self.out, 20, 0);
+        let next = self.enter(3, left, self.out + 3);
+        let others = self.frame(TENSOR_LEFT, right, self.count - left, self.start + left * 2);
+        store_frame(work, next.top, others);
+        next
     }
 
     // An atomic term: its rule is looked up for its one goal.
@@ -294,14 +214,12 @@ impl State {
         ensures begun { (T : Table) (a : RuleName) → TableStands table.now first T → name.0 ≡ a.0 → Begins work.old self work.new result (atomic a) (rule_next T a) }
         ensures grown { Grown work.old self work.new result }
     {
-        let start = self.start;
         if self.count != 1 {
-            return self.lose(FAILED);
+            return self.lose(Mode::Failed);
         }
-        let goal = goal_at(work, start);
-        let found = find_rule(table, first, name, goal);
-        match found {
-            RuleFound::Missing => self.lose(FAILED),
+        let goal = goal_at(work, self.start);
+        match find_rule(table, first, name, goal) {
+            RuleFound::Missing => self.lose(Mode::Failed),
             RuleFound::Rule(_, place, count) => self.use_rule(name, place, count, table, work),
         }
     }
@@ -320,24 +238,20 @@ impl State {
         ensures grown { Grown work.old self work.new result }
     {
         if MOST_HELD <= self.held {
-            return self.lose(EXCEEDED);
+            return self.lose(Mode::Exceeded);
         }
-        let out = self.out;
-        let arena = self.arena;
-        put_header(work, out, 16, 2);
-        store16(work, out + 3, name.0);
-        copy_in(work, arena, table, place, count * 2);
+        put_header(work, self.out, 16, 2);
+        store16(work, self.out + 3, name.0);
+        copy_in(work, self.arena, table, place, count * 2);
         State {
-            mode: PROVED,
-            file: self.file,
-            at: self.at,
-            start: arena,
+            mode: Mode::Proved,
+            start: self.arena,
             count,
-            top: self.top,
-            arena: arena + count * 2,
-            out: out + 5,
+            arena: self.arena + count * 2,
+            out: self.out + 5,
             held: self.held + 1,
             steps: self.steps + 1,
+            ..self
         }
     }
 
@@ -347,20 +261,14 @@ impl State {
         ensures begun { (T : Table) (d : TacticNo) (job : List ℕ) → TableStands table.now first T → number.0 ≡ d.0 → BeginsIn table.now job work.now self work.now result (defined d) (defined_next T d) }
         ensures grown { Grown work.now self work.now result }
     {
-        let found = find_body(table, first, number);
-        match found {
-            BodyFound::Missing => self.lose(FAILED),
+        match find_body(table, first, number) {
+            BodyFound::Missing => self.lose(Mode::Failed),
             BodyFound::At(place) => State {
-                mode: RUNNING,
+                mode: Mode::Running,
                 file: 0,
                 at: place,
-                start: self.start,
-                count: self.count,
-                top: self.top,
-                arena: self.arena,
-                out: self.out,
-                held: self.held,
                 steps: self.steps + 1,
+                ..self
             },
         }
     }
@@ -372,30 +280,15 @@ impl State {
         ensures grown { Grown work.old self work.new result }
     {
         let at = self.at;
-        let tag = src[at];
-        if tag == 17 {
-            return self.begin_id(work);
+        match src[at] {
+            17 => self.begin_id(work),
+            21 => self.begin_empty(work),
+            16 => self.begin_atomic(rule_name_at(src, at + 3), table, first, work),
+            18 => self.begin_label(label_at(src, at + 3), work),
+            23 => self.begin_assert(goal_at(src, at + 3), work),
+            24 => self.begin_defined(tactic_no_at(src, at + 3), table, first, work),
+            tag => self.begin_pair(src, tag, work),
         }
-        if tag == 21 {
-            return self.begin_empty(work);
-        }
-        if tag == 16 {
-            let name = rule_name_at(src, at + 3);
-            return self.begin_atomic(name, table, first, work);
-        }
-        if tag == 18 {
-            let name = label_at(src, at + 3);
-            return self.begin_label(name, work);
-        }
-        if tag == 23 {
-            let goal = goal_at(src, at + 3);
-            return self.begin_assert(goal, work);
-        }
-        if tag == 24 {
-            let number = tactic_no_at(src, at + 3);
-            return self.begin_defined(number, table, first, work);
-        }
-        self.begin_pair(src, tag, work)
     }
 
     // A sequence, a tensor or an alternation begun.
@@ -404,15 +297,11 @@ impl State {
         ensures begun { BeginsPair src.now work.old self work.new result }
         ensures grown { Grown work.old self work.new result }
     {
-        let at = self.at;
-        let right = right_of(src, at);
-        if tag == 19 {
-            return self.begin_sequence(right, work);
+        let right = right_of(src, self.at);
+        match tag {
+            19 => self.begin_sequence(right, work),
+            20 => self.begin_tensor(right, arity_of(src, self.at + 3, work), work),
+            _ => self.begin_alternation(right, work),
         }
-        if tag == 20 {
-            let arity = arity_of(src, at + 3, work);
-            return self.begin_tensor(right, arity, work);
-        }
-        self.begin_alternation(right, work)
     }
 }

@@ -4,15 +4,14 @@ ghost use Rattle.tactics.specs.Source.{source};
 ghost use Rattle.machine.specs.Step.{Given, Stepped, Grown};
 
 // How a state stands: a term is to begin; or the last one ended with a proof, failed, or ended the run, by a joined list (22) or by the fields held (40).
-pub const RUNNING: u8 = 0;
-
-pub const PROVED: u8 = 1;
-
-pub const FAILED: u8 = 2;
-
-pub const OVERFLOWED: u8 = 3;
-
-pub const EXCEEDED: u8 = 4;
+#[derive(Clone, Copy, PartialEq, Eq)]
+pub enum Mode {
+    Running,
+    Proved,
+    Failed,
+    Overflowed,
+    Exceeded,
+}
 
 // The most fields of finished terms that a run may hold.
 pub const MOST_HELD: usize = 4096;
@@ -22,7 +21,7 @@ pub const MOST_HELD: usize = 4096;
 // part of the run are counted (`held`), and so are the terms begun.
 #[derive(Clone, Copy)]
 pub struct State {
-    pub mode: u8,
+    pub mode: Mode,
     pub file: u16,
     pub at: usize,
     pub start: usize,
@@ -42,7 +41,7 @@ impl State {
         ensures grown { Grown work.old self work.new result }
     {
         let s = self.begin(table, first, src, work);
-        if s.mode == RUNNING {
+        if s.mode == Mode::Running {
             return s;
         }
         s.unwind(work)

@@ -2,9 +2,10 @@
 ghost use Rattle.std.specs.Prelude.{◌≡◌, ◌+◌, ◌≤◌};
 ghost use Rattle.arities.specs.Layout.{frames_end};
 ghost use Rattle.frames.specs.Frames.{frame_at};
+ghost use Rattle.machine.specs.declared.state.Mode.TheVariants as is;
 ghost use Rattle.machine.specs.Popping.{Waiting, Popped, Smaller, Unwinding, Unwound, Fewer, Closing, leave, ended_by};
 
-use crate::state::{EXCEEDED, FAILED, MOST_HELD, OVERFLOWED, PROVED, RUNNING, State};
+use crate::state::{MOST_HELD, Mode, State};
 use arities::layout::FRAMES_END;
 use frames::{
     ALTERNATION_LEFT, Frame, SEQUENCE_LEFT, SEQUENCE_RIGHT, TENSOR_LEFT, TENSOR_RIGHT, load_frame,
@@ -20,218 +21,151 @@ impl State {
         ensures { result ≡ leave self }
     {
         State {
-            mode: self.mode,
-            file: self.file,
-            at: self.at,
-            start: self.start,
-            count: self.count,
             top: self.top + 19,
-            arena: self.arena,
-            out: self.out,
-            held: self.held,
-            steps: self.steps,
+            ..self
         }
     }
 
     // A term failed: an alternation begins its right term on the same goals, with what was held when it began; every other term that waits fails too.
     fn pop_failed(self, work: &[u8]) -> State
-        requires { (self.mode ≡ 2) × Waiting work.now self }
+        requires { (self.mode ≡ is.Failed) × Waiting work.now self }
         ensures popped { Popped work.now self work.now result }
         ensures smaller { Smaller work.now self work.now result }
     {
-        let top = self.top;
-        let f = load_frame(work, top);
+        let f = load_frame(work, self.top);
         if f.kind != ALTERNATION_LEFT {
             return self.leave();
         }
-        let arena = f.arena;
-        let held = f.held as usize;
         State {
-            mode: RUNNING,
+            mode: Mode::Running,
             file: f.file,
             at: f.at as usize,
             start: f.start,
             count: f.count as usize,
-            top: top + 19,
-            arena,
+            top: self.top + 19,
+            arena: f.arena,
             out: f.mark,
-            held,
-            steps: self.steps,
+            held: f.held as usize,
+            ..self
         }
     }
 
     // A term proved its goals: a sequence or a tensor begins its right term or ends, an alternation's choice stands, and the field of a label is closed.
     fn pop_proved(self, work: &mut [u8]) -> State
-        requires { (self.mode ≡ 1) × Waiting work.old self }
+        requires { (self.mode ≡ is.Proved) × Waiting work.old self }
         ensures popped { Popped work.old self work.new result }
         ensures smaller { Smaller work.old self work.new result }
     {
-        let top = self.top;
-        let f = load_frame(work, top);
-        let kind = f.kind;
-        if kind == SEQUENCE_LEFT {
-            return self.turn(work, f);
+        let f = load_frame(work, self.top);
+        match f.kind {
+            SEQUENCE_LEFT => self.turn(work, f),
+            TENSOR_LEFT => self.turn_beside(work, f),
+            TENSOR_RIGHT => self.join(work, f),
+            ALTERNATION_LEFT => self.leave(),
+            _ => self.close(work, f),
         }
-        if kind == TENSOR_LEFT {
-            return self.turn_beside(work, f);
-        }
-        if kind == TENSOR_RIGHT {
-            return self.join(work, f);
-        }
-        if kind == ALTERNATION_LEFT {
-            return self.leave();
-        }
-        self.close(work, f)
     }
 
     // A label's or a sequence's field is closed; 40 if one more cannot be held.
     fn close(self, work: &mut [u8], f: Frame) -> State
-        requires { (self.mode ≡ 1) × Closing f.kind × (f ≡ frame_at work.old self.top) × Waiting work.old self }
+        requires { (self.mode ≡ is.Proved) × Closing f.kind × (f ≡ frame_at work.old self.top) × Waiting work.old self }
         ensures popped { Popped work.old self work.new result }
         ensures smaller { Smaller work.old self work.new result }
     {
-        let mark = f.mark;
-        let out = self.out;
-        let held = self.held;
-        if MOST_HELD <= held {
-            return self.limit(EXCEEDED);
+        let held = self.held + 1;
+        if MOST_HELD < held {
+            return self.limit(Mode::Exceeded);
         }
-        store16(work, mark + 1, (out - mark - 3) as u16);
+        store16(work, f.mark + 1, (self.out - f.mark - 3) as u16);
         State {
-            mode: PROVED,
-            file: self.file,
-            at: self.at,
-            start: self.start,
-            count: self.count,
+            mode: Mode::Proved,
             top: self.top + 19,
-            arena: self.arena,
-            out,
-            held: held + 1,
-            steps: self.steps,
+            held,
+            ..self
         }
     }
 
     // A sequence's left term proved its goals: its right term is next, on what the left gave.
     fn turn(self, work: &mut [u8], f: Frame) -> State
-        requires { (self.mode ≡ 1) × (f.kind ≡ 2) × (f ≡ frame_at work.old self.top) × Waiting work.old self }
+        requires { (self.mode ≡ is.Proved) × (f.kind ≡ 2) × (f ≡ frame_at work.old self.top) × Waiting work.old self }
         ensures popped { Popped work.old self work.new result }
         ensures smaller { Smaller work.old self work.new result }
     {
-        let top = self.top;
-        let file = f.file;
-        let at = f.at;
-        let start = self.start;
-        let count = self.count;
         let g = Frame {
             kind: SEQUENCE_RIGHT,
-            file,
-            at,
-            count: count as u16,
-            start,
-            mark: f.mark,
-            held: f.held,
-            arena: f.arena,
+            count: self.count as u16,
+            start: self.start,
+            ..f
         };
-        store_frame(work, top, g);
+        store_frame(work, self.top, g);
         State {
-            mode: RUNNING,
-            file,
-            at: at as usize,
-            start,
-            count,
-            top,
-            arena: self.arena,
-            out: self.out,
-            held: self.held,
-            steps: self.steps,
+            mode: Mode::Running,
+            file: f.file,
+            at: f.at as usize,
+            ..self
         }
     }
 
     // A tensor's left term proved its goals: its right term is next, on the goals that the frame kept for it.
     fn turn_beside(self, work: &mut [u8], f: Frame) -> State
-        requires { (self.mode ≡ 1) × (f.kind ≡ 4) × (f ≡ frame_at work.old self.top) × Waiting work.old self }
+        requires { (self.mode ≡ is.Proved) × (f.kind ≡ 4) × (f ≡ frame_at work.old self.top) × Waiting work.old self }
         ensures popped { Popped work.old self work.new result }
         ensures smaller { Smaller work.old self work.new result }
     {
-        let top = self.top;
-        let file = f.file;
-        let at = f.at;
-        let start = f.start;
-        let count = f.count;
         let g = Frame {
             kind: TENSOR_RIGHT,
-            file,
-            at,
             count: self.count as u16,
             start: self.start,
-            mark: f.mark,
-            held: f.held,
-            arena: f.arena,
+            ..f
         };
-        store_frame(work, top, g);
+        store_frame(work, self.top, g);
         State {
-            mode: RUNNING,
-            file,
-            at: at as usize,
-            start,
-            count: count as usize,
-            top,
-            arena: self.arena,
-            out: self.out,
-            held: self.held,
-            steps: self.steps,
+            mode: Mode::Running,
+            file: f.file,
+            at: f.at as usize,
+            start: f.start,
+            count: f.count as usize,
+            ..self
         }
     }
 
     // A tensor's right term proved its goals: the two lists are joined and its field is closed; 22 if they are too many, 40 if one more field cannot be held.
     fn join(self, work: &mut [u8], f: Frame) -> State
-        requires { (self.mode ≡ 1) × (f.kind ≡ 5) × (f ≡ frame_at work.old self.top) × Waiting work.old self }
+        requires { (self.mode ≡ is.Proved) × (f.kind ≡ 5) × (f ≡ frame_at work.old self.top) × Waiting work.old self }
         ensures popped { Popped work.old self work.new result }
         ensures smaller { Smaller work.old self work.new result }
     {
         let left = f.count as usize;
-        let right = self.count;
-        let mark = f.mark;
-        let place = f.arena;
-        let out = self.out;
-        if 256 < left + right {
-            return self.limit(OVERFLOWED);
+        let count = left + self.count;
+        if 256 < count {
+            return self.limit(Mode::Overflowed);
         }
         if MOST_HELD <= self.held {
-            return self.limit(EXCEEDED);
+            return self.limit(Mode::Exceeded);
         }
-        join_goals(work, place, self.arena, f.start, left, self.start, right);
-        store16(work, mark + 1, (out - mark - 3) as u16);
+        join_goals(
+            work, f.arena, self.arena, f.start, left, self.start, self.count,
+        );
+        store16(work, f.mark + 1, (self.out - f.mark - 3) as u16);
         State {
-            mode: PROVED,
-            file: self.file,
-            at: self.at,
-            start: place,
-            count: left + right,
+            mode: Mode::Proved,
+            start: f.arena,
+            count,
             top: self.top + 19,
-            arena: place + (left + right) * 2,
-            out,
+            arena: f.arena + count * 2,
             held: self.held + 1,
-            steps: self.steps,
+            ..self
         }
     }
 
     // The run ends by a limit, when the term of a frame was to end.
-    fn limit(self, mode: u8) -> State
+    fn limit(self, mode: Mode) -> State
         requires { self.top ≤ frames_end }
         ensures { result ≡ ended_by mode self }
     {
         State {
             mode,
-            file: self.file,
-            at: self.at,
-            start: self.start,
-            count: self.count,
-            top: self.top + 19,
-            arena: self.arena,
-            out: self.out,
-            held: self.held,
-            steps: self.steps,
+            ..self.leave()
         }
     }
 
@@ -241,13 +175,11 @@ impl State {
         ensures popped { Popped work.old self work.new result }
         ensures smaller { Smaller work.old self work.new result }
     {
-        if self.mode == PROVED {
-            return self.pop_proved(work);
+        match self.mode {
+            Mode::Proved => self.pop_proved(work),
+            Mode::Failed => self.pop_failed(work),
+            _ => self.leave(),
         }
-        if self.mode == FAILED {
-            return self.pop_failed(work);
-        }
-        self.leave()
     }
 
     // To the next term to begin, or to the end of the run.
@@ -259,7 +191,7 @@ impl State {
         let mut s = self;
         while s.top < FRAMES_END {
             s = s.pop(work);
-            if s.mode == RUNNING {
+            if s.mode == Mode::Running {
                 return s;
             }
         }
