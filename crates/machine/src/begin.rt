@@ -18,16 +18,17 @@ ghost use Rattle.machine.specs.Step.{Given, BeginsAny, BeginsPair, Grown, PairSt
 
 use crate::state::{MOST_HELD, Mode, State};
 use arities::arity::{arity_of, right_of};
-use format::values::{
-    Goal, Label, RuleName, TacticNo, goal_at, label_at, rule_name_at, tactic_no_at,
+use format::tags::{
+    ASSERTION, ATOMIC, DEFINED, EMPTY, ID, LABEL, SEQUENCE, TENSOR,
 };
+use format::values::{Goal, Label, RuleName, TacticNo, value_at};
 use frames::{ALTERNATION_LEFT, Frame, LABELLED, SEQUENCE_LEFT, TENSOR_LEFT, store_frame};
 use tables::lookup::{BodyFound, RuleFound, find_body, find_rule};
 use tactics::numbers::put_header;
 use words::{copy_in, store16};
 
 // The field that an assertion leaves is that of id.
-const ASSERTED: u8 = 17;
+const ASSERTED: u8 = ID;
 
 impl State {
     // The term ends without a proof: it cannot take its goals, or one more field cannot be held.
@@ -102,7 +103,7 @@ impl State {
         if MOST_HELD <= self.held {
             return self.lose(Mode::Exceeded);
         }
-        self.keep(17, work)
+        self.keep(ID, work)
     }
 
     fn begin_empty(self, work: &mut [u8]) -> State
@@ -116,7 +117,7 @@ impl State {
         if MOST_HELD <= self.held {
             return self.lose(Mode::Exceeded);
         }
-        self.keep(21, work)
+        self.keep(EMPTY, work)
     }
 
     // An assertion leaves id on one goal equal to its own.
@@ -128,8 +129,8 @@ impl State {
         if self.count != 1 {
             return self.lose(Mode::Failed);
         }
-        let here = goal_at(work, self.start);
-        if here.0 != goal.0 {
+        let here: Goal = value_at(work, self.start);
+        if here != goal {
             return self.lose(Mode::Failed);
         }
         if MOST_HELD <= self.held {
@@ -143,7 +144,7 @@ impl State {
         ensures begun { (t u : Term) → right ≡ self.at + 3 + size t → Begins work.old self work.new result (sequence t u) (sequence_next t u) }
         ensures grown { Grown work.old self work.new result }
     {
-        put_header(work, self.out, 19, 0);
+        put_header(work, self.out, SEQUENCE, 0);
         let next = self.enter(3, self.count, self.out + 3);
         store_frame(work, next.top, self.frame(SEQUENCE_LEFT, right, 0, 0));
         next
@@ -172,7 +173,7 @@ impl State {
         if self.count != 1 {
             return self.lose(Mode::Failed);
         }
-        put_header(work, self.out, 18, 0);
+        put_header(work, self.out, LABEL, 0);
         store16(work, self.out + 3, name.0);
         let next = self.enter(5, self.count, self.out + 5);
         store_frame(work, next.top, self.frame(LABELLED, next.at as u16, 0, 0));
@@ -201,7 +202,7 @@ impl State {
         ensures begun { (t u : Term) → right ≡ self.at + 3 + size t → Begins work.old self work.new result (tensor t u) (tensor_next (some left) t u) }
         ensures grown { Grown work.old self work.new result }
     {
-        put_header(work, self.out, 20, 0);
+        put_header(work, self.out, TENSOR, 0);
         let next = self.enter(3, left, self.out + 3);
         let others = self.frame(TENSOR_LEFT, right, self.count - left, self.start + left * 2);
         store_frame(work, next.top, others);
@@ -217,7 +218,7 @@ impl State {
         if self.count != 1 {
             return self.lose(Mode::Failed);
         }
-        let goal = goal_at(work, self.start);
+        let goal: Goal = value_at(work, self.start);
         match find_rule(table, first, name, goal) {
             RuleFound::Missing => self.lose(Mode::Failed),
             RuleFound::Rule(_, place, count) => self.use_rule(name, place, count, table, work),
@@ -240,7 +241,7 @@ impl State {
         if MOST_HELD <= self.held {
             return self.lose(Mode::Exceeded);
         }
-        put_header(work, self.out, 16, 2);
+        put_header(work, self.out, ATOMIC, 2);
         store16(work, self.out + 3, name.0);
         copy_in(work, self.arena, table, place, count * 2);
         State {
@@ -281,12 +282,12 @@ impl State {
     {
         let at = self.at;
         match src[at] {
-            17 => self.begin_id(work),
-            21 => self.begin_empty(work),
-            16 => self.begin_atomic(rule_name_at(src, at + 3), table, first, work),
-            18 => self.begin_label(label_at(src, at + 3), work),
-            23 => self.begin_assert(goal_at(src, at + 3), work),
-            24 => self.begin_defined(tactic_no_at(src, at + 3), table, first, work),
+            ID => self.begin_id(work),
+            EMPTY => self.begin_empty(work),
+            ATOMIC => self.begin_atomic(value_at(src, at + 3), table, first, work),
+            LABEL => self.begin_label(value_at(src, at + 3), work),
+            ASSERTION => self.begin_assert(value_at(src, at + 3), work),
+            DEFINED => self.begin_defined(value_at(src, at + 3), table, first, work),
             tag => self.begin_pair(src, tag, work),
         }
     }
@@ -299,8 +300,8 @@ impl State {
     {
         let right = right_of(src, self.at);
         match tag {
-            19 => self.begin_sequence(right, work),
-            20 => self.begin_tensor(right, arity_of(src, self.at + 3, work), work),
+            SEQUENCE => self.begin_sequence(right, work),
+            TENSOR => self.begin_tensor(right, arity_of(src, self.at + 3, work), work),
             _ => self.begin_alternation(right, work),
         }
     }

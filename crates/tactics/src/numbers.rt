@@ -4,19 +4,12 @@ ghost use Rattle.tactics.specs.Numbers.{triple, put_triple, long, put_long, put_
 
 use words::{load16, store16};
 
-// A byte as a number.
-fn wide(b: u8) -> usize
-    ensures { (result ≡ b) × (result < 256) }
-{
-    b as usize
-}
-
 // A value of 24 bits, low byte first.
 pub fn load24(s: &[u8], at: usize) -> usize
     requires { at + 2 < length s.now }
     ensures { result ≡ triple s.now at }
 {
-    wide(s[at]) + wide(s[at + 1]) * 256 + wide(s[at + 2]) * 65536
+    s[at] as usize + s[at + 1] as usize * 256 + s[at + 2] as usize * 65536
 }
 
 // The same stored.
@@ -34,7 +27,7 @@ pub fn load32(s: &[u8], at: usize) -> usize
     requires { at + 3 < length s.now }
     ensures { result ≡ long s.now at }
 {
-    (load16(s, at) as usize) * 65536 + (load16(s, at + 2) as usize)
+    load16(s, at) as usize * 65536 + load16(s, at + 2) as usize
 }
 
 // The same stored.
