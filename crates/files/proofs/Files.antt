@@ -11,7 +11,9 @@ use lib.Seq.{drop-drop, drop_at}
 use borrow.Author.Tests.{ltb-true, ltb-false, le-ltb}
 use Rattle.format.specs.declared.values.Goal.{Goal}
 use Rattle.format.specs.Limits.{most_bytes, most_goals}
-use Rattle.format.specs.Refusals.{Cause, number, InputTooLong}
+use Rattle.format.specs.declared.refusals.Cause.{Cause}
+use Rattle.format.specs.declared.refusals.Cause.TheVariants.{InputTooLong}
+use Rattle.format.specs.Refusals.{number}
 use Rattle.format.specs.Results.{Result, gives, refused, and_then}
 use Rattle.format.specs.Inputs.{of_size}
 use Rattle.format.specs.Terms.{Term, size}

@@ -9,7 +9,8 @@ use lib.Dec.{eqb}
 use lib.ListN.{length}
 use borrow.Author.Tests.{eq-eqb, ne_eqb, eqb-true, eqb-false}
 use Rattle.format.specs.GoalsRead as G
-use Rattle.format.specs.Refusals.{number, LengthWrong}
+use Rattle.format.specs.declared.refusals.Cause.TheVariants.{LengthWrong}
+use Rattle.format.specs.Refusals.{number}
 use Rattle.format.specs.Tags.{tactic_kind}
 use Rattle.parts.specs.declared.state.State.{State}
 use Rattle.parts.specs.States.{refusing, behind_term, begun_file}

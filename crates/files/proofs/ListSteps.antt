@@ -13,7 +13,8 @@ use Rattle.format.specs.declared.headers.HeaderRead.TheVariants as H
 use Rattle.format.specs.GoalsRead.{GoalsRead}
 use Rattle.format.specs.GoalsRead as G
 use Rattle.format.specs.Limits.{most_bytes, most_goals}
-use Rattle.format.specs.Refusals.{number, InputTooLong, LimitPassed}
+use Rattle.format.specs.declared.refusals.Cause.TheVariants.{InputTooLong, LimitPassed}
+use Rattle.format.specs.Refusals.{number}
 use Rattle.format.specs.Results.{told}
 use Rattle.format.specs.Inputs.{of_size}
 use Rattle.format.specs.Tags.{goal_list_kind}

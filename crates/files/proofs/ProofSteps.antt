@@ -10,7 +10,8 @@ use lib.ListN.{length}
 use borrow.Author.Tests.{eq-eqb, ne_eqb, eqb-true, eqb-false}
 use Rattle.format.specs.GoalsRead as G
 use Rattle.format.specs.TermRead as T
-use Rattle.format.specs.Refusals.{number, LengthWrong}
+use Rattle.format.specs.declared.refusals.Cause.TheVariants.{LengthWrong}
+use Rattle.format.specs.Refusals.{number}
 use Rattle.format.specs.Tags.{hiproof_kind}
 use Rattle.format.specs.Goals.{read_goals}
 use Rattle.format.specs.Shapes.{goals_shape}

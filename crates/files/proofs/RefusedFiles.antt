@@ -7,7 +7,9 @@ use Prim.Native.Nat.{ℕ, ◌+◌, ◌≤◌, ◌<◌}
 use native.Mathlib.Omega.{arith}
 use lib.Dec.{eqb}
 use lib.ListN.{length}
-use Rattle.format.specs.Refusals.{Cause, number, LengthWrong}
+use Rattle.format.specs.declared.refusals.Cause.{Cause}
+use Rattle.format.specs.declared.refusals.Cause.TheVariants.{LengthWrong}
+use Rattle.format.specs.Refusals.{number}
 use Rattle.format.specs.Results.{gives, refused}
 use Rattle.format.specs.Tags.{hiproof_kind, tactic_kind}
 use Rattle.format.proofs.ResultLaws.{never_gives}

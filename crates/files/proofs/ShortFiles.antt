@@ -7,7 +7,7 @@ use native.Mathlib.Omega.{arith}
 use lib.ListN.{length}
 use borrow.Author.Tests.{lt-ltb, le-ltb}
 use Rattle.format.specs.Limits.{most_bytes}
-use Rattle.format.specs.Refusals.{FieldTorn}
+use Rattle.format.specs.declared.refusals.Cause.TheVariants.{FieldTorn}
 use Rattle.format.specs.Results.{Result, refused, and_then}
 use Rattle.format.specs.Inputs.{of_size}
 use Rattle.format.specs.Tags.{tactic_kind}

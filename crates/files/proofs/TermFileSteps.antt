@@ -11,7 +11,8 @@ use borrow.Author.Tests.{eq-eqb, ne_eqb, eqb-true, eqb-false, ltb-true, ltb-fals
 use Rattle.format.specs.TermRead.{TermRead}
 use Rattle.format.specs.TermRead as T
 use Rattle.format.specs.Limits.{most_bytes}
-use Rattle.format.specs.Refusals.{number, InputTooLong, LengthWrong}
+use Rattle.format.specs.declared.refusals.Cause.TheVariants.{InputTooLong, LengthWrong}
+use Rattle.format.specs.Refusals.{number}
 use Rattle.format.specs.Tags.{tactic_kind}
 use Rattle.parts.specs.declared.state.State.{State}
 use Rattle.parts.specs.States.{refusing, asking, behind_term, blank_state, begun_file}

@@ -8,7 +8,7 @@ use lib.Dec.{eqb, ltb}
 use lib.ListN.{length}
 use borrow.Author.Tests.{eqb-true, ltb-false}
 use Rattle.format.specs.Limits.{most_bytes}
-use Rattle.format.specs.Refusals.{InputTooLong, LengthWrong}
+use Rattle.format.specs.declared.refusals.Cause.TheVariants.{InputTooLong, LengthWrong}
 use Rattle.format.specs.Results.{gives}
 use Rattle.format.specs.Tags.{hiproof_kind, tactic_kind}
 use Rattle.format.specs.Terms.{Term, size}

@@ -1,7 +1,7 @@
 -- Document 01, "Fields": "Proof file: a goal list, one term of tags 16 to 21 (a hiproof), a goal list of those remaining."
 use Rattle.std.specs.Prelude.{ℕ, ◌+◌, ◌*◌, cond, List, [], ◌∷◌, ◌++◌, eqb, length}
 use Rattle.format.specs.declared.values.Goal.{Goal}
-use Rattle.format.specs.Refusals.{LengthWrong}
+use Rattle.format.specs.declared.refusals.Cause.TheVariants.{LengthWrong}
 use Rattle.format.specs.Results.{Result, gives, refused, and_then}
 use Rattle.format.specs.Inputs.{of_size}
 use Rattle.format.specs.Tags.{hiproof_kind}

@@ -3,11 +3,11 @@ ghost use Rattle.std.specs.Prelude.{◌≡◌, ◌+◌, ◌≤◌, length};
 ghost use Rattle.words.specs.Kept.{Kept};
 ghost use Rattle.reading.specs.Waiting.{reading_room};
 ghost use Rattle.files.specs.Jobs.{read_job};
-ghost use Rattle.files.specs.Shapes.{job_shape, told_job};
+ghost use Rattle.files.specs.Shapes.{job_parts, job_shape};
 
-use parts::begin_file;
-use parts::state::{JOB_GOALS, REFUSED, State};
-use reading::read_on;
+use crate::whole::read_whole;
+use format::refusals::Refusal;
+use parts::state::{JOB_GOALS, State};
 
 // The parts of a job: the number of goals and the place of the term.
 #[derive(Clone, Copy)]
@@ -16,33 +16,22 @@ pub struct JobParts {
     pub term: usize,
 }
 
-// What reading a job file finds: the refusal's number and place, or the parts.
-#[derive(Clone, Copy)]
-pub enum JobRead {
-    Refused(u8, usize),
-    Read(JobParts),
-}
+impl From<State> for JobParts {
+    ghost from_gives = { λ x p. p ≡ job_parts x.goals x.from };
 
-// What was found, once there is no field left to read.
-fn found(x: State) -> JobRead
-    ensures { result ≡ told_job x }
-{
-    if x.mode == REFUSED {
-        return JobRead::Refused(x.number, x.place);
+    fn from(x: State) -> JobParts {
+        JobParts {
+            goals: x.goals,
+            term: x.from,
+        }
     }
-    JobRead::Read(JobParts {
-        goals: x.goals,
-        term: x.from,
-    })
 }
 
 // A job file; nothing may be left behind its term. While that is read its fields wait in work, from base on.
-pub fn read_job(s: &[u8], work: &mut [u8], base: usize) -> JobRead
+pub fn read_job(s: &[u8], work: &mut [u8], base: usize) -> Result<JobParts, Refusal>
     requires { base + reading_room ≤ length work.old }
     ensures value { result ≡ job_shape (read_job s.now) }
     ensures kept { Kept work.old work.new base (base + reading_room) }
 {
-    let start = begin_file(s, JOB_GOALS);
-    let last = read_on(s, start, work, base);
-    found(last)
+    read_whole(s, JOB_GOALS, work, base)
 }

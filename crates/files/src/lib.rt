@@ -6,3 +6,4 @@ pub mod flats;
 pub mod jobs;
 pub mod proofs;
 pub mod terms;
+mod whole;

@@ -3,11 +3,11 @@ ghost use Rattle.std.specs.Prelude.{◌≡◌, ◌+◌, ◌≤◌, length};
 ghost use Rattle.words.specs.Kept.{Kept};
 ghost use Rattle.reading.specs.Waiting.{reading_room};
 ghost use Rattle.files.specs.Proofs.{read_proof_fields, proof_bytes, empty_proof, or_empty_proof};
-ghost use Rattle.files.specs.Shapes.{proof_shape, told_proof};
+ghost use Rattle.files.specs.Shapes.{proof_parts, proof_shape};
 
-use parts::begin_file;
-use parts::state::{PROOF_GOALS, REFUSED, State};
-use reading::read_on;
+use crate::whole::read_whole;
+use format::refusals::Refusal;
+use parts::state::{PROOF_GOALS, State};
 
 // The parts of a proof: the number of goals, the place of the term, the place of the remaining list, which is the term's end, and the number of remaining goals.
 #[derive(Clone, Copy)]
@@ -18,26 +18,17 @@ pub struct ProofParts {
     pub remaining: usize,
 }
 
-// What reading a proof file finds: the refusal's number and place, or the parts. Whether the proof is right is not asked here.
-#[derive(Clone, Copy)]
-pub enum ProofRead {
-    Refused(u8, usize),
-    Read(ProofParts),
-}
+impl From<State> for ProofParts {
+    ghost from_gives = { λ x p. p ≡ proof_parts x.goals x.from x.rest x.second };
 
-// What was found, once there is no field left to read.
-fn found(x: State) -> ProofRead
-    ensures { result ≡ told_proof x }
-{
-    if x.mode == REFUSED {
-        return ProofRead::Refused(x.number, x.place);
+    fn from(x: State) -> ProofParts {
+        ProofParts {
+            goals: x.goals,
+            term: x.from,
+            rest: x.rest,
+            remaining: x.second,
+        }
     }
-    ProofRead::Read(ProofParts {
-        goals: x.goals,
-        term: x.from,
-        rest: x.rest,
-        remaining: x.second,
-    })
 }
 
 // The nine bytes of the proof that zero bytes mean.
@@ -54,19 +45,14 @@ pub fn or_empty_proof<'a>(s: &'a [u8], empty: &'a [u8]) -> &'a [u8]
     requires { empty.now ≡ proof_bytes empty_proof }
     ensures { result.now ≡ or_empty_proof s.now }
 {
-    if s.len() == 0 {
-        return empty;
-    }
-    s
+    if s.is_empty() { empty } else { s }
 }
 
-// The fields of a proof file; nothing may be left behind its last list. While its term is read the fields of it wait in work, from base on.
-pub fn read_proof_fields(s: &[u8], work: &mut [u8], base: usize) -> ProofRead
+// The fields of a proof file; nothing may be left behind its last list. Whether the proof is right is not asked here. While its term is read the fields of it wait in work, from base on.
+pub fn read_proof_fields(s: &[u8], work: &mut [u8], base: usize) -> Result<ProofParts, Refusal>
     requires { base + reading_room ≤ length work.old }
     ensures value { result ≡ proof_shape (read_proof_fields s.now) }
     ensures kept { Kept work.old work.new base (base + reading_room) }
 {
-    let start = begin_file(s, PROOF_GOALS);
-    let last = read_on(s, start, work, base);
-    found(last)
+    read_whole(s, PROOF_GOALS, work, base)
 }
