@@ -308,65 +308,70 @@ module _ (s : List ℕ) (at end : ℕ) (t₀ : Term) (w₀ : List ℕ) (o : Room
 
 -- ---- what the small functions come to, by the tag
 
+width_pair : (t : Term) → 18 < tag_of t → tag_of t < 21 → 3 ≡ width t
+unfolding width tag_of
+width_pair (atomic a) l h = absurd (omega arith)
+width_pair id l h = absurd (omega arith)
+width_pair (label k t) l h = absurd (omega arith)
+width_pair (sequence t u) l h = refl
+width_pair (tensor t u) l h = refl
+width_pair empty l h = absurd (omega arith)
+width_pair (alternation t u) l h = absurd (omega arith)
+width_pair (assert γ) l h = absurd (omega arith)
+width_pair (defined n) l h = absurd (omega arith)
+
+width_whole : (t : Term) → (18 ≤ tag_of t → 20 < tag_of t) → width t ≡ size t
+unfolding width size tag_of
+width_whole (atomic a) h = refl
+width_whole id h = refl
+width_whole (label l t) h = absurd (omega (arith, h))
+width_whole (sequence t u) h = absurd (omega (arith, h))
+width_whole (tensor t u) h = absurd (omega (arith, h))
+width_whole empty h = refl
+width_whole (alternation t u) h = refl
+width_whole (assert γ) h = refl
+width_whole (defined n) h = refl
+
+one_arity : (t : Term) → tag_of t < 19 → input_arity t ≡ 1
+unfolding tag_of input_arity
+one_arity (atomic a) h = refl
+one_arity id h = refl
+one_arity (label l t) h = refl
+one_arity (sequence t u) h = absurd (omega arith)
+one_arity (tensor t u) h = absurd (omega arith)
+one_arity empty h = absurd (omega arith)
+one_arity (alternation t u) h = absurd (omega arith)
+one_arity (assert γ) h = absurd (omega arith)
+one_arity (defined n) h = absurd (omega arith)
+
+no_arity : (t : Term) → (16 ≤ tag_of t → 20 < tag_of t) → input_arity t ≡ 0
+unfolding tag_of input_arity
+no_arity (atomic a) h = absurd (omega (arith, h))
+no_arity id h = absurd (omega (arith, h))
+no_arity (label l t) h = absurd (omega (arith, h))
+no_arity (sequence t u) h = absurd (omega (arith, h))
+no_arity (tensor t u) h = absurd (omega (arith, h))
+no_arity empty h = refl
+no_arity (alternation t u) h = refl
+no_arity (assert γ) h = refl
+no_arity (defined n) h = refl
+
 module _ (s : List ℕ) (at : ℕ) where
   pub next_label : get_or s at 0 ≡ 18 → (t : Term) → Stands s at t → at + 5 ≡ at + width t
   unfolding width
   next_label e = by_tag s at (λ t. at + 5 ≡ at + width t) 18 (λ l t o. refl) e
 
-  pub next_sequence : get_or s at 0 ≡ 19 → (t : Term) → Stands s at t → at + 3 ≡ at + width t
-  unfolding width
-  next_sequence e = by_tag s at (λ t. at + 3 ≡ at + width t) 19 (λ a b o. refl) e
+  pub next_pair : 18 < get_or s at 0 → get_or s at 0 < 21 → (t : Term) → Stands s at t → at + 3 ≡ at + width t
+  next_pair l h t st = let k = (known s at t st).tag_is in ap (λ (k : ℕ). at + k) (width_pair t (omega arith) (omega arith))
 
-  pub next_tensor : get_or s at 0 ≡ 20 → (t : Term) → Stands s at t → at + 3 ≡ at + width t
-  unfolding width
-  next_tensor e = by_tag s at (λ t. at + 3 ≡ at + width t) 20 (λ a b o. refl) e
-
-  width_whole : (t : Term) → (tag_of t ≡ 18 → ⊥) → (tag_of t ≡ 19 → ⊥) → (tag_of t ≡ 20 → ⊥) → width t ≡ size t
-  unfolding width size tag_of
-  width_whole (atomic a) x y z = refl
-  width_whole id x y z = refl
-  width_whole (label l t) x y z = absurd (x refl)
-  width_whole (sequence t u) x y z = absurd (y refl)
-  width_whole (tensor t u) x y z = absurd (z refl)
-  width_whole empty x y z = refl
-  width_whole (alternation t u) x y z = refl
-  width_whole (assert γ) x y z = refl
-  width_whole (defined n) x y z = refl
-
-  pub next_other : (get_or s at 0 ≡ 18 → ⊥) → (get_or s at 0 ≡ 19 → ⊥) → (get_or s at 0 ≡ 20 → ⊥) → (t : Term) → Stands s at t → at + 3 + word s (at + 1) ≡ at + width t
-  next_other x y z t st =
-      let k = known s at t st in
-      omega (arith, k.length_is, width_whole t (λ e. x (k.tag_is ∙ e)) (λ e. y (k.tag_is ∙ e)) (λ e. z (k.tag_is ∙ e)))
-
-  one_arity : (t : Term) → tag_of t < 19 → input_arity t ≡ 1
-  unfolding tag_of input_arity
-  one_arity (atomic a) h = refl
-  one_arity id h = refl
-  one_arity (label l t) h = refl
-  one_arity (sequence t u) h = absurd (omega arith)
-  one_arity (tensor t u) h = absurd (omega arith)
-  one_arity empty h = absurd (omega arith)
-  one_arity (alternation t u) h = absurd (omega arith)
-  one_arity (assert γ) h = absurd (omega arith)
-  one_arity (defined n) h = absurd (omega arith)
-
-  no_arity : (t : Term) → 19 ≤ tag_of t → (tag_of t ≡ 19 → ⊥) → (tag_of t ≡ 20 → ⊥) → input_arity t ≡ 0
-  unfolding tag_of input_arity
-  no_arity (atomic a) h x y = absurd (omega arith)
-  no_arity id h x y = absurd (omega arith)
-  no_arity (label l t) h x y = absurd (omega arith)
-  no_arity (sequence t u) h x y = absurd (x refl)
-  no_arity (tensor t u) h x y = absurd (y refl)
-  no_arity empty h x y = refl
-  no_arity (alternation t u) h x y = refl
-  no_arity (assert γ) h x y = refl
-  no_arity (defined n) h x y = refl
+  pub next_other : (18 ≤ get_or s at 0 → 20 < get_or s at 0) → (t : Term) → Stands s at t → at + 3 + word s (at + 1) ≡ at + width t
+  next_other h t st = let k = known s at t st in omega (arith, k.length_is, width_whole t (λ e. omega (arith, h, k.tag_is)))
 
   pub arity_one : get_or s at 0 < 19 → (t : Term) → Stands s at t → 1 ≡ input_arity t
   arity_one h t st = sym (one_arity t (omega (arith, (known s at t st).tag_is)))
 
-  pub arity_none : 19 ≤ get_or s at 0 → (get_or s at 0 ≡ 19 → ⊥) → (get_or s at 0 ≡ 20 → ⊥) → (t : Term) → Stands s at t → 0 ≡ input_arity t
-  arity_none h x y t st = let k = known s at t st in sym (no_arity t (omega (arith, k.tag_is)) (λ e. x (k.tag_is ∙ e)) (λ e. y (k.tag_is ∙ e)))
+  pub arity_none : (16 ≤ get_or s at 0 → 20 < get_or s at 0) → (t : Term) → Stands s at t → 0 ≡ input_arity t
+  arity_none h t st = sym (no_arity t (λ e. omega (arith, h, (known s at t st).tag_is)))
 
   module _ (w : List ℕ) where
     abbrev After : Term → List Term → Type 0

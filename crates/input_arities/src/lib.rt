@@ -14,9 +14,11 @@ ghost use Rattle.input_arities.specs.Arities.{Noted};
 ghost use Rattle.input_arities.specs.Threads.{slot, width, after, Own, Owns, Room, Threads, ListedHere, Listable, Lists};
 
 use crate::layout::FRAMES_END;
+use format::tags::{ATOMIC, ID, LABEL, SEQUENCE, TENSOR};
 use words::{load16, store16};
 
 // Notes a value in the two bytes of the field at a place.
+#[tactic(auto, unfolding(crate::specs::Threads::slot))]
 fn note(work: &mut [u8], at: usize, value: usize)
     requires { (slot at + 1 < length work.old) × (value ≤ 65535) }
     ensures { work.new ≡ put_word work.old (slot at) value }
@@ -25,6 +27,7 @@ fn note(work: &mut [u8], at: usize, value: usize)
 }
 
 // The value that was noted for the field at a place.
+#[tactic(auto, unfolding(crate::specs::Threads::slot))]
 fn noted(work: &[u8], at: usize) -> usize
     requires { slot at + 1 < length work.now }
     ensures { result ≡ word work.now (slot at) }
@@ -37,17 +40,11 @@ fn next_at(s: &[u8], at: usize) -> usize
     requires { (t : Term) × Stands s.now at t × (at + size t ≤ 65535) }
     ensures { (t : Term) → Stands s.now at t → result ≡ at + width t }
 {
-    let tag = s[at];
-    if tag == 18 {
-        return at + 5;
+    match s[at] {
+        LABEL => at + 5,
+        SEQUENCE | TENSOR => at + 3,
+        _ => at + 3 + load16(s, at + 1) as usize,
     }
-    if tag == 19 {
-        return at + 3;
-    }
-    if tag == 20 {
-        return at + 3;
-    }
-    at + 3 + load16(s, at + 1) as usize
 }
 
 // The place behind the first inner term of the field at a place.
@@ -63,20 +60,12 @@ fn arity_of(s: &[u8], at: usize, work: &[u8]) -> usize
     requires { (t : Term) × (g : List Term) × Stands s.now at t × Owns work.now (at + width t) (after t g) × (slot (at + size t) ≤ length work.now) × (at + size t ≤ 65535) }
     ensures { (t : Term) (g : List Term) → Stands s.now at t → Owns work.now (at + width t) (after t g) → result ≡ input_arity t }
 {
-    let tag = s[at];
-    if tag == 19 {
-        return noted(work, at + 3);
+    match s[at] {
+        SEQUENCE => noted(work, at + 3),
+        TENSOR => noted(work, at + 3) + noted(work, second_at(s, at)),
+        ATOMIC | ID | LABEL => 1,
+        _ => 0,
     }
-    if tag == 20 {
-        let next = second_at(s, at);
-        let left = noted(work, at + 3);
-        let right = noted(work, next);
-        return left + right;
-    }
-    if tag < 19 {
-        return 1;
-    }
-    0
 }
 
 // Links each field to the one before it, and gives the last.
@@ -115,7 +104,7 @@ fn list_one(s: &[u8], at: usize, work: &mut [u8], next: usize) -> usize
     requires { (t : Term) × (g : List Term) × Listable s.now at work.old next t g }
     ensures { (t : Term) (g : List Term) → Listable s.now at work.old next t g → ListedHere work.new next t result × Kept work.old work.new next result }
 {
-    if s[at] != 20 {
+    if s[at] != TENSOR {
         return next;
     }
     let left = noted(work, at + 3);

@@ -1,60 +1,28 @@
 -- `input_arities::next_at` meets its contract: the tag says which term it is.
 -- Assumes nothing.
-use mathlib.Core.Path.{ap, ◌∙◌}
-use Prim.Native.Nat.{ℕ, ◌+◌}
-use native.Mathlib.Omega.{arith}
-use Rattle.format.proofs.StandsLaws.{Known, known}
-use Rattle.input_arities.proofs.ThreadLaws.{next_label, next_sequence, next_tensor, next_other}
+use Rattle.std.proofs.Common.{ℕ, ◌+◌, ap, ◌∙◌, arith}
+use Rattle.format.proofs.StandsLaws.{known}
+use Rattle.input_arities.proofs.ThreadLaws.{next_label, next_pair, next_other}
 use Rattle.input_arities.proofs.next_at.Goals as goal
+use Rattle.input_arities.proofs.next_at.Goals.{in_default-via-then-this-lt18, in_default-via-else-this-lt18+else-this-lt21}
 
 pub bounds-s-at : goal.bounds-s-at
-bounds-s-at c =
-    let head : Known c.args.s.now c.args.at c.requires.0 = known _ _ _ c.requires.1 in
-    omega (arith, head.inside, head.three)
-
-pub overflow_add-result : goal.overflow_add-result
-overflow_add-result c =
-    let head : Known c.args.s.now c.args.at c.requires.0 = known _ _ _ c.requires.1 in
-    omega (arith, head.three, c.requires.2)
-
-pub returns-then-tag-eq18 : goal.returns-then-tag-eq18
-returns-then-tag-eq18 c = next_label _ _ c.if-tag-eq18.true
-
-pub overflow_add-result-then-tag-eq19 : goal.overflow_add-result-then-tag-eq19
-overflow_add-result-then-tag-eq19 c =
-    let head : Known c.args.s.now c.args.at c.requires.0 = known _ _ _ c.requires.1 in
-    omega (arith, head.three, c.requires.2)
-
-pub returns-then-tag-eq19 : goal.returns-then-tag-eq19
-returns-then-tag-eq19 c = next_sequence _ _ c.if-tag-eq19.true
-
-pub overflow_add-result-then-tag-eq20 : goal.overflow_add-result-then-tag-eq20
-overflow_add-result-then-tag-eq20 c =
-    let head : Known c.args.s.now c.args.at c.requires.0 = known _ _ _ c.requires.1 in
-    omega (arith, head.three, c.requires.2)
-
-pub returns-then-tag-eq20 : goal.returns-then-tag-eq20
-returns-then-tag-eq20 c = next_tensor _ _ c.if-tag-eq20.true
-
-pub overflow_add-result-2 : goal.overflow_add-result-2
-overflow_add-result-2 c =
-    let head : Known c.args.s.now c.args.at c.requires.0 = known _ _ _ c.requires.1 in
-    omega (arith, head.three, c.requires.2)
-
-pub overflow_add-at : goal.overflow_add-at
-overflow_add-at c =
-    let head : Known c.args.s.now c.args.at c.requires.0 = known _ _ _ c.requires.1 in
-    omega (arith, head.three, c.requires.2)
+bounds-s-at c = omega (arith, known _ _ _ c.requires.1)
 
 pub load16-requires : goal.load16-requires
-load16-requires c =
-    let head : Known c.args.s.now c.args.at c.requires.0 = known _ _ _ c.requires.1 in
-    omega (arith, head.three, head.inside)
+load16-requires c = omega (arith, known _ _ _ c.requires.1)
 
-pub overflow_add-result-3 : goal.overflow_add-result-3
-overflow_add-result-3 c =
-    let head : Known c.args.s.now c.args.at c.requires.0 = known _ _ _ c.requires.1 in
-    omega (arith, head.length_is, c.requires.2, c.load16.ensures)
+pub returns-in-18 : goal.returns-in-18
+returns-in-18 c = next_label _ _ c.in-18.is
 
-pub returns : goal.returns
-returns c = λ t st. ap (λ (k : ℕ). c.args.at + 3 + k) c.load16.ensures ∙ next_other _ _ c.if-tag-eq18.false c.if-tag-eq19.false c.if-tag-eq20.false t st
+pub returns-in-19 : goal.returns-in-19
+returns-in-19 c = next_pair _ _ (omega arith) (omega arith)
+
+pub returns-in_default : goal.returns-in_default
+returns-in_default c =
+    λ t st.
+    ap (λ (k : ℕ). c.args.at + 3 + k) c.load16.ensures
+    ∙ elim c.in_default.branch [
+      | in_default-via-then-this-lt18 w ↦ next_other _ _ (λ e. omega arith) t st
+      | in_default-via-else-this-lt18+else-this-lt21 w ↦ next_other _ _ (λ e. omega arith) t st
+    ]

@@ -7,7 +7,7 @@ use native.Mathlib.Omega.{arith}
 use lib.ListN.{length}
 use Rattle.words.specs.Word.{word}
 use Rattle.format.specs.Terms.{Term, size}
-use Rattle.format.proofs.StandsLaws.{Known, known}
+use Rattle.format.proofs.StandsLaws.{known}
 use Rattle.input_arities.specs.Threads.{Room}
 use Rattle.input_arities.proofs.ThreadLaws.{room_again}
 use Rattle.input_arities.proofs.ListLaws.{noted_all}
@@ -19,25 +19,8 @@ room s w at n t is o =
     let e : at + size t ≡ at + 3 + n = omega (arith, (known _ _ _ o.stands).length_is, is) in
     subst (λ (k : ℕ). Room s at k w t) e o
 
-pub overflow_add-end : goal.overflow_add-end
-overflow_add-end c =
-    let head : Known c.args.s.now c.args.at c.requires.0 = known _ _ _ c.requires.1.stands in
-    omega (arith, head.three, c.requires.1.small)
-
-pub overflow_add-at : goal.overflow_add-at
-overflow_add-at c =
-    let head : Known c.args.s.now c.args.at c.requires.0 = known _ _ _ c.requires.1.stands in
-    omega (arith, head.three, c.requires.1.small)
-
 pub load16-requires : goal.load16-requires
-load16-requires c =
-    let head : Known c.args.s.now c.args.at c.requires.0 = known _ _ _ c.requires.1.stands in
-    omega (arith, head.three, head.inside)
-
-pub overflow_add-end-2 : goal.overflow_add-end-2
-overflow_add-end-2 c =
-    let head : Known c.args.s.now c.args.at c.requires.0 = known _ _ _ c.requires.1.stands in
-    omega (arith, head.length_is, c.load16.ensures, c.requires.1.small)
+load16-requires c = omega (arith, known _ _ _ c.requires.1.stands)
 
 pub link-last-requires : goal.link-last-requires
 link-last-requires c = (c.requires.0, room _ _ _ _ _ c.load16.ensures c.requires.1)
@@ -52,9 +35,6 @@ list-requires c =
     let long : length c.settle.new.work ≡ length c.args.work.now = c.settle.auto.work ∙ c.link-last.auto.work in
     let o = room _ _ _ _ _ c.load16.ensures c.requires.1 in
     (c.requires.0, room_again _ _ _ _ _ _ long o, (c.settle.ensures c.requires.0 _ (room_again _ _ _ _ _ _ c.link-last.auto.work o) (c.link-last.ensures c.requires.0 o)).0)
-
-pub shape_of-work : goal.shape_of-work
-shape_of-work c = c.list.auto.work ∙ c.settle.auto.work ∙ c.link-last.auto.work
 
 pub returns : goal.returns
 returns c =
