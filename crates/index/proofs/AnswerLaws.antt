@@ -1,5 +1,6 @@
 -- What a search by the index says of the fields that the index is of: which of them has the key, or that none has.
 -- Assumes nothing.
+use Rattle.std.specs.Prelude.{Result, Ok, Err}
 use mathlib.Core.Path.{◌≡◌, sym, subst, ◌∙◌}
 use mathlib.Core.Bool.{true}
 use mathlib.Core.List.{List, Memᴰ}
@@ -7,8 +8,9 @@ use Prim.Native.Nat.{ℕ, ◌+◌, ◌<◌}
 use native.Mathlib.Omega.{arith}
 use lib.ListN.{length, get_or}
 use Rattle.words.specs.Word.{word}
-use Rattle.index.specs.declared.seek.Sought.{Sought}
-use Rattle.index.specs.declared.seek.Sought.TheVariants as S
+use Rattle.index.specs.declared.seek.Found.{Found}
+use Rattle.index.specs.declared.seek.Vacant.{Vacant}
+use Rattle.index.specs.declared.seek.Vacant.TheVariants.{Side, Head}
 use Rattle.index.specs.Nodes.{head_of, place_of, link_of}
 use Rattle.index.specs.Keys.{is_key, digits}
 use Rattle.index.specs.Index.{hits, FindsKey, MissesKey, Sound, Seeks, Tree}
@@ -54,18 +56,15 @@ module _ (number : ℕ) (s ps w : List ℕ) (base n : ℕ) (tree : Tree number s
   }
 
   -- by where the code's search ends
-  module _ (r : Sought) (so : (n : ℕ) → Sound number s w base n → Seeks number s w base n value more r) where
-    own : (x : Sought) → r ≡ x → Seeks number s w base n value more x
-    own x e = subst (λ (x : Sought). Seeks number s w base n value more x) e (so n tree.sound)
+  module _ (r : Result Found Vacant) (so : (n : ℕ) → Sound number s w base n → Seeks number s w base n value more r) where
+    own : (x : Result Found Vacant) → r ≡ x → Seeks number s w base n value more x
+    own x e = subst (λ (x : Result Found Vacant). Seeks number s w base n value more x) e (so n tree.sound)
 
-    pub at_head : r ≡ S.NoHead → Nowhere
+    pub at_vacant : (v : Vacant) → r ≡ Err v → Nowhere
     unfolding Seeks
-    at_head e = headless (own S.NoHead e)
+    at_vacant Head e = headless (own (Err Head) e)
+    at_vacant (Side k t) e = missed k t (own (Err (Side k t)) e).2
 
-    pub at_slot : (k t : ℕ) → r ≡ S.Slot k t → Nowhere
+    pub at_node : (f : Found) → r ≡ Ok f → Only f.node f.place
     unfolding Seeks
-    at_slot k t e = missed k t (own (S.Slot k t) e).2
-
-    pub at_node : (i q : ℕ) → r ≡ S.Node i q → Only i q
-    unfolding Seeks
-    at_node i q e = let x = own (S.Node i q) e in found i q x.0 x.1 x.2 x.3
+    at_node f e = let x = own (Ok f) e in found f.node f.place x.0 x.1 x.2 x.3

@@ -1,5 +1,6 @@
 -- The turns of a loop over headers one behind the other, each compared with those before it: for 6 and 8 by the index, for 7 and 9 by the table of what was seen.
 -- Assumes nothing.
+use Rattle.std.specs.Prelude.{Some, None}
 use mathlib.Core.Path.{◌≡◌, refl, sym, subst, ap, ◌∙◌}
 use mathlib.Core.Bool.{true, false}
 use mathlib.Core.List.Memᴰ
@@ -7,7 +8,6 @@ use mathlib.Core.List.{List, [], ◌∷◌, ◌++◌, append-nil, append_assoc, 
 use Prim.Native.Nat.{ℕ, ◌+◌, ◌≤◌, ◌<◌}
 use native.Mathlib.Omega.{arith}
 use lib.ListN.{length, length-append}
-use Rattle.tables.specs.declared.repeats.Clash.TheVariants as C
 use Rattle.tables.specs.Repeats.{clashes_any, first_clash}
 use Rattle.tables.specs.Standing.{InRow}
 use Rattle.tables.specs.Within.{Every}
@@ -87,7 +87,7 @@ module _ (number : ℕ) (s : List ℕ) (Each : ℕ → Type 0) (to : ℕ) (ps : 
       pub room_left : length t.seen < length ps
       room_left = omega (arith, length-append t.seen t.left, ap length t.whole, ap length here.is)
 
-      pub turn_clash : clashes_any (clash_at number s) at t.seen ≡ true → first_clash (clash_at number s) [] (places ps) ≡ clash_told (C.At at)
+      pub turn_clash : clashes_any (clash_at number s) at t.seen ≡ true → first_clash (clash_at number s) [] (places ps) ≡ clash_told (Some at)
       unfolding clash_told
       turn_clash e = t.told ∙ stops number s at t.seen t.left to t.ahead l e
 
@@ -102,7 +102,7 @@ module _ (number : ℕ) (s : List ℕ) (Each : ℕ → Type 0) (to : ℕ) (ps : 
         has = x;
       }
 
-    pub turn_last : to ≤ at → (first_clash (clash_at number s) [] (places ps) ≡ clash_told C.Nowhere) × Has ps
+    pub turn_last : to ≤ at → (first_clash (clash_at number s) [] (places ps) ≡ clash_told None) × Has ps
     unfolding clash_told
     turn_last h = (
       t.told ∙ no_more number s at t.seen t.left to t.ahead h,

@@ -1,5 +1,6 @@
 -- The table of what was seen: its four bits, and the clash of a field with those seen by the marks.
 -- Assumes nothing.
+use Rattle.std.specs.Prelude.{Option}
 use mathlib.Core.Path.{◌≡◌, refl, sym, subst, ap, ◌∙◌}
 use mathlib.Core.Bool.{Bool, true, false, cond, not}
 use mathlib.Core.Logic.{◌⊎◌, inl, inr, ◌≢◌}
@@ -14,7 +15,6 @@ use borrow.Author.Tests.{ltb-true, ltb-false, lt-ltb, le-ltb, eqb-true, eqb-fals
 use Rattle.words.specs.Word.{word}
 use Rattle.words.specs.Kept.{Kept}
 use Rattle.words.proofs.KeptLaws.{kept_same, kept_both}
-use Rattle.tables.specs.declared.repeats.Clash.{Clash}
 use Rattle.tables.specs.Repeats.{clashes_any, first_clash}
 use Rattle.tables.specs.Search.{clash_at, Headers, places, clash_told}
 use Rattle.tables.proofs.SearchLaws.{silent, same_value, for_length, for_value, none_clashes}
@@ -289,7 +289,7 @@ seen_nothing number s w w' base from to b ps h = record {
         omega (arith, z)
 
 -- the search is over
-pub over : (number : ℕ) (s w w₁ w' : List ℕ) (base from to : ℕ) (r : Clash) (ps : List ℕ) → Headers number s from ps to → first_clash (clash_at number s) [] (places ps) ≡ clash_told r
+pub over : (number : ℕ) (s w w₁ w' : List ℕ) (base from to : ℕ) (r : Option ℕ) (ps : List ℕ) → Headers number s from ps to → first_clash (clash_at number s) [] (places ps) ≡ clash_told r
     → Readies number s w w₁ base from to → Kept w₁ w' base (base + seen_room) → Repeats number s w w' base from to r
 over number s w w₁ w' base from to r ps h e b k = record {
   first = λ qs g. subst (λ (l : List ℕ). first_clash (clash_at number s) [] (places l) ≡ clash_told r) (headers_one number s ps qs from to h g) e;

@@ -1,9 +1,8 @@
 -- The table of what was seen: four bits for each value of two bytes, 0 where no field of the value was seen, else the mark of the fields seen.
-use Rattle.std.specs.Prelude.{ℕ, ◌+◌, ◌*◌, ◌/◌, ◌%◌, ◌<◌, ◌≡◌, Bool, false, cond, ◌⊎◌, eqb, ltb, get_or, set}
+use Rattle.std.specs.Prelude.{Option, ℕ, ◌+◌, ◌*◌, ◌/◌, ◌%◌, ◌<◌, ◌≡◌, Bool, false, cond, ◌⊎◌, eqb, ltb, get_or, set}
 use mathlib.Core.List.{List, [], ◌∷◌, ◌++◌, Memᴰ}
 use Rattle.words.specs.Word.{word}
 use Rattle.words.specs.Kept.{Kept}
-use Rattle.tables.specs.declared.repeats.Clash.{Clash}
 use Rattle.tables.specs.Repeats.{clashes_any, first_clash}
 use Rattle.tables.specs.Search.{searched_tag, clash_at, Headers, places, clash_told}
 use Rattle.seen.specs.Layout.{seen_room}
@@ -74,6 +73,6 @@ pub record Readies (number : ℕ) (s w w' : List ℕ) (base from to : ℕ) : Typ
   pub kept : Kept w w' base (base + seen_room)
 
 -- the search: the first clash, and what is left alone
-pub record Repeats (number : ℕ) (s w w' : List ℕ) (base from to : ℕ) (r : Clash) : Type 0 where
+pub record Repeats (number : ℕ) (s w w' : List ℕ) (base from to : ℕ) (r : Option ℕ) : Type 0 where
   pub first : (ps : List ℕ) → Headers number s from ps to → first_clash (clash_at number s) [] (places ps) ≡ clash_told r
   pub kept : Kept w w' base (base + seen_room)

@@ -12,7 +12,7 @@ ghost use Rattle.seen.specs.Seen.{seen_at, put_seen, mark_of, Marked, Markable, 
 
 use crate::layout::SEEN_ROOM;
 use crate::ready::make_ready;
-use tables::repeats::{Clash, searched, step};
+use tables::repeats::{searched, step};
 use words::load16;
 
 // What was seen of a value.
@@ -81,7 +81,7 @@ pub fn first_repeat(
     from: usize,
     to: usize,
     number: u8,
-) -> Clash
+) -> Option<usize>
     requires { ((ps : List ℕ) × Headers number s.now from ps to × Every (Markable number s.now) ps) × (base + seen_room ≤ length w.old) }
     ensures { Repeats number s.now w.old w.new base from to result }
 {
@@ -89,9 +89,9 @@ pub fn first_repeat(
     let mut at = from;
     while at < to {
         if meets(s, w, base, at, number) {
-            return Clash::At(at);
+            return Some(at);
         }
         at += step(s, at, number);
     }
-    Clash::Nowhere
+    None
 }

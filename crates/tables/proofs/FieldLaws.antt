@@ -10,7 +10,7 @@ use lib.ListN.{length, get_or}
 use borrow.Author.Tests.{eqb-true, leb-false, eq-eqb, ne_eqb}
 use Rattle.words.specs.Word.{word}
 use Rattle.format.specs.Limits.{most_rules, most_definitions, most_term_fields}
-use Rattle.format.specs.Refusals.{LengthWrong}
+use Rattle.format.specs.declared.refusals.Cause.TheVariants.{LengthWrong}
 use Rattle.format.specs.Results.{gives}
 use Rattle.format.specs.Values.{tactic_no}
 use Rattle.format.specs.Tags.{rows, find_row, row_of, kind_of, least_of, most_of, inner_of, rule_kind, definition_kind, tactic_kind}

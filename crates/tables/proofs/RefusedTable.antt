@@ -10,7 +10,9 @@ use lib.Dec.{eqb, ltb}
 use lib.ListN.{length}
 use borrow.Author.Tests.{ltb-false}
 use Rattle.format.specs.Limits.{most_bytes}
-use Rattle.format.specs.Refusals.{Cause, number, InputTooLong, FieldTorn, LengthWrong, RuleRepeated, PremiseCountDiffers, TacticRedefined, LabelRepeated}
+use Rattle.format.specs.declared.refusals.Cause.{Cause}
+use Rattle.format.specs.declared.refusals.Cause.TheVariants.{InputTooLong, FieldTorn, LengthWrong, RuleRepeated, PremiseCountDiffers, TacticRedefined, LabelRepeated}
+use Rattle.format.specs.Refusals.{number}
 use Rattle.format.specs.Results.{Result, gives, refused, and_then}
 use Rattle.format.specs.Tags.{definition_kind, tactic_kind}
 use Rattle.format.specs.Next.{full_table, lowest}

@@ -12,7 +12,8 @@ use borrow.Author.Tests.{leb-true, eqb-true, eqb-false, eq-eqb, ne_eqb}
 use Rattle.format.specs.declared.headers.HeaderRead.{HeaderRead}
 use Rattle.format.specs.declared.headers.HeaderRead.TheVariants as H
 use Rattle.format.specs.TermRead.{TermRead, Read}
-use Rattle.format.specs.Refusals.{number, LengthWrong}
+use Rattle.format.specs.declared.refusals.Cause.TheVariants.{LengthWrong}
+use Rattle.format.specs.Refusals.{number}
 use Rattle.format.specs.Tags.{definition_kind, tactic_kind}
 use Rattle.format.specs.Next.{full_table, lowest}
 use Rattle.format.specs.Headers.{header_at}

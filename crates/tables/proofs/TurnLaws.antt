@@ -1,5 +1,7 @@
 -- The fields of a table from a place on, as the code tells them: by the header of the first, and where it is a definition by what its body comes to.
 -- Assumes nothing.
+use Rattle.std.specs.Prelude.{Ok, Err}
+use Rattle.std.specs.Prelude as std
 use mathlib.Core.Path.{◌≡◌, refl, sym, ap, ◌∙◌}
 use mathlib.Core.Bool.{Bool, true, false, cond}
 use mathlib.Core.List.{List}
@@ -9,10 +11,11 @@ use lib.Dec.{eqb}
 use lib.ListN.{length}
 use borrow.Author.Tests.{lt-ltb, le-ltb, eq-eqb, ne_eqb, eqb-true}
 use Rattle.words.specs.Word.{word}
-use Rattle.format.specs.declared.headers.HeaderRead.TheVariants as H
+use Rattle.format.specs.declared.headers.Header as read
+use Rattle.format.specs.declared.refusals.Refusal.{Refusal}
 use Rattle.format.specs.TermRead.{TermRead, Refused, Read}
-use Rattle.format.specs.Refusals.{number, LengthWrong}
-use Rattle.format.specs.Results.{Result, gives, refused, and_then, told}
+use Rattle.format.specs.declared.refusals.Cause.TheVariants.{LengthWrong}
+use Rattle.format.specs.Results.{Result, gives, refused, and_then, told, refused_at}
 use Rattle.format.specs.Values.{tactic_no}
 use Rattle.format.specs.Tags.{definition_kind, tactic_kind}
 use Rattle.format.specs.Next.{full_table, lowest}
@@ -20,11 +23,11 @@ use Rattle.format.specs.Headers.{Header, header, header_at}
 use Rattle.format.specs.ReadTerms.{ParsedTerm, read_term}
 use Rattle.format.specs.Shapes.{header_shape, term_shape}
 use Rattle.format.proofs.HeaderLaws.{IsField, is_field, told-field}
+use Rattle.format.proofs.ResultLaws.{same_refusal}
 use Rattle.parts.specs.States.{end_of}
 use Rattle.reading.specs.Waiting.{reads}
 use Rattle.reading.proofs.ShapeLaws.{reads_any}
-use Rattle.tables.specs.declared.fields.TableRead.{TableRead}
-use Rattle.tables.specs.declared.fields.TableRead.TheVariants as R
+use Rattle.tables.specs.declared.fields.TableParts.{TableParts}
 use Rattle.tables.specs.Tables.{Rule, Definition, Table}
 use Rattle.tables.specs.Repeats.{rule_size, rules_size}
 use Rattle.tables.specs.ReadTables.{Field, rule_field, definition_field, rule_of, definition_of, field_of, read_field, with_rule, with_definition, fields_of, read_fields}
@@ -33,19 +36,25 @@ use Rattle.tables.proofs.FieldLaws.{RuleRead, FieldLaw, field_law}
 use Rattle.tables.proofs.FieldBound.{same_bound}
 
 -- what the code tells of a table once so many rules and definitions are read and the rules so far end at a place
-unfoldable pub table_from : (rules definitions first : ℕ) → Result Table → TableRead
-table_from r d first x = told R.Refused (λ T. R.Read (r + length T.rules) (d + length T.definitions) (first + rules_size T.rules)) x
+abbrev Told : Type 0
+Told = std.Result TableParts Refusal
+
+abbrev counted : (rules definitions first : ℕ) → Told
+counted r d first = Ok (record { rules = r; definitions = d; first = first })
+
+unfoldable pub table_from : (rules definitions first : ℕ) → Result Table → Told
+table_from r d first x = told refused_at (λ T. counted (r + length T.rules) (d + length T.definitions) (first + rules_size T.rules)) x
 
 -- the same of the fields from a place on, after so many term fields, at a bound that is enough for every field of the file
-unfoldable pub table_at : List ℕ → (rules definitions first at count : ℕ) → TableRead
+unfoldable pub table_at : List ℕ → (rules definitions first at count : ℕ) → Told
 table_at s r d first at n = table_from r d first (read_fields (suc (length s)) s at r d n)
 
 -- the same from the body of the definition at `field` on, by what the body comes to: nothing is left behind that
-unfoldable pub behind_body : List ℕ → (field rules definitions first : ℕ) → TermRead → TableRead
-behind_body s field r d first (Refused k p) = R.Refused k p
-behind_body s field r d first (Read next n) = cond (eqb next (end_of s field)) (table_at s r (d + 1) first next n) (R.Refused (number LengthWrong) field)
+unfoldable pub behind_body : List ℕ → (field rules definitions first : ℕ) → TermRead → Told
+behind_body s field r d first (Refused k p) = refused_at k p
+behind_body s field r d first (Read next n) = cond (eqb next (end_of s field)) (table_at s r (d + 1) first next n) (refused_at LengthWrong field)
 
-same_read : {a b c i j k : ℕ} → a ≡ i → b ≡ j → c ≡ k → R.Read a b c ≡ R.Read i j k
+same_read : {a b c i j k : ℕ} → a ≡ i → b ≡ j → c ≡ k → counted a b c ≡ counted i j k
 same_read p q r = rw (p, q, r)
 
 with_rule_lem : (r d first : ℕ) (x : Rule) (y : Result Table) → table_from r d first (with_rule x y) ≡ table_from (r + 1) d (first + rule_size x) y
@@ -69,7 +78,7 @@ unfolding table_at
 from_start s = told_whole _ ∙ ap (table_from 0 0 0) (same_bound s (length s + 1) (suc (length s)) 0 0 0 0 (omega arith) (omega arith))
 
 -- no field is left
-pub at_end : (s : List ℕ) (r d first at n : ℕ) → length s ≤ at → table_at s r d first at n ≡ R.Read r d first
+pub at_end : (s : List ℕ) (r d first at n : ℕ) → length s ≤ at → table_at s r d first at n ≡ counted r d first
 unfolding table_at read_fields table_from told rules_size
 at_end s r d first at n e = rw (le-ltb at (length s) e) (same_read (omega arith) (omega arith) (omega arith))
 
@@ -90,15 +99,15 @@ module _ (s : List ℕ) (r d first at n : ℕ) (l : at < length s) where
   one_less next i j m h = same_bound s (length s) (suc (length s)) next i j m (omega arith) (omega arith)
 
   -- the header is refused
-  pub turn_refused : (k p : ℕ) → header_shape here ≡ H.Refused k p → table_at s r d first at n ≡ R.Refused k p
+  pub turn_refused : (f : Refusal) → header_shape here ≡ Err f → table_at s r d first at n ≡ Err f
   unfolding read_field header_shape table_from told and_then
-  turn_refused k p e = step ∙ go here e
+  turn_refused f e = step ∙ go here e
     where
-      go : (x : Result Header) → header_shape x ≡ H.Refused k p → table_from r d first (and_then (and_then x (field_of s at n)) rest) ≡ R.Refused k p
+      go : (x : Result Header) → header_shape x ≡ Err f → table_from r d first (and_then (and_then x (field_of s at n)) rest) ≡ Err f
       go (gives h) e = absurd (let z : ◌≡◌ {A = ℕ} 0 1 = cc in omega arith)
-      go (refused c q) e = let a : number c ≡ k = cc in let b : q ≡ p = cc in rw (a, b)
+      go (refused c q) e = ap Err (same_refusal e)
 
-  module _ (tag len : ℕ) (e : header_shape here ≡ H.Field tag len) where
+  module _ (tag len : ℕ) (e : header_shape here ≡ Ok (record { tag = tag; len = len })) where
     header_is : here ≡ gives (header tag len)
     header_is = told-field here tag len e
 
@@ -134,7 +143,7 @@ module _ (s : List ℕ) (r d first at n : ℕ) (l : at < length s) where
         where
           go : (b : Bool) → eqb u.next (at + 3 + len) ≡ b
               → table_from r d first (and_then (cond b (gives (definition_field (record { tactic = tactic_no (word s (at + 3)); body = u.term }) u.next u.count)) (refused LengthWrong at)) rest)
-              ≡ cond b (table_at s r (d + 1) first u.next u.count) (R.Refused (number LengthWrong) at)
+              ≡ cond b (table_at s r (d + 1) first u.next u.count) (refused_at LengthWrong at)
           go true q = with_definition_lem r d first _ _ ∙ ap (table_from r (d + 1) first) (one_less u.next r (d + 1) u.count (omega (arith, eqb-true u.next (at + 3 + len) q)))
           go false q = refl
 

@@ -4,7 +4,7 @@ use mathlib.Core.Path.{◌≡◌, refl}
 use mathlib.Core.List.{List, [], ◌∷◌}
 use Prim.Native.Nat.{ℕ}
 use Rattle.format.specs.declared.values.Goal.{Goal}
-use Rattle.format.specs.Refusals.{RuleRepeated, PremiseCountDiffers, TacticRedefined, LabelRepeated}
+use Rattle.format.specs.declared.refusals.Cause.TheVariants.{RuleRepeated, PremiseCountDiffers, TacticRedefined, LabelRepeated}
 use Rattle.format.specs.Results.{refused}
 use Rattle.format.specs.Values.{rule_name, goal, label_of, tactic_no}
 use Rattle.format.specs.Terms.{Term, id, label, size}

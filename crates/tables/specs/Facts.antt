@@ -2,7 +2,8 @@
 use Rattle.std.specs.Prelude.{ℕ, ◌≤◌, ◌≡◌, List, [], length}
 use Rattle.std.proofs.Math.Option.{Option, none}
 use Rattle.format.specs.Limits.{most_bytes, most_rules, most_definitions, most_term_fields}
-use Rattle.format.specs.Refusals.{Cause, number}
+use Rattle.format.specs.declared.refusals.Cause.{Cause}
+use Rattle.format.specs.Refusals.{number}
 use Rattle.tables.specs.Tables.{Table}
 use Rattle.tables.specs.Repeats.{rules_size, placed_rules, placed_tactics, labels_of, first_clash, repeats_rule, recounts_rule, repeats_tactic, repeats_label}
 use Rattle.tables.specs.Standing.{TableStands}

@@ -1,7 +1,7 @@
 -- Document 01, "Fields" and "What the bytes bring about": reading a table, 1, "then field by field in byte order", then 6, 7, 8, 9.
 use Rattle.std.specs.Prelude.{ℕ, zero, suc, ◌+◌, ◌-◌, ◌/◌, cond, List, [], ◌∷◌, eqb, ltb, length}
 use Rattle.words.specs.Word.{word}
-use Rattle.format.specs.Refusals.{FieldTorn, LengthWrong}
+use Rattle.format.specs.declared.refusals.Cause.TheVariants.{FieldTorn, LengthWrong}
 use Rattle.format.specs.Results.{Result, gives, refused, and_then}
 use Rattle.format.specs.Inputs.{of_size}
 use Rattle.format.specs.Values.{rule_name, goal, tactic_no}

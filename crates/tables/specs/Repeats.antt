@@ -3,7 +3,8 @@ use Rattle.std.specs.Prelude.{ℕ, ◌+◌, ◌*◌, Bool, true, false, cond, �
 use Rattle.std.proofs.Math.Option.{Option, none, some}
 use Rattle.format.specs.declared.values.Label.{Label}
 use Rattle.format.specs.declared.values.TacticNo.{TacticNo}
-use Rattle.format.specs.Refusals.{Cause, RuleRepeated, PremiseCountDiffers, TacticRedefined, LabelRepeated}
+use Rattle.format.specs.declared.refusals.Cause.{Cause}
+use Rattle.format.specs.declared.refusals.Cause.TheVariants.{RuleRepeated, PremiseCountDiffers, TacticRedefined, LabelRepeated}
 use Rattle.format.specs.Results.{Result, gives, refused}
 use Rattle.format.specs.Terms.{Term, atomic, id, label, sequence, tensor, empty, alternation, assert, defined, size}
 use Rattle.tables.specs.Tables.{Rule, Definition, Table}

@@ -1,10 +1,9 @@
 -- The search for 6, 7, 8 and 9 over the bytes of a table: over headers one behind the other, by the number of the refusal.
-use Rattle.std.specs.Prelude.{ℕ, ◌+◌, ◌≤◌, ◌≡◌, Bool, true, cond, ◌&&◌, not, List, [], ◌∷◌, eqb, ltb, length, get_or}
+use Rattle.std.specs.Prelude.{Some, None, ℕ, ◌+◌, ◌≤◌, ◌≡◌, Bool, true, cond, ◌&&◌, not, List, [], ◌∷◌, eqb, ltb, length, get_or}
+use Rattle.std.specs.Prelude as std
 use Rattle.std.proofs.Math.Option.{Option, none, some}
 use Rattle.words.specs.Word.{word}
 use Rattle.format.specs.Tags.{least_of}
-use Rattle.tables.specs.declared.repeats.Clash.{Clash}
-use Rattle.tables.specs.declared.repeats.Clash.TheVariants as C
 use Rattle.tables.specs.Repeats.{Placed}
 use Rattle.tables.specs.Standing.{InRow}
 
@@ -43,6 +42,6 @@ places [] = []
 places (p ∷ ps) = record { value = p; place = p } ∷ places ps
 
 -- the answer of the search
-unfoldable pub clash_told : Clash → Option ℕ
-clash_told C.Nowhere = none
-clash_told (C.At p) = some p
+unfoldable pub clash_told : std.Option ℕ → Option ℕ
+clash_told None = none
+clash_told (Some p) = some p

@@ -5,30 +5,36 @@ ghost use Rattle.reading.specs.Waiting.{reading_room};
 ghost use Rattle.tables.specs.ReadTables.{read_fields};
 ghost use Rattle.tables.specs.Shapes.{table_shape, told_table};
 
+use format::refusals::Refusal;
 use parts::begin_table;
 use parts::state::{REFUSED, State};
 use reading::read_on;
 
-// What reading a table finds: the refusal's number and place; or the numbers of rules and of definitions, and the place of the first definition, where the rules end.
+// What reading a table finds: the numbers of rules and of definitions, and the place of the first definition, where the rules end.
 #[derive(Clone, Copy)]
-pub enum TableRead {
-    Refused(u8, usize),
-    Read(usize, usize, usize),
+pub struct TableParts {
+    pub rules: usize,
+    pub definitions: usize,
+    pub first: usize,
 }
 
 // What was found, once there is no field left to read.
-fn found(x: State) -> TableRead
+fn found(x: State) -> Result<TableParts, Refusal>
     ensures { result ≡ told_table x }
 {
     if x.mode == REFUSED {
-        TableRead::Refused(x.number, x.place)
+        Err(x.refusal)
     } else {
-        TableRead::Read(x.first, x.second, x.from)
+        Ok(TableParts {
+            rules: x.first,
+            definitions: x.second,
+            first: x.from,
+        })
     }
 }
 
 // All fields of a table, from the first on. While the body of a definition is read its fields wait in work, from base on.
-pub fn read_fields(s: &[u8], work: &mut [u8], base: usize) -> TableRead
+pub fn read_fields(s: &[u8], work: &mut [u8], base: usize) -> Result<TableParts, Refusal>
     requires { base + reading_room ≤ length work.old }
     ensures value { result ≡ table_shape (read_fields (length s.now + 1) s.now 0 0 0 0) }
     ensures kept { Kept work.old work.new base (base + reading_room) }

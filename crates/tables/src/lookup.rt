@@ -4,21 +4,15 @@ ghost use Rattle.tables.specs.Tables.{Table};
 ghost use Rattle.tables.specs.Standing.{TableStands};
 ghost use Rattle.tables.specs.Found.{is_carried, FindsRule, FindsBody};
 
-use format::values::{Goal, RuleName, TacticNo, goal_at, rule_name_at, tactic_no_at};
+use format::values::{Goal, RuleName, TacticNo, value_at};
 use words::load16;
 
-// What the search for a rule finds: nothing, or the rule's number in the table, the place of its premises and their count.
+// What the search for a rule finds: the rule's number in the table, the place of its premises and their count.
 #[derive(Clone, Copy)]
-pub enum RuleFound {
-    Missing,
-    Rule(usize, usize, usize),
-}
-
-// What the search for a definition finds: nothing, or the place of its body.
-#[derive(Clone, Copy)]
-pub enum BodyFound {
-    Missing,
-    At(usize),
+pub struct RuleFound {
+    pub number: usize,
+    pub place: usize,
+    pub count: usize,
 }
 
 // Whether the rule at a place has that name and that goal.
@@ -26,18 +20,11 @@ pub fn carries(table: &[u8], at: usize, name: RuleName, goal: Goal) -> bool
     requires { at + 7 ≤ length table.now }
     ensures { result ≡ is_carried table.now at name goal }
 {
-    let here = rule_name_at(table, at + 3);
-    if name.0 == here.0 {
-        let on = goal_at(table, at + 5);
-        let wanted = goal.0;
-        let carried = on.0;
-        return wanted == carried;
-    }
-    false
+    name == value_at(table, at + 3) && goal == value_at(table, at + 5)
 }
 
 // The first rule of that name and goal.
-pub fn find_rule(table: &[u8], first: usize, name: RuleName, goal: Goal) -> RuleFound
+pub fn find_rule(table: &[u8], first: usize, name: RuleName, goal: Goal) -> Option<RuleFound>
     requires { (T : Table) × TableStands table.now first T }
     ensures { FindsRule table.now first name goal result }
 {
@@ -46,27 +33,30 @@ pub fn find_rule(table: &[u8], first: usize, name: RuleName, goal: Goal) -> Rule
     while at < first {
         let len = load16(table, at + 1) as usize;
         if carries(table, at, name, goal) {
-            return RuleFound::Rule(number, at + 7, len / 2 - 2);
+            return Some(RuleFound {
+                number,
+                place: at + 7,
+                count: len / 2 - 2,
+            });
         }
         at += 3 + len;
         number += 1;
     }
-    RuleFound::Missing
+    None
 }
 
-// The body of the first definition of that tactic.
-pub fn find_body(table: &[u8], first: usize, tactic: TacticNo) -> BodyFound
+// The place of the body of the first definition of that tactic.
+pub fn find_body(table: &[u8], first: usize, tactic: TacticNo) -> Option<usize>
     requires { (T : Table) × TableStands table.now first T }
     ensures { FindsBody table.now first tactic result }
 {
     let mut at = first;
     while at < table.len() {
-        let here = tactic_no_at(table, at + 3);
-        if tactic.0 == here.0 {
-            return BodyFound::At(at + 5);
+        if tactic == value_at(table, at + 3) {
+            return Some(at + 5);
         }
         let len = load16(table, at + 1) as usize;
         at += 3 + len;
     }
-    BodyFound::Missing
+    None
 }

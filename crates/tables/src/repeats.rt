@@ -5,13 +5,6 @@ ghost use Rattle.tables.specs.Search.{searched_tag, step_at, Room};
 use format::tags::least_of;
 use words::load16;
 
-// The place of the first field that clashes with an earlier one, or none.
-#[derive(Clone, Copy)]
-pub enum Clash {
-    Nowhere,
-    At(usize),
-}
-
 // The tag of the fields that a refusal is about: rules, definitions, labels.
 pub fn searched(number: u8) -> u8
     ensures { result ≡ searched_tag number }

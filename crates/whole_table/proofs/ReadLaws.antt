@@ -1,5 +1,7 @@
 -- Reading a table with its indexes, by what the code tells of its parts.
 -- Assumes nothing.
+use Rattle.std.specs.Prelude.{Option, None, Ok, Err}
+use Rattle.std.specs.Prelude as std
 use mathlib.Core.Path.{◌≡◌, refl, sym, subst, ap, ◌∙◌}
 use mathlib.Core.List.{List}
 use Prim.Native.Nat.{ℕ, ◌+◌, ◌≤◌}
@@ -9,12 +11,9 @@ use Rattle.words.specs.Kept.{Kept}
 use Rattle.words.proofs.KeptLaws.{kept_same, kept_both}
 use Rattle.format.specs.Limits.{most_rules, most_definitions}
 use Rattle.format.specs.Results.{Result, gives, refused, told}
-use Rattle.format.specs.Refusals.{number}
+use Rattle.format.specs.declared.refusals.Refusal.{Refusal}
 use Rattle.reading.specs.Waiting.{reading_room}
-use Rattle.tables.specs.declared.fields.TableRead.{TableRead}
-use Rattle.tables.specs.declared.fields.TableRead.TheVariants as R
-use Rattle.tables.specs.declared.repeats.Clash.{Clash}
-use Rattle.tables.specs.declared.repeats.Clash.TheVariants as C
+use Rattle.tables.specs.declared.fields.TableParts.{TableParts}
 use Rattle.tables.specs.Tables.{Table}
 use Rattle.tables.specs.Repeats.{rules_size}
 use Rattle.tables.specs.ReadTables.{read_fields, read_table}
@@ -33,7 +32,7 @@ use Rattle.whole_table.specs.Reads.{ReadsTable}
 use Rattle.whole_table.proofs.RoomLaws.{Few, few_rules, few_definitions}
 
 -- what the code tells of a search
-abbrev pub Searched : (number : ℕ) → List ℕ → List ℕ → List ℕ → (base from to : ℕ) → Clash → Type 0
+abbrev pub Searched : (number : ℕ) → List ℕ → List ℕ → List ℕ → (base from to : ℕ) → Option ℕ → Type 0
 Searched number s w w' base from to r = (ps : List ℕ) → Headers number s from ps to → Builds number s w w' base ps r
 
 -- the headers of the searches for 6 and 8 in a table whose fields were read
@@ -67,22 +66,22 @@ stage_next w₀ w w' other base a size low high k l u = record {
 }
 
 -- a refusal of the table
-never_both : (x : Result Table) (k p : ℕ) (T : Table) → table_shape x ≡ R.Refused k p → x ≡ gives T → ⊥
+never_both : (x : Result Table) (r : Refusal) (T : Table) → table_shape x ≡ Err r → x ≡ gives T → ⊥
 unfolding table_shape told
-never_both (gives U) k p T e f = let z : ◌≡◌ {A = ℕ} 0 1 = cc in omega arith
-never_both (refused c q) k p T e f = let z : ◌≡◌ {A = ℕ} 0 1 = cc in omega arith
+never_both (gives U) r T e f = let z : ◌≡◌ {A = ℕ} 0 1 = cc in omega arith
+never_both (refused c q) r T e f = let z : ◌≡◌ {A = ℕ} 0 1 = cc in omega arith
 
 module _ (s w₀ w : List ℕ) (other base : ℕ) (g : Stage w₀ w other base) where
-  pub reads_refused : (k p : ℕ) → table_shape (read_table s) ≡ R.Refused k p → ReadsTable s w₀ w other base (R.Refused k p)
-  reads_refused k p e = record {
+  pub reads_refused : (r : Refusal) → table_shape (read_table s) ≡ Err r → ReadsTable s w₀ w other base (Err r)
+  reads_refused r e = record {
     answer = sym e;
     kept = g.kept;
-    rules_indexed = λ T f. absurd (never_both (read_table s) k p T e f);
-    definitions_indexed = λ T f. absurd (never_both (read_table s) k p T e f);
+    rules_indexed = λ T f. absurd (never_both (read_table s) r T e f);
+    definitions_indexed = λ T f. absurd (never_both (read_table s) r T e f);
   }
 
   -- a table that reads
-  pub reads_all : (first : ℕ) (T : Table) → TableStands s first T → (r : TableRead) → read_table s ≡ gives T → table_shape (gives T) ≡ r → RulesIndexed s first w base → DefinitionsIndexed s first w (other + seen_room) → ReadsTable s w₀ w other base r
+  pub reads_all : (first : ℕ) (T : Table) → TableStands s first T → (r : std.Result TableParts Refusal) → read_table s ≡ gives T → table_shape (gives T) ≡ r → RulesIndexed s first w base → DefinitionsIndexed s first w (other + seen_room) → ReadsTable s w₀ w other base r
   reads_all first T st r e q ix jx =
       let begins : first ≡ rules_size T.rules = omega (arith, rules_end s T.rules 0 first st.rules_stand) in
       record {
@@ -96,7 +95,7 @@ module _ (s w₀ w : List ℕ) (other base : ℕ) (g : Stage w₀ w other base) 
       given h = cc
 
 -- the index over the rules, after the search for 6 and after each later one
-pub rules_first : (s w w' : List ℕ) (base first : ℕ) (r : Clash) → Searched 6 s w w' base 0 first r → r ≡ C.Nowhere → (ps : List ℕ) → Headers 6 s 0 ps first → RulesIndexed s first w' base
+pub rules_first : (s w w' : List ℕ) (base first : ℕ) (r : Option ℕ) → Searched 6 s w w' base 0 first r → r ≡ None → (ps : List ℕ) → Headers 6 s 0 ps first → RulesIndexed s first w' base
 rules_first s w w' base first r f e ps h = (ps, h, (f ps h).indexed e)
 
 -- a search that ends before an index
@@ -107,19 +106,19 @@ module _ (s w w' : List ℕ) (base first : ℕ) (size : length w' ≡ length w) 
   pub definitions_next : DefinitionsIndexed s first w base → DefinitionsIndexed s first w' base
   definitions_next ix = (ix.0, ix.1, indexed_before 8 s ix.0 w w' base low high size k l ix.2)
 
-pub definitions_first : (s w w' : List ℕ) (base first : ℕ) (r : Clash) → Searched 8 s w w' base first (length s) r → r ≡ C.Nowhere → (ps : List ℕ) → Headers 8 s first ps (length s) → DefinitionsIndexed s first w' base
+pub definitions_first : (s w w' : List ℕ) (base first : ℕ) (r : Option ℕ) → Searched 8 s w w' base first (length s) r → r ≡ None → (ps : List ℕ) → Headers 8 s first ps (length s) → DefinitionsIndexed s first w' base
 definitions_first s w w' base first r f e ps h = (ps, h, (f ps h).indexed e)
 
 -- what callers take from the answer: the table, and where its rules and definitions are indexed
-pub record Told (s w' : List ℕ) (other base a b first : ℕ) : Type 0 where
-  pub read : ToldRead s a b first
-  pub rules : RulesIndexed s first w' base
-  pub definitions : DefinitionsIndexed s first w' (other + seen_room)
+pub record Told (s w' : List ℕ) (other base : ℕ) (p : TableParts) : Type 0 where
+  pub read : ToldRead s p
+  pub rules : RulesIndexed s p.first w' base
+  pub definitions : DefinitionsIndexed s p.first w' (other + seen_room)
 
-pub told_indexed : (s w w' : List ℕ) (other base a b first : ℕ) (r : TableRead) → ReadsTable s w w' other base r → r ≡ R.Read a b first → Told s w' other base a b first
-told_indexed s w w' other base a b first r h e =
-    let t = told-reads s a b first (sym h.answer ∙ e) in
-    let begins : rules_size t.table.rules ≡ first = omega (arith, rules_end s t.table.rules 0 first t.stands.rules_stand) in
+pub told_indexed : (s w w' : List ℕ) (other base : ℕ) (p : TableParts) (r : std.Result TableParts Refusal) → ReadsTable s w w' other base r → r ≡ Ok p → Told s w' other base p
+told_indexed s w w' other base p r h e =
+    let t = told-reads s p (sym h.answer ∙ e) in
+    let begins : rules_size t.table.rules ≡ p.first = omega (arith, rules_end s t.table.rules 0 p.first t.stands.rules_stand) in
     record {
       read = t;
       rules = subst (λ (k : ℕ). RulesIndexed s k w' base) begins (h.rules_indexed t.table t.reads);

@@ -8,40 +8,49 @@ ghost use Rattle.index.specs.Layout.{rules_room};
 ghost use Rattle.whole_table.specs.Layout.{reading_scratch};
 ghost use Rattle.whole_table.specs.Reads.{ReadsTable};
 
+use format::refusals::{Cause, Refusal};
 use index::tree::first_clash;
 use seen::first_repeat;
 use seen::layout::SEEN_ROOM;
-use tables::fields::{TableRead, read_fields};
-use tables::repeats::Clash;
+use tables::fields::{TableParts, read_fields};
 
 // 1, then the fields, then 6, 7, 8, 9, each over the whole table. In the work space the index over the rules stands from `base` on; from `other` on the fields that wait while terms are read, then the tables of the searches for 7 and 9, and behind these the index over the definitions.
-pub fn read_table(s: &[u8], w: &mut [u8], other: usize, base: usize) -> TableRead
+pub fn read_table(s: &[u8], w: &mut [u8], other: usize, base: usize) -> Result<TableParts, Refusal>
     requires { (other + reading_scratch ≤ base) × (base + rules_room ≤ length w.old) }
     ensures { ReadsTable s.now w.old w.new other base result }
 {
     let end = s.len();
     if 65535 < end {
-        return TableRead::Refused(1, 0);
+        return Err(Refusal {
+            cause: Cause::InputTooLong,
+            place: 0,
+        });
     }
-    let read = read_fields(s, w, other);
-    let TableRead::Read(_, _, first) = read else {
-        return read;
-    };
-    let repeated = first_clash(s, w, base, 0, first, 6);
-    if let Clash::At(place) = repeated {
-        return TableRead::Refused(6, place);
+    let parts = read_fields(s, w, other)?;
+    let first = parts.first;
+    if let Some(place) = first_clash(s, w, base, 0, first, 6) {
+        return Err(Refusal {
+            cause: Cause::RuleRepeated,
+            place,
+        });
     }
-    let recounted = first_repeat(s, w, other, 0, first, 7);
-    if let Clash::At(place) = recounted {
-        return TableRead::Refused(7, place);
+    if let Some(place) = first_repeat(s, w, other, 0, first, 7) {
+        return Err(Refusal {
+            cause: Cause::PremiseCountDiffers,
+            place,
+        });
     }
-    let redefined = first_clash(s, w, other + SEEN_ROOM, first, end, 8);
-    if let Clash::At(place) = redefined {
-        return TableRead::Refused(8, place);
+    if let Some(place) = first_clash(s, w, other + SEEN_ROOM, first, end, 8) {
+        return Err(Refusal {
+            cause: Cause::TacticRedefined,
+            place,
+        });
     }
-    let reused = first_repeat(s, w, other, first, end, 9);
-    if let Clash::At(place) = reused {
-        return TableRead::Refused(9, place);
+    if let Some(place) = first_repeat(s, w, other, first, end, 9) {
+        return Err(Refusal {
+            cause: Cause::LabelRepeated,
+            place,
+        });
     }
-    read
+    Ok(parts)
 }

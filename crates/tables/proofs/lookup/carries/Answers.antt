@@ -1,14 +1,12 @@
 -- `lookup::carries` meets its contract: the tests of the name and of the goal are those of `is_carried`.
 -- Assumes nothing.
-use mathlib.Core.Path.{sym, ◌∙◌}
-use borrow.Author.Tests.{eq-eqb, ne_eqb}
 use Rattle.tables.specs.Found.{is_carried}
 use Rattle.tables.proofs.lookup.carries.Goals as goal
 
-pub returns-then-name-here : goal.returns-then-name-here
+pub returns-then-eq : goal.returns-then-eq
 unfolding is_carried
-returns-then-name-here c = simp (eq-eqb _ _ (c.if-name-here.true ∙ c.rule_name_at-here.ensures), ← c.goal_at-on.ensures)
+returns-then-eq c = rw (← c.value_at.ensures, ← c.eq.ensures, c.if-eq.true, ← c.value_at-then-eq.ensures, ← c.eq-then-eq.ensures)
 
-pub returns : goal.returns
+pub returns-else-eq : goal.returns-else-eq
 unfolding is_carried
-returns c = simp (ne_eqb _ _ (λ e. c.if-name-here.false (e ∙ sym c.rule_name_at-here.ensures)))
+returns-else-eq c = rw (← c.value_at.ensures, ← c.eq.ensures, c.if-eq.false)

@@ -4,6 +4,7 @@ use mathlib.Core.Path.{◌≡◌, refl, sym, ap, ◌∙◌}
 use Prim.Native.Nat.{ℕ}
 use native.Mathlib.Omega.{arith}
 use lib.ListN.{length}
+use borrow.Author.Tests.{eqb-true, eqb-false}
 use Rattle.tables.specs.Lookup.{find_body}
 use Rattle.tables.specs.Found.{BodyStands, BodyPlaced}
 use Rattle.tables.proofs.LookupLaws.{DefinitionBounds, definition_bounds, no_body, this_body}
@@ -23,8 +24,8 @@ overflow_add-at c =
     let here : DefinitionBounds c.args.table.now c.loop-at.at (length c.args.table.now) = let i = c.loop-at.invariant c.requires.0 c.requires.1 in definition_bounds _ i.0 _ _ i.1 c.loop-at-test.true in
     omega (arith, here)
 
-pub tactic_no_at-here-requires : goal.tactic_no_at-here-requires
-tactic_no_at-here-requires c =
+pub value_at-requires : goal.value_at-requires
+value_at-requires c =
     let here : DefinitionBounds c.args.table.now c.loop-at.at (length c.args.table.now) = let i = c.loop-at.invariant c.requires.0 c.requires.1 in definition_bounds _ i.0 _ _ i.1 c.loop-at-test.true in
     omega (arith, here)
 
@@ -33,12 +34,12 @@ overflow_add-result c =
     let here : DefinitionBounds c.args.table.now c.loop-at.at (length c.args.table.now) = let i = c.loop-at.invariant c.requires.0 c.requires.1 in definition_bounds _ i.0 _ _ i.1 c.loop-at-test.true in
     omega (arith, here)
 
-pub returns-then-tactic-here : goal.returns-then-tactic-here
+pub returns-then-eq : goal.returns-then-eq
 unfolding BodyStands BodyPlaced
-returns-then-tactic-here c = λ T st.
+returns-then-eq c = λ T st.
     let i = c.loop-at.invariant T st in
-    let b = this_body _ _ i.0 _ _ i.1 c.loop-at-test.true (c.if-tactic-here.true ∙ c.tactic_no_at-here.ensures) in
-    ((b.0, i.2 ∙ b.1, b.2), sym (i.3 ∙ this_place _ _ i.0 _ _ i.1 c.loop-at-test.true (c.if-tactic-here.true ∙ c.tactic_no_at-here.ensures)))
+    let b = this_body _ _ i.0 _ _ i.1 c.loop-at-test.true (eqb-true _ _ (sym c.if-eq.ensures) ∙ c.value_at.ensures) in
+    ((b.0, i.2 ∙ b.1, b.2), sym (i.3 ∙ this_place _ _ i.0 _ _ i.1 c.loop-at-test.true (eqb-true _ _ (sym c.if-eq.ensures) ∙ c.value_at.ensures)))
 
 pub overflow_add-at-in-loop-at : goal.overflow_add-at-in-loop-at
 overflow_add-at-in-loop-at c =
@@ -66,7 +67,7 @@ loop-at-smaller c = omega (arith, c.loop-at-test.true)
 pub loop-at-preserved : goal.loop-at-preserved
 loop-at-preserved c = λ T st.
     let i = c.loop-at.invariant T st in
-    let n = next_place _ _ i.0 _ _ i.1 c.loop-at-test.true (λ e. c.if-tactic-here.false (e ∙ sym c.tactic_no_at-here.ensures)) in
+    let n = next_place _ _ i.0 _ _ i.1 c.loop-at-test.true (λ e. eqb-false _ _ (sym c.if-eq.ensures) (e ∙ sym c.value_at.ensures)) in
     (n.0, rw c.load16-len.ensures n.1, i.2 ∙ n.2, rw c.load16-len.ensures (i.3 ∙ n.3))
 
 pub returns : goal.returns
