@@ -7,7 +7,7 @@ use native.Mathlib.Omega.{arith}
 use lib.ListN.{length, replicate, length-replicate}
 use borrow.Author.Tests.{lt-ltb}
 use Rattle.format.specs.Limits.{most_bytes}
-use Rattle.format.specs.Refusals.{InputTooLong}
+use Rattle.format.specs.declared.refusals.Cause.TheVariants.{InputTooLong}
 use Rattle.entries.specs.Outcomes.{refusal, table_file}
 use Rattle.words.specs.Word.{word}
 use Rattle.format.specs.Encoding.{term_bytes, goal_bytes}

@@ -1,7 +1,7 @@
 -- Document 01, "Checking a hiproof": the entry check, and "Flat derivations": the entry flatten.
 use Rattle.std.specs.Prelude.{ℕ, Bool, true, false, cond, ◌&&◌, List, [], ◌∷◌, length}
 use Rattle.format.specs.declared.values.Goal.{Goal}
-use Rattle.format.specs.Refusals.{RemainingDiffer}
+use Rattle.format.specs.declared.refusals.Cause.TheVariants.{RemainingDiffer}
 use Rattle.format.specs.Results.{Result, gives, refused, and_then}
 use Rattle.format.specs.Terms.{fields}
 use Rattle.rule_set.specs.Different.{different}

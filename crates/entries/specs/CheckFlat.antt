@@ -2,7 +2,7 @@
 use Rattle.std.specs.Prelude.{ℕ, cond, List, [], ◌∷◌, ltb, length}
 use Rattle.format.specs.declared.values.Goal.{Goal}
 use Rattle.format.specs.Limits.{most_entries}
-use Rattle.format.specs.Refusals.{GoalsPending, EntriesTooMany}
+use Rattle.format.specs.declared.refusals.Cause.TheVariants.{GoalsPending, EntriesTooMany}
 use Rattle.format.specs.Results.{Result, gives, refused, and_then}
 use Rattle.rule_set.specs.Different.{different}
 use Rattle.tables.specs.Tables.{Table}

@@ -1,6 +1,6 @@
 -- Document 01, "A table and its edges": what the check program prints the line of. Document 02, P7, tells a proof.hip that cannot be opened from one of zero bytes.
 use Rattle.std.specs.Prelude.{ℕ, Bool, cond, List}
-use Rattle.format.specs.Refusals.{FieldTorn}
+use Rattle.format.specs.declared.refusals.Cause.TheVariants.{FieldTorn}
 use Rattle.tables.specs.ReadTables.{read_table}
 use Rattle.entries.specs.Outcomes.{Outcome, refusal, in_file, table_file, other_file}
 use Rattle.entries.specs.LentSpace.{Counts, Checked, check_in}

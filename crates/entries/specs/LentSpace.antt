@@ -1,6 +1,7 @@
 -- Document 01, "What the bytes bring about" and "What the state brings about": the answer, and every byte of lent space afterwards.
 use Rattle.std.specs.Prelude.{ℕ, cond, List, ◌++◌, ltb, length, drop, replicate}
-use Rattle.format.specs.Refusals.{number, OutputTooShort, WorkTooShort}
+use Rattle.format.specs.declared.refusals.Cause.TheVariants.{OutputTooShort, WorkTooShort}
+use Rattle.format.specs.Refusals.{number}
 use Rattle.answers.specs.declared.Answer.{Answer}
 use Rattle.answers.specs.Answers as answer
 use Rattle.entries.specs.Outcomes.{Outcome, success, refusal, no_file}

@@ -1,7 +1,7 @@
 -- Document 01, "A table and its edges": a worked line is a call on bytes and what it comes to.
 use Rattle.std.specs.Prelude.{ℕ, ◌≡◌, Bool, List, [], ◌∷◌, length}
 use Rattle.std.proofs.Math.Option.{Option, some}
-use Rattle.format.specs.Refusals.{BudgetSpent}
+use Rattle.format.specs.declared.refusals.Cause.TheVariants.{BudgetSpent}
 use Rattle.format.specs.Results.{Result}
 use Rattle.tables.specs.Tables.{Table}
 use Rattle.files.specs.Derivations.{Derivation}

@@ -1,6 +1,6 @@
 -- What a call comes to, before lent space is looked at: a value and the steps taken, or the cause of a refusal with its file, its place and the steps.
 use Rattle.std.specs.Prelude.{ℕ}
-use Rattle.format.specs.Refusals.{Cause}
+use Rattle.format.specs.declared.refusals.Cause.{Cause}
 use Rattle.format.specs.Results.{Result, gives, refused}
 
 pub data Outcome (A : Type 0) : Type 0 where

@@ -1,7 +1,7 @@
 -- Document 01, "Running a tactic", and document 02, P12: the entry run.
 use Rattle.std.specs.Prelude.{ℕ, cond, List, ltb}
 use Rattle.format.specs.Limits.{most_steps}
-use Rattle.format.specs.Refusals.{TacticFailed, BudgetSpent, BudgetTooLarge}
+use Rattle.format.specs.declared.refusals.Cause.TheVariants.{TacticFailed, BudgetSpent, BudgetTooLarge}
 use Rattle.tables.specs.Tables.{Table}
 use Rattle.tables.specs.ReadTables.{read_table}
 use Rattle.files.specs.Proofs.{Proof, proof_bytes}

@@ -1,7 +1,7 @@
 -- Document 02, P13, "Free choice with a way back": the entry search.
 use Rattle.std.specs.Prelude.{ℕ, cond, List, ltb}
 use Rattle.format.specs.Limits.{least_height, most_height, most_search_steps}
-use Rattle.format.specs.Refusals.{BudgetSpent, BudgetTooLarge, NoEvaluation, HeightOutside}
+use Rattle.format.specs.declared.refusals.Cause.TheVariants.{BudgetSpent, BudgetTooLarge, NoEvaluation, HeightOutside}
 use Rattle.tables.specs.ReadTables.{read_table}
 use Rattle.files.specs.Proofs.{proof_bytes}
 use Rattle.files.specs.Jobs.{Job, read_job}

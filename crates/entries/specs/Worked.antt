@@ -1,6 +1,6 @@
 -- Document 01, "A table and its edges": the starred lines, and one line for each refusal and some edges, over bytes. `proofs/Worked.antt` proves them.
 use Rattle.std.specs.Prelude.{ℕ, zero, suc, true, false, List, [], ◌∷◌, ◌++◌, replicate}
-use Rattle.format.specs.Refusals.{InputTooLong, FieldTorn, TagNotAllowed, LengthWrong, LimitPassed, RuleRepeated, PremiseCountDiffers, TacticRedefined, LabelRepeated, GoalCountWrong, RemainingDiffer, JoinedTooLong, TacticFailed, BudgetSpent, BudgetTooLarge, EntryWrong, GoalsPending, EntriesTooMany, TextWrong, NoEvaluation, HeightOutside}
+use Rattle.format.specs.declared.refusals.Cause.TheVariants.{InputTooLong, FieldTorn, TagNotAllowed, LengthWrong, LimitPassed, RuleRepeated, PremiseCountDiffers, TacticRedefined, LabelRepeated, GoalCountWrong, RemainingDiffer, JoinedTooLong, TacticFailed, BudgetSpent, BudgetTooLarge, EntryWrong, GoalsPending, EntriesTooMany, TextWrong, NoEvaluation, HeightOutside}
 use Rattle.format.specs.Results.{refused}
 use Rattle.format.specs.Values.{goal}
 use Rattle.format.specs.Terms.{id, alternation}

@@ -2,7 +2,7 @@
 -- `proofs/WorkedHalts.antt` proves the lines.
 use Rattle.std.specs.Prelude.{ℕ, List, [], ◌∷◌, ◌++◌, replicate}
 use Rattle.std.proofs.Math.Option.{none, some}
-use Rattle.format.specs.Refusals.{FieldTorn, BudgetTooLarge, StateNotGenuine}
+use Rattle.format.specs.declared.refusals.Cause.TheVariants.{FieldTorn, BudgetTooLarge, StateNotGenuine}
 use Rattle.answers.specs.Answers as answer
 use Rattle.lent_frames.specs.declared.LentFrame.{LentFrame}
 use Rattle.entries.specs.Outcomes.{success, refusal, table_file, other_file, no_file}

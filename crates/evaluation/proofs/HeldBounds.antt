@@ -12,7 +12,7 @@ use borrow.Author.Tests.{leb-true, leb-false}
 use Rattle.format.specs.declared.values.Goal.{Goal}
 use Rattle.format.specs.declared.values.Label.{Label}
 use Rattle.format.specs.Limits.{most_held}
-use Rattle.format.specs.Refusals.{JoinedTooLong, FieldsTooMany}
+use Rattle.format.specs.declared.refusals.Cause.TheVariants.{JoinedTooLong, FieldsTooMany}
 use Rattle.format.specs.Terms.{Term, atomic, id, label, sequence, tensor, empty, alternation, assert, defined, fields}
 use Rattle.tables.specs.Tables.{Table}
 use Rattle.tables.specs.Lookup.{find_body}

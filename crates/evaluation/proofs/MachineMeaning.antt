@@ -10,7 +10,8 @@ use Rattle.format.specs.declared.values.Goal.{Goal}
 use Rattle.format.specs.Terms.{Term}
 use lib.Dec.{eqb}
 use mathlib.Core.Bool.{cond}
-use Rattle.format.specs.Refusals.{Cause, number}
+use Rattle.format.specs.declared.refusals.Cause.{Cause}
+use Rattle.format.specs.Refusals.{number}
 use Rattle.tables.specs.Tables.{Table, UniqueRules, UniqueDefinitions}
 use Rattle.evaluation.specs.Outcomes.{Ending, proved, failed, ended}
 use Rattle.evaluation.specs.Machine.{held, Place, Control, running, stopped, State, after, Running, unwind, run, start}

@@ -13,7 +13,7 @@ use borrow.Author.Tests.{leb-true, leb-false, le-leb, eq-eqb, ne_eqb}
 use Rattle.format.specs.declared.values.Goal.{Goal}
 use Rattle.format.specs.Terms.{Term, size, fields}
 use Rattle.format.specs.Limits.{most_held}
-use Rattle.format.specs.Refusals.{FieldsTooMany}
+use Rattle.format.specs.declared.refusals.Cause.TheVariants.{FieldsTooMany}
 use Rattle.tables.specs.Tables.{Table, UniqueRules, UniqueDefinitions}
 use Rattle.tables.specs.Lookup.{find_rule, matches}
 use Rattle.tables.specs.Places.{body_place}

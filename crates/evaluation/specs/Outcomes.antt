@@ -5,7 +5,8 @@ use Rattle.format.specs.declared.values.RuleName.{RuleName}
 use Rattle.format.specs.declared.values.Goal.{Goal}
 use Rattle.format.specs.declared.values.Label.{Label}
 use Rattle.format.specs.Limits.{most_joined, most_held}
-use Rattle.format.specs.Refusals.{Cause, JoinedTooLong, FieldsTooMany}
+use Rattle.format.specs.declared.refusals.Cause.{Cause}
+use Rattle.format.specs.declared.refusals.Cause.TheVariants.{JoinedTooLong, FieldsTooMany}
 use Rattle.format.specs.Terms.{Term, label, sequence, tensor, fields}
 use Rattle.tables.specs.Tables.{Table}
 use Rattle.tables.specs.Lookup.{FoundRule, find_rule, matches}

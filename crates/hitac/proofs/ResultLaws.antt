@@ -9,7 +9,8 @@ use mathlib.Core.List.{List, [], ◌∷◌}
 use lib.ListN.{length}
 use borrow.Author.Tests.{ltb-true, ltb-false}
 use Rattle.format.specs.declared.values.Goal.{Goal}
-use Rattle.format.specs.Refusals.{Cause, GoalCountWrong, JoinedTooLong}
+use Rattle.format.specs.declared.refusals.Cause.{Cause}
+use Rattle.format.specs.declared.refusals.Cause.TheVariants.{GoalCountWrong, JoinedTooLong}
 use Rattle.format.specs.Results.{Result, gives, refused, and_then}
 use Rattle.tables.specs.Lookup.{FoundRule, found_rule}
 use Rattle.hitac.specs.Walk.{on_one_goal, on_no_goal, premises_or, too_long, joined}

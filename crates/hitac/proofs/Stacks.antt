@@ -11,7 +11,7 @@ use lib.Seq.{drop_at, take-append_seam, drop-append_seam, take-take, drop-drop, 
 use borrow.Author.Tests.{ltb-false}
 use Rattle.format.specs.declared.values.Goal.{Goal}
 use Rattle.format.specs.Limits.{most_joined}
-use Rattle.format.specs.Refusals.{RuleMissing, GoalCountWrong, GoalsTooFew, JoinedTooLong}
+use Rattle.format.specs.declared.refusals.Cause.TheVariants.{RuleMissing, GoalCountWrong, GoalsTooFew, JoinedTooLong}
 use Rattle.format.specs.Results.{Result, gives, refused, and_then}
 use Rattle.format.specs.Terms.{Term, atomic, id, label, sequence, tensor, empty, alternation, assert, defined, size}
 use Rattle.tables.specs.Tables.{Table}

@@ -13,7 +13,7 @@ use lib.Seq.{take_at, drop_at}
 use borrow.Author.Tests.{le-ltb}
 use Rattle.format.specs.declared.values.RuleName.{RuleName}
 use Rattle.format.specs.declared.values.Goal.{Goal}
-use Rattle.format.specs.Refusals.{GoalsTooFew}
+use Rattle.format.specs.declared.refusals.Cause.TheVariants.{GoalsTooFew}
 use Rattle.format.specs.Results.{gives, and_then}
 use Rattle.format.specs.Terms.{Term, atomic, id, label, sequence, tensor, empty, alternation, assert, defined, size}
 use Rattle.tables.specs.Tables.{Table, HasRule, UniqueRules}

@@ -1,7 +1,7 @@
 -- Document 01, "Flat derivations", "Reading back": the walk over the entries of a flat derivation.
 use Rattle.std.specs.Prelude.{ℕ, ◌+◌, cond, List, [], ◌∷◌, ◌++◌}
 use Rattle.format.specs.declared.values.Goal.{Goal}
-use Rattle.format.specs.Refusals.{EntryWrong}
+use Rattle.format.specs.declared.refusals.Cause.TheVariants.{EntryWrong}
 use Rattle.format.specs.Results.{Result, gives, refused, and_then}
 use Rattle.tables.specs.Tables.{Table}
 use Rattle.tables.specs.Lookup.{find_rule, same_goal}

@@ -6,7 +6,9 @@ use mathlib.Core.Path.{◌≡◌, refl, sym, subst, ap, ◌∙◌}
 use mathlib.Core.List.{List, [], ◌∷◌}
 use lib.ListN.{length}
 use Rattle.format.specs.declared.values.Goal.{Goal}
-use Rattle.format.specs.Refusals.{Cause, number, EntryWrong, GoalsPending}
+use Rattle.format.specs.declared.refusals.Cause.{Cause}
+use Rattle.format.specs.declared.refusals.Cause.TheVariants.{EntryWrong, GoalsPending}
+use Rattle.format.specs.Refusals.{number}
 use Rattle.format.specs.Results.{Result, gives, refused, and_then}
 use Rattle.format.proofs.ResultLaws.{number_positive, same_place, same_cause, never_gives}
 use Rattle.rule_set.specs.Different.{different}

@@ -9,7 +9,8 @@ use mathlib.Core.List.{List, [], ◌∷◌}
 use lib.ListN.{length, replicate}
 use borrow.Author.Tests.{lt-ltb, le-ltb}
 use Rattle.format.specs.Limits.{most_steps, least_height, most_height, most_search_steps}
-use Rattle.format.specs.Refusals.{Cause, number}
+use Rattle.format.specs.declared.refusals.Cause.{Cause}
+use Rattle.format.specs.Refusals.{number}
 use Rattle.format.specs.Results.{gives, refused, and_then}
 use Rattle.format.specs.Terms.{fields}
 use Rattle.format.specs.Encoding.{GoalValues, goal_bytes, term_bytes}

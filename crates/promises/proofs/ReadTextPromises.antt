@@ -10,7 +10,9 @@ use native.Mathlib.Decide.{dec_lt}
 use lib.ListN.{length}
 use borrow.Author.Tests.{lt-ltb, le-ltb}
 use Rattle.format.specs.Limits.{most_bytes}
-use Rattle.format.specs.Refusals.{Cause, number, InputTooLong, LimitPassed, TextWrong, ValueTooLarge}
+use Rattle.format.specs.declared.refusals.Cause.{Cause}
+use Rattle.format.specs.declared.refusals.Cause.TheVariants.{InputTooLong, LimitPassed, TextWrong, ValueTooLarge}
+use Rattle.format.specs.Refusals.{number}
 use Rattle.format.specs.Results.{Result, gives, refused}
 use Rattle.format.proofs.ResultLaws.{number_positive, same_cause}
 use Rattle.format.specs.Terms.{Term}

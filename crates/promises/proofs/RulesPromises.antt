@@ -8,7 +8,7 @@ use mathlib.Core.List.{List, []}
 use lib.ListN.{length}
 use Rattle.format.specs.declared.values.Goal.{Goal}
 use Rattle.format.specs.Limits.{most_entries}
-use Rattle.format.specs.Refusals.{EntriesTooMany}
+use Rattle.format.specs.declared.refusals.Cause.TheVariants.{EntriesTooMany}
 use Rattle.format.specs.Results.{gives}
 use Rattle.rule_set.specs.Different.{different, SetSize}
 use Rattle.tables.specs.Tables.{Table, HasRule}

@@ -11,7 +11,9 @@ use borrow.Author.Tests.{lt-ltb, le-ltb}
 use Rattle.format.specs.declared.values.Goal.{Goal}
 use Rattle.format.specs.Encoding.{Bytes}
 use Rattle.format.specs.Limits.{most_entries}
-use Rattle.format.specs.Refusals.{Cause, number, EntriesTooMany}
+use Rattle.format.specs.declared.refusals.Cause.{Cause}
+use Rattle.format.specs.declared.refusals.Cause.TheVariants.{EntriesTooMany}
+use Rattle.format.specs.Refusals.{number}
 use Rattle.format.proofs.ResultLaws.{same_place, same_cause}
 use Rattle.format.specs.Results.{Result, gives, refused, and_then}
 use Rattle.format.specs.Terms.{Term, fields}

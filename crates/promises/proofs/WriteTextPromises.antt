@@ -8,7 +8,8 @@ use native.Mathlib.Omega.{arith}
 use native.Mathlib.Decide.{dec_lt}
 use lib.ListN.{length}
 use borrow.Author.Tests.{lt-ltb, le-ltb}
-use Rattle.format.specs.Refusals.{Cause, number}
+use Rattle.format.specs.declared.refusals.Cause.{Cause}
+use Rattle.format.specs.Refusals.{number}
 use Rattle.format.specs.Results.{Result, gives, refused}
 use Rattle.format.specs.Terms.{Term}
 use Rattle.format.specs.Encoding.{Bytes, term_bytes}

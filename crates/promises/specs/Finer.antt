@@ -2,7 +2,7 @@
 -- and with the counts of now, so that P6's rules are among them.
 use Rattle.std.specs.Prelude.{ℕ, ◌+◌, ◌≡◌, cond, ◌⊎◌, List, [], ◌∷◌, ◌++◌, ltb, length, take, drop}
 use Rattle.format.specs.declared.values.Goal.{Goal}
-use Rattle.format.specs.Refusals.{RuleMissing}
+use Rattle.format.specs.declared.refusals.Cause.TheVariants.{RuleMissing}
 use Rattle.format.specs.Results.{Result, gives, refused, and_then}
 use Rattle.format.specs.Terms.{Term, atomic, id, label, sequence, tensor, empty, alternation, assert, defined, size}
 use Rattle.tables.specs.Tables.{Table}

@@ -1,7 +1,8 @@
 -- Document 02, P7, "A proof file of no bytes", as statements about the definitions of the entries and of the check program.
 use Rattle.std.specs.Prelude.{ℕ, ◌≤◌, ◌<◌, ◌≡◌, true, false, ◌⊎◌, ◌↔◌, List, [], ◌∷◌, length, replicate}
 use Rattle.format.specs.Encoding.{Bytes}
-use Rattle.format.specs.Refusals.{Cause, number}
+use Rattle.format.specs.declared.refusals.Cause.{Cause}
+use Rattle.format.specs.Refusals.{number}
 use Rattle.format.specs.Results.{gives, refused}
 use Rattle.format.specs.Terms.{empty}
 use Rattle.tables.specs.Tables.{Table}

@@ -7,7 +7,8 @@ use mathlib.Core.Option.{none, some, none-ne-some}
 use lib.ListN.{length}
 use borrow.Author.Tests.{le-ltb}
 use Rattle.format.specs.Limits.{most_steps}
-use Rattle.format.specs.Refusals.{number, BudgetSpent}
+use Rattle.format.specs.declared.refusals.Cause.TheVariants.{BudgetSpent}
+use Rattle.format.specs.Refusals.{number}
 use Rattle.format.specs.Results.{Result, gives, refused}
 use Rattle.tables.specs.Tables.{Table}
 use Rattle.tables.specs.ReadTables.{read_table}

@@ -14,7 +14,8 @@ use Rattle.tables.specs.Tables.{Table}
 use Rattle.tables.specs.ReadTables.{read_table}
 use Rattle.tables.proofs.ReadsTable.{reads_unique_rules, reads_unique_definitions}
 use Rattle.files.specs.Jobs.{Job, read_job}
-use Rattle.format.specs.Refusals.{number, BudgetSpent}
+use Rattle.format.specs.declared.refusals.Cause.TheVariants.{BudgetSpent}
+use Rattle.format.specs.Refusals.{number}
 use Rattle.answers.specs.declared.Answer as answer
 use Rattle.evaluation.specs.Machine.{Control, running, stopped, State, after, run, start}
 use Rattle.evaluation.proofs.ArityMeaning.{arity↔computed}

@@ -1,6 +1,7 @@
 -- Document 02, P1, "Stepping for the debugger", and P12, "Longer runs", for the entry resume, as statements about its definition.
 use Rattle.std.specs.Prelude.{ℕ, ◌+◌, ◌*◌, ◌≤◌, ◌<◌, ◌≡◌, ◌↔◌, ◌⊎◌, true, List, ◌∷◌, length, take, replicate}
-use Rattle.format.specs.Refusals.{Cause, number}
+use Rattle.format.specs.declared.refusals.Cause.{Cause}
+use Rattle.format.specs.Refusals.{number}
 use Rattle.format.specs.Results.{gives, refused}
 use Rattle.tables.specs.Tables.{Table}
 use Rattle.tables.specs.ReadTables.{read_table}

@@ -1,6 +1,6 @@
 -- Document 02, P12: runs of more than 4,096 steps, with as many held fields as there may be and with one more. `proofs/Held.antt` proves the lines.
 use Rattle.std.specs.Prelude.{ℕ, zero, suc, List, [], ◌∷◌, ◌++◌, replicate}
-use Rattle.format.specs.Refusals.{JoinedTooLong, TacticFailed, BudgetSpent, FieldsTooMany}
+use Rattle.format.specs.declared.refusals.Cause.TheVariants.{JoinedTooLong, TacticFailed, BudgetSpent, FieldsTooMany}
 use Rattle.format.specs.Values.{goal, label_of, tactic_no}
 use Rattle.format.specs.Terms.{Term, id, label, sequence, tensor, empty, alternation, defined}
 use Rattle.files.specs.Proofs.{Proof, proof_bytes}

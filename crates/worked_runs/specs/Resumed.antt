@@ -1,6 +1,6 @@
 -- Document 02, P1: going on from a state of full size. `proofs/Resumed.antt` proves the lines.
 use Rattle.std.specs.Prelude.{ℕ, List, [], ◌∷◌}
-use Rattle.format.specs.Refusals.{StateNotGenuine}
+use Rattle.format.specs.declared.refusals.Cause.TheVariants.{StateNotGenuine}
 use Rattle.entries.specs.Outcomes.{success, refusal, no_file}
 use Rattle.entries.specs.SavedState.{saved_size, zeros_to}
 use Rattle.entries.specs.Halting.{unbegun}
