@@ -8,7 +8,7 @@ ghost use Rattle.frames.specs.Frames.{frame_at, put_frame};
 use tactics::numbers::{load24, store24};
 use words::{load16, store16};
 
-// The kinds of a frame: which term waits, and for which of its inner terms.
+// The kinds of a frame: which term waits, and for which of its inner terms. They are numbers and no enum, since load_frame promises the frame of any bytes.
 pub const LABELLED: u16 = 1;
 
 pub const SEQUENCE_LEFT: u16 = 2;
@@ -35,6 +35,7 @@ pub struct Frame {
     pub arena: usize,
 }
 
+#[tactic(auto, unfolding(crate::specs::Frames::frame_at))]
 pub fn load_frame(work: &[u8], at: usize) -> Frame
     requires { at + 18 < length work.now }
     ensures { result ≡ frame_at work.now at }
@@ -51,6 +52,7 @@ pub fn load_frame(work: &[u8], at: usize) -> Frame
     }
 }
 
+#[tactic(auto, unfolding(crate::specs::Frames::put_frame))]
 pub fn store_frame(work: &mut [u8], at: usize, f: Frame)
     requires { (at + 18 < length work.old) × (f.start < 16777216) × (f.mark < 16777216) × (f.arena < 16777216) }
     ensures { work.new ≡ put_frame work.old at f }

@@ -18,9 +18,7 @@ ghost use Rattle.machine.specs.Step.{Given, BeginsAny, BeginsPair, Grown, PairSt
 
 use crate::state::{MOST_HELD, Mode, State};
 use arities::arity::{arity_of, right_of};
-use format::tags::{
-    ASSERTION, ATOMIC, DEFINED, EMPTY, ID, LABEL, SEQUENCE, TENSOR,
-};
+use format::tags::{ASSERTION, ATOMIC, DEFINED, EMPTY, ID, LABEL, SEQUENCE, TENSOR};
 use format::values::{Goal, Label, RuleName, TacticNo, value_at};
 use frames::{ALTERNATION_LEFT, Frame, LABELLED, SEQUENCE_LEFT, TENSOR_LEFT, store_frame};
 use tables::lookup::{BodyFound, RuleFound, find_body, find_rule};

@@ -2,6 +2,7 @@
 ghost use Rattle.tactics.specs.File.{FileGiven, FileWritten};
 
 use crate::numbers::put_header;
+use format::tags::GOALS_TAG;
 use words::copy_in;
 
 // The job's goal list, the hiproof of so many bytes that stands in the work space, and the list of the goals that remain.
@@ -21,6 +22,6 @@ pub fn write_file(
     let behind = term + bytes;
     copy_in(out, 0, job, 0, term);
     copy_in(out, term, work, from, bytes);
-    put_header(out, behind, 3, (count * 2) as u16);
+    put_header(out, behind, GOALS_TAG, (count * 2) as u16);
     copy_in(out, behind + 3, work, start, count * 2);
 }

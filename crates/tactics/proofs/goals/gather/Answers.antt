@@ -7,4 +7,4 @@ pub returns : goal.returns
 returns c =
     let a = c.args in
     let p = c.requires in
-    gathered a.work.now a.to a.first a.n a.second a.m p.0 p.1 p.3 _ _ c.move_up.ensures c.move_up-2.ensures
+    gathered a.work.now a.to a.first a.n a.second a.m p.0 p.1 p.3 _ _ c.move_within.ensures c.move_within-2.ensures

@@ -7,4 +7,4 @@ pub returns : goal.returns
 returns c =
     let a = c.args in
     let p = c.requires in
-    joined a.work.now a.to a.end a.first a.n a.second a.m p.0 p.4 _ _ c.gather.ensures c.move_down.ensures
+    joined a.work.now a.to a.end a.first a.n a.second a.m p.0 p.4 _ _ c.gather.ensures c.move_within.ensures
