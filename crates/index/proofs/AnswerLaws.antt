@@ -1,7 +1,8 @@
 -- What a search by the index says of the fields that the index is of: which of them has the key, or that none has.
 -- Assumes nothing.
-use Rattle.std.specs.Prelude.{Result, Ok, Err}
-use mathlib.Core.Path.{◌≡◌, sym, subst, ◌∙◌}
+use Rattle.std.specs.Prelude.{Result, Ok, Err, Some, None}
+use Rattle.std.specs.Result.{result_ok}
+use mathlib.Core.Path.{◌≡◌, refl, sym, subst, ap, ◌∙◌}
 use mathlib.Core.Bool.{true}
 use mathlib.Core.List.{List, Memᴰ}
 use Prim.Native.Nat.{ℕ, ◌+◌, ◌<◌}
@@ -68,3 +69,18 @@ module _ (number : ℕ) (s ps w : List ℕ) (base n : ℕ) (tree : Tree number s
     pub at_node : (f : Found) → r ≡ Ok f → Only f.node f.place
     unfolding Seeks
     at_node f e = let x = own (Ok f) e in found f.node f.place x.0 x.1 x.2 x.3
+
+    -- the same where only a node is looked at
+    pub none_at : result_ok r ≡ None → Nowhere
+    none_at = go r refl
+      where
+        go : (x : Result Found Vacant) → r ≡ x → result_ok x ≡ None → Nowhere
+        go (Ok f) e z = absurd (cc)
+        go (Err v) e z = at_vacant v e
+
+    pub some_at : (f : Found) → result_ok r ≡ Some f → Only f.node f.place
+    some_at f = go r refl
+      where
+        go : (x : Result Found Vacant) → r ≡ x → result_ok x ≡ Some f → Only f.node f.place
+        go (Ok g) e z = let same : g ≡ f = cc in at_node f (rw e (ap Ok same))
+        go (Err v) e z = absurd (cc)
