@@ -1,2 +1,4 @@
+pub mod PartLaws
 pub mod ReaderLaws
 pub mod AskLaws
+pub mod ToldLaws

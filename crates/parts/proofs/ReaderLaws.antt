@@ -1,20 +1,14 @@
 -- A header that is read ends within what encloses it, by the tests of `header_at`.
 -- Assumes nothing.
-use mathlib.Core.Path.{◌≡◌, refl, subst}
+use mathlib.Core.Path.{◌≡◌, refl}
 use mathlib.Core.Bool.{Bool}
 use mathlib.Core.List.{List}
-use Prim.Native.Nat.{ℕ, ◌+◌, ◌≤◌}
-use Rattle.format.specs.declared.headers.HeaderRead.{HeaderRead}
-use Rattle.format.specs.declared.headers.HeaderRead.TheVariants.{Field}
+use Prim.Native.Nat.{ℕ}
 use Rattle.format.specs.Results.{Result, gives, refused, told}
 use Rattle.format.specs.Headers.{Header, header_at}
 use Rattle.format.specs.Shapes.{header_shape}
 use Rattle.format.proofs.HeaderLaws.{is_field}
 use Rattle.parts.specs.Reader.{Encloses}
-
-pub ends_within : (at end tag len : ℕ) (h : HeaderRead) → h ≡ Field tag len → Encloses at end h → at + 3 + len ≤ end
-unfolding Encloses
-ends_within at end tag len h e p = subst (Encloses at end) e p
 
 -- a header that is read ends within what encloses it
 pub encloses : (s : List ℕ) (at end low high : ℕ) (full : Bool) → Encloses at end (header_shape (header_at s at end low high full))

@@ -6,14 +6,13 @@ pub mod state;
 
 ghost use Rattle.std.specs.Prelude.{◌≡◌, ◌+◌, ◌≤◌, ◌<◌, length};
 ghost use Rattle.format.specs.Next.{full_table, full_flat};
+ghost use Rattle.parts.specs.declared.state.Part.TheVariants.{Entries, Fields, Body};
 ghost use Rattle.parts.specs.Reader.{Encloses};
-ghost use Rattle.parts.specs.States.{entries_part, fields_part, body_part, low_of, high_of, full_of, next_of, table_field, entry_taken, remaining_taken, list_taken, taken, behind_term, blank_state, begun_file, begun_table};
+ghost use Rattle.parts.specs.States.{low_of, high_of, full_of, next_of, table_field, entry_taken, remaining_taken, list_taken, taken, behind_body, behind_job, behind_term, blank_state, begun_file, begun_table};
 
-use crate::state::{
-    BODY, ENTRIES, FIELDS, GAVE, JOB_GOALS, JOB_TERM, MOST_TERM_FIELDS, PROOF_TERM, READS, REFUSED,
-    REMAINING, ROOTS, State, asking, counted, refused,
-};
-use format::headers::HeaderRead;
+use crate::state::{MOST_TERM_FIELDS, Mode, Part, State};
+use format::headers::Header;
+use format::refusals::{Cause, Refusal};
 use format::tags::{DEFINITION, ENTRY, GOAL_LIST, HIPROOF, RULE, RULE_TAG, TACTIC, USE_TAG};
 use words::load16;
 
@@ -30,6 +29,7 @@ const MOST_OPENS: usize = 256;
 const MOST_GOALS: usize = 256;
 
 // Whether no more fields of a table with the tag at this place may come.
+#[tactic(auto, unfolding(format::specs::Next::full_table))]
 fn is_full_table(s: &[u8], at: usize, rules: usize, definitions: usize) -> bool
     requires { at < length s.now }
     ensures { result ≡ full_table s.now at rules definitions }
@@ -42,6 +42,7 @@ fn is_full_table(s: &[u8], at: usize, rules: usize, definitions: usize) -> bool
 }
 
 // Whether no more entries with the tag at this place may come.
+#[tactic(auto, unfolding(format::specs::Next::full_flat))]
 fn is_full_flat(s: &[u8], at: usize, uses: usize, opens: usize) -> bool
     requires { at < length s.now }
     ensures { result ≡ full_flat s.now at uses opens }
@@ -53,212 +54,249 @@ fn is_full_flat(s: &[u8], at: usize, uses: usize, opens: usize) -> bool
     }
 }
 
-// The lowest kind that may stand where a state is; once there is a definition no rule may follow.
-pub fn low_of(x: State) -> u8
-    ensures { result ≡ low_of x }
-{
-    if x.part < BODY {
-        if x.part == FIELDS {
-            if x.second == 0 {
-                return RULE;
+// In what may stand where a state is, terms are told from other parts by one test in front of the match: a match on all parts costs a fifth more instructions for every field of a term.
+impl State {
+    // The lowest kind that may stand where a state is; once there is a definition no rule may follow.
+    #[tactic(auto, using(crate::proofs::PartLaws::term_chosen, crate::proofs::PartLaws::list_chosen, crate::proofs::PartLaws::else_list), unfolding(crate::specs::States::low_of, format::specs::Next::lowest))]
+    pub fn low(self) -> u8
+        ensures { result ≡ low_of self }
+    {
+        if self.part.is_term() {
+            return HIPROOF;
+        }
+        match self.part {
+            Part::Fields => if self.second == 0 { RULE } else { DEFINITION },
+            Part::Entries => ENTRY,
+            _ => GOAL_LIST,
+        }
+    }
+
+    // The highest kind that may stand there.
+    #[tactic(auto, using(crate::proofs::PartLaws::term_chosen, crate::proofs::PartLaws::list_chosen, crate::proofs::PartLaws::else_list), unfolding(crate::specs::States::high_of))]
+    pub fn high(self) -> u8
+        ensures { result ≡ high_of self.part }
+    {
+        if self.part.is_term() {
+            return if self.part == Part::ProofTerm {
+                HIPROOF
+            } else {
+                TACTIC
+            };
+        }
+        match self.part {
+            Part::Fields => DEFINITION,
+            Part::Entries => ENTRY,
+            _ => GOAL_LIST,
+        }
+    }
+
+    // Whether no more fields of the kind that begins there may come.
+    #[tactic(auto, using(crate::proofs::PartLaws::term_chosen, crate::proofs::PartLaws::list_chosen, crate::proofs::PartLaws::else_list), unfolding(crate::specs::States::full_of))]
+    pub fn is_full(self, s: &[u8]) -> bool
+        requires { (self.part ≡ Entries → self.at < length s.now) × (self.part ≡ Fields → self.at < length s.now) }
+        ensures { result ≡ full_of s.now self }
+    {
+        if self.part.is_term() {
+            return MOST_TERM_FIELDS <= self.fields;
+        }
+        match self.part {
+            Part::Fields => is_full_table(s, self.at, self.first, self.second),
+            Part::Entries => is_full_flat(s, self.at, self.first, self.second),
+            _ => false,
+        }
+    }
+
+    // The next field of a part that has any number of fields is read at a place, or the file ends there.
+    #[tactic(auto, unfolding(crate::specs::States::next_of))]
+    fn next(self, part: Part, at: usize, s: &[u8]) -> State
+        ensures { result ≡ next_of s.now self part at }
+    {
+        let end = s.len();
+        if end <= at {
+            return self.asking(Mode::Gave, part, at, end);
+        }
+        self.asking(Mode::Reads, part, at, end)
+    }
+
+    // A rule, or a definition, whose body is read next.
+    #[tactic(auto, unfolding(crate::specs::States::table_field))]
+    fn table_field(self, tag: u8, close: usize, s: &[u8]) -> State
+        requires { (self.at ≤ length s.now) × (self.first ≤ self.at) }
+        ensures { result ≡ table_field s.now self tag close }
+    {
+        if tag == RULE_TAG {
+            let behind = State {
+                first: self.first + 1,
+                from: close,
+                ..self
+            };
+            return behind.next(Part::Fields, close, s);
+        }
+        let inside = State {
+            field: self.at,
+            ..self
+        };
+        inside.asking(Mode::Reads, Part::Body, self.at + 5, close)
+    }
+
+    // A use or an open.
+    #[tactic(auto, unfolding(crate::specs::States::entry_taken))]
+    fn entry(self, tag: u8, close: usize, s: &[u8]) -> State
+        requires { (self.at ≤ length s.now) × (self.first ≤ self.at) × (self.second ≤ self.at) }
+        ensures { result ≡ entry_taken s.now self tag close }
+    {
+        let behind = if tag == USE_TAG {
+            State {
+                first: self.first + 1,
+                ..self
             }
-            return DEFINITION;
-        }
-        if x.part == ENTRIES {
-            return ENTRY;
-        }
-        return GOAL_LIST;
-    }
-    HIPROOF
-}
-
-// The highest kind that may stand there.
-pub fn high_of(x: State) -> u8
-    ensures { result ≡ high_of x.part }
-{
-    if x.part < BODY {
-        if x.part == FIELDS {
-            return DEFINITION;
-        }
-        if x.part == ENTRIES {
-            return ENTRY;
-        }
-        return GOAL_LIST;
-    }
-    if x.part == PROOF_TERM {
-        return HIPROOF;
-    }
-    TACTIC
-}
-
-// Whether no more fields of the kind that begins there may come.
-pub fn is_full(x: State, s: &[u8]) -> bool
-    requires { (x.part ≡ entries_part → x.at < length s.now) × (x.part ≡ fields_part → x.at < length s.now) }
-    ensures { result ≡ full_of s.now x }
-{
-    if x.part < BODY {
-        if x.part == FIELDS {
-            return is_full_table(s, x.at, x.first, x.second);
-        }
-        if x.part == ENTRIES {
-            return is_full_flat(s, x.at, x.first, x.second);
-        }
-        return false;
-    }
-    MOST_TERM_FIELDS <= x.fields
-}
-
-// The next field of a part that has any number of fields is read at a place, or the file ends there.
-fn next_of(x: State, part: u8, at: usize, s: &[u8]) -> State
-    ensures { result ≡ next_of s.now x part at }
-{
-    let end = s.len();
-    if end <= at {
-        return asking(x, GAVE, part, at, end);
-    }
-    asking(x, READS, part, at, end)
-}
-
-// A rule, or a definition, whose body is read next.
-fn table_field(x: State, tag: u8, close: usize, s: &[u8]) -> State
-    requires { (x.at ≤ length s.now) × (x.first ≤ x.at) }
-    ensures { result ≡ table_field s.now x tag close }
-{
-    if tag == RULE_TAG {
-        let r = counted(x, x.goals, x.first + 1, x.second, close, x.rest, x.field);
-        return next_of(r, FIELDS, close, s);
-    }
-    let r = counted(x, x.goals, x.first, x.second, x.from, x.rest, x.at);
-    asking(r, READS, BODY, x.at + 5, close)
-}
-
-// A use or an open.
-fn entry(x: State, tag: u8, close: usize, s: &[u8]) -> State
-    requires { (x.at ≤ length s.now) × (x.first ≤ x.at) × (x.second ≤ x.at) }
-    ensures { result ≡ entry_taken s.now x tag close }
-{
-    if tag == USE_TAG {
-        let r = counted(x, x.goals, x.first + 1, x.second, x.from, x.rest, x.field);
-        return next_of(r, ENTRIES, close, s);
-    }
-    let r = counted(x, x.goals, x.first, x.second + 1, x.from, x.rest, x.field);
-    next_of(r, ENTRIES, close, s)
-}
-
-// The list of those remaining ends a proof file: nothing may be left behind it.
-fn remaining(x: State, count: usize, close: usize) -> State
-    ensures { result ≡ remaining_taken x count close }
-{
-    if close != x.end {
-        return refused(x, 4, close);
-    }
-    let r = counted(x, x.goals, x.first, count, x.from, x.rest, x.field);
-    asking(r, GAVE, x.part, close, x.end)
-}
-
-// A goal list of so many goals: those remaining, or the first list of a file.
-fn goal_list(x: State, count: usize, close: usize, s: &[u8]) -> State
-    ensures { result ≡ list_taken s.now x count close }
-{
-    if MOST_GOALS < count {
-        return refused(x, 5, x.at);
-    }
-    if x.part == REMAINING {
-        return remaining(x, count, close);
-    }
-    let r = counted(x, count, x.first, x.second, close, x.rest, x.field);
-    if x.part == ROOTS {
-        return next_of(r, ENTRIES, close, s);
-    }
-    if x.part == JOB_GOALS {
-        return asking(r, READS, JOB_TERM, close, x.end);
-    }
-    asking(r, READS, PROOF_TERM, close, x.end)
-}
-
-// From the header of a field that stands in no term to what is read next.
-pub fn take(x: State, header: HeaderRead, s: &[u8]) -> State
-    requires { (x.at ≤ x.end) × (x.end ≤ length s.now) × (x.first ≤ x.at) × (x.second ≤ x.at) × Encloses x.at x.end header }
-    ensures { result ≡ taken s.now x header }
-{
-    match header {
-        HeaderRead::Refused(number, place) => refused(x, number, place),
-        HeaderRead::Field(tag, len) => {
-            let close = x.at + 3 + len;
-            if x.part == FIELDS {
-                return table_field(x, tag, close, s);
+        } else {
+            State {
+                second: self.second + 1,
+                ..self
             }
-            if x.part == ENTRIES {
-                return entry(x, tag, close, s);
+        };
+        behind.next(Part::Entries, close, s)
+    }
+
+    // The list of those remaining ends a proof file: nothing may be left behind it.
+    #[tactic(auto, unfolding(crate::specs::States::remaining_taken))]
+    fn remaining(self, count: usize, close: usize) -> State
+        ensures { result ≡ remaining_taken self count close }
+    {
+        if close != self.end {
+            return self.refused(Cause::LengthWrong, close);
+        }
+        let behind = State {
+            second: count,
+            ..self
+        };
+        behind.asking(Mode::Gave, self.part, close, self.end)
+    }
+
+    // A goal list of so many goals: those remaining, or the first list of a file.
+    #[tactic(auto, unfolding(crate::specs::States::list_taken, crate::specs::States::behind_list))]
+    fn goal_list(self, count: usize, close: usize, s: &[u8]) -> State
+        ensures { result ≡ list_taken s.now self count close }
+    {
+        if MOST_GOALS < count {
+            return self.refused(Cause::LimitPassed, self.at);
+        }
+        let behind = State {
+            goals: count,
+            from: close,
+            ..self
+        };
+        match self.part {
+            Part::Remaining => self.remaining(count, close),
+            Part::Roots => behind.next(Part::Entries, close, s),
+            Part::JobGoals => behind.asking(Mode::Reads, Part::JobTerm, close, self.end),
+            _ => behind.asking(Mode::Reads, Part::ProofTerm, close, self.end),
+        }
+    }
+
+    // From the header of a field that stands in no term to what is read next.
+    #[tactic(auto, using(crate::proofs::PartLaws::term_chosen, crate::proofs::PartLaws::list_chosen, crate::proofs::PartLaws::else_list), unfolding(crate::specs::States::taken, crate::specs::Reader::Encloses))]
+    pub fn take(self, header: Result<Header, Refusal>, s: &[u8]) -> State
+        requires { (self.at ≤ self.end) × (self.end ≤ length s.now) × (self.first ≤ self.at) × (self.second ≤ self.at) × Encloses self.at self.end header }
+        ensures { result ≡ taken s.now self header }
+    {
+        match header {
+            Err(Refusal { cause, place }) => self.refused(cause, place),
+            Ok(Header { tag, len }) => {
+                let close = self.at + 3 + len;
+                match self.part {
+                    Part::Fields => self.table_field(tag, close, s),
+                    Part::Entries => self.entry(tag, close, s),
+                    _ => self.goal_list(len / 2, close, s),
+                }
             }
-            goal_list(x, len / 2, close, s)
         }
     }
-}
 
-// Behind a term that no field encloses: the next definition, those remaining, or the end of the file. Nothing may be left in the definition, and nothing behind the term of a job.
-pub fn behind_term(x: State, s: &[u8]) -> State
-    requires { (x.part ≡ body_part → x.field + 2 < length s.now) × (x.at ≤ length s.now) × (x.second ≤ x.at) }
-    ensures { result ≡ behind_term s.now x }
-{
-    let end = s.len();
-    if x.part == BODY {
-        if x.at != x.field + 3 + load16(s, x.field + 1) as usize {
-            return refused(x, 4, x.field);
+    // Behind the body of a definition the next field is read. Nothing may be left in the definition.
+    #[tactic(auto, unfolding(crate::specs::States::behind_body, crate::specs::States::end_of))]
+    fn behind_body(self, s: &[u8]) -> State
+        requires { (self.field + 2 < length s.now) × (self.second ≤ self.at) × (self.at ≤ length s.now) }
+        ensures { result ≡ behind_body s.now self }
+    {
+        if self.at != self.field + 3 + load16(s, self.field + 1) as usize {
+            return self.refused(Cause::LengthWrong, self.field);
         }
-        let r = counted(x, x.goals, x.first, x.second + 1, x.from, x.rest, x.field);
-        return next_of(r, FIELDS, x.at, s);
+        let behind = State {
+            second: self.second + 1,
+            ..self
+        };
+        behind.next(Part::Fields, self.at, s)
     }
-    if x.part == JOB_TERM {
-        if x.at != end {
-            return refused(x, 4, x.at);
-        }
-        return x;
-    }
-    let r = counted(x, x.goals, x.first, x.second, x.from, x.at, x.field);
-    asking(r, READS, REMAINING, x.at, end)
-}
 
-// Nothing of a file is read.
-fn blank(part: u8) -> State
-    ensures { result ≡ blank_state part }
-{
-    State {
-        mode: REFUSED,
-        part,
-        at: 0,
-        end: 0,
-        fields: 0,
-        depth: 0,
-        top: 0,
-        goals: 0,
-        first: 0,
-        second: 0,
-        from: 0,
-        rest: 0,
-        field: 0,
-        number: 0,
-        place: 0,
+    // Behind a term that no field encloses: the next definition, those remaining, or the end of the file. Nothing may be left behind the term of a job.
+    #[tactic(auto, unfolding(crate::specs::States::behind_term, crate::specs::States::behind_part, crate::specs::States::behind_job))]
+    pub fn behind_term(self, s: &[u8]) -> State
+        requires { (self.part ≡ Body → self.field + 2 < length s.now) × (self.at ≤ length s.now) × (self.second ≤ self.at) }
+        ensures { result ≡ behind_term s.now self }
+    {
+        match self.part {
+            Part::Body => self.behind_body(s),
+            Part::JobTerm => if self.at == s.len() {
+                self
+            } else {
+                self.refused(Cause::LengthWrong, self.at)
+            },
+            _ => {
+                let behind = State {
+                    rest: self.at,
+                    ..self
+                };
+                behind.asking(Mode::Reads, Part::Remaining, self.at, s.len())
+            }
+        }
+    }
+
+    // Nothing of a file is read.
+    #[tactic(auto, unfolding(crate::specs::States::blank_state))]
+    fn blank(part: Part) -> State
+        ensures { result ≡ blank_state part }
+    {
+        State {
+            mode: Mode::Refused,
+            part,
+            at: 0,
+            end: 0,
+            fields: 0,
+            depth: 0,
+            top: 0,
+            goals: 0,
+            first: 0,
+            second: 0,
+            from: 0,
+            rest: 0,
+            field: 0,
+            refusal: Refusal {
+                cause: Cause::InputTooLong,
+                place: 0,
+            },
+        }
     }
 }
 
 // A file that begins with a goal list, unless it is too long.
-pub fn begin_file(s: &[u8], part: u8) -> State
+#[tactic(auto, unfolding(crate::specs::States::begun_file))]
+pub fn begin_file(s: &[u8], part: Part) -> State
     ensures { result ≡ begun_file s.now part }
 {
     let end = s.len();
-    let none = blank(part);
-    let x = asking(none, READS, part, 0, end);
+    let x = State::blank(part).asking(Mode::Reads, part, 0, end);
     if MOST_BYTES < end {
-        return refused(x, 1, 0);
+        return x.refused(Cause::InputTooLong, 0);
     }
     x
 }
 
 // A table.
+#[tactic(auto, unfolding(crate::specs::States::begun_table))]
 pub fn begin_table(s: &[u8]) -> State
     ensures { result ≡ begun_table s.now }
 {
-    let x = blank(FIELDS);
-    next_of(x, FIELDS, 0, s)
+    State::blank(Part::Fields).next(Part::Fields, 0, s)
 }

@@ -1,40 +1,48 @@
 // How far a file has been read.
 ghost use Rattle.std.specs.Prelude.{◌≡◌};
-ghost use Rattle.parts.specs.States.{refusing, stepped, asking, counted};
+ghost use Rattle.parts.specs.States.{is_term, refusing, stepped, asking, Told};
+
+use format::refusals::{Cause, Refusal};
 
 // What comes next: nothing after a refusal, the field at a place, or what follows a term that was read; at the end of the file nothing.
-pub const REFUSED: u8 = 0;
+// The refusal stands beside the mode, not in it: within it, it would cost a sixth more instructions for every field that is read.
+#[derive(Clone, Copy, PartialEq, Eq)]
+pub enum Mode {
+    Refused,
+    Reads,
+    Gave,
+}
 
-pub const READS: u8 = 1;
+// The parts of the files: the roots and the entries of a flat file, the fields of a table, the goals of a job and of a proof, those remaining of a proof; and the terms: the body of a definition, the term of a job and the hiproof of a proof.
+#[derive(Clone, Copy, PartialEq, Eq)]
+pub enum Part {
+    Roots,
+    Entries,
+    Fields,
+    JobGoals,
+    ProofGoals,
+    Remaining,
+    Body,
+    JobTerm,
+    ProofTerm,
+}
 
-pub const GAVE: u8 = 2;
-
-// The parts of the files: the roots and the entries of a flat file, the fields of a table, the goals of a job and of a proof, those remaining of a proof; and from BODY on terms: the body of a definition, the term of a job and the hiproof of a proof.
-pub const ROOTS: u8 = 0;
-
-pub const ENTRIES: u8 = 1;
-
-pub const FIELDS: u8 = 2;
-
-pub const JOB_GOALS: u8 = 3;
-
-pub const PROOF_GOALS: u8 = 4;
-
-pub const REMAINING: u8 = 5;
-
-pub const BODY: u8 = 6;
-
-pub const JOB_TERM: u8 = 7;
-
-pub const PROOF_TERM: u8 = 8;
+impl Part {
+    // Whether what is read is a term.
+    pub fn is_term(self) -> bool
+        ensures { result ≡ is_term self }
+    {
+        matches!(self, Part::Body | Part::JobTerm | Part::ProofTerm)
+    }
+}
 
 // At most so many term fields stand in a file, and so many wait.
 pub const MOST_TERM_FIELDS: usize = 4096;
 
 #[derive(Clone, Copy)]
 pub struct State {
-    pub mode: u8,
-    pub part: u8,
+    pub mode: Mode,
+    pub part: Part,
     // The place of the field to read or behind the term that was read, and the end of what encloses it.
     pub at: usize,
     pub end: usize,
@@ -50,116 +58,67 @@ pub struct State {
     pub from: usize,
     pub rest: usize,
     pub field: usize,
-    // Of a refusal its number and place.
-    pub number: u8,
-    pub place: usize,
+    // Of a refusal its cause and place.
+    pub refusal: Refusal,
 }
 
-// The next states. Each is made from its numbers, not changed in place: so the numbers stay apart in the machine, where a copy of the whole state at each turn would cost more than the turn.
-// A refusal ends the reading.
-pub fn refused(x: State, number: u8, place: usize) -> State
-    ensures { result ≡ refusing x number place }
-{
-    State {
-        mode: REFUSED,
-        part: x.part,
-        at: x.at,
-        end: x.end,
-        fields: x.fields,
-        depth: x.depth,
-        top: x.top,
-        goals: x.goals,
-        first: x.first,
-        second: x.second,
-        from: x.from,
-        rest: x.rest,
-        field: x.field,
-        number,
-        place,
+impl State {
+    // A refusal ends the reading.
+    pub fn refused(self, cause: Cause, place: usize) -> State
+        ensures { result ≡ refusing self cause place }
+    {
+        State {
+            mode: Mode::Refused,
+            refusal: Refusal { cause, place },
+            ..self
+        }
     }
-}
 
-// Within a term: the place, the end of what encloses it, the term fields and the fields that wait.
-pub fn stepped(
-    x: State,
-    mode: u8,
-    at: usize,
-    end: usize,
-    fields: usize,
-    depth: usize,
-    top: usize,
-) -> State
-    ensures { result ≡ stepped x mode at end fields depth top }
-{
-    State {
-        mode,
-        part: x.part,
-        at,
-        end,
-        fields,
-        depth,
-        top,
-        goals: x.goals,
-        first: x.first,
-        second: x.second,
-        from: x.from,
-        rest: x.rest,
-        field: x.field,
-        number: x.number,
-        place: x.place,
+    // Within a term: the place, the end of what encloses it, the term fields and the fields that wait.
+    pub fn stepped(
+        self,
+        mode: Mode,
+        at: usize,
+        end: usize,
+        fields: usize,
+        depth: usize,
+        top: usize,
+    ) -> State
+        ensures { result ≡ stepped self mode at end fields depth top }
+    {
+        State {
+            mode,
+            at,
+            end,
+            fields,
+            depth,
+            top,
+            ..self
+        }
     }
-}
 
-// A part of the file at a place.
-pub fn asking(x: State, mode: u8, part: u8, at: usize, end: usize) -> State
-    ensures { result ≡ asking x mode part at end }
-{
-    State {
-        mode,
-        part,
-        at,
-        end,
-        fields: x.fields,
-        depth: x.depth,
-        top: at,
-        goals: x.goals,
-        first: x.first,
-        second: x.second,
-        from: x.from,
-        rest: x.rest,
-        field: x.field,
-        number: x.number,
-        place: x.place,
+    // A part of the file at a place.
+    pub fn asking(self, mode: Mode, part: Part, at: usize, end: usize) -> State
+        ensures { result ≡ asking self mode part at end }
+    {
+        State {
+            mode,
+            part,
+            at,
+            end,
+            top: at,
+            ..self
+        }
     }
-}
 
-// Other counts and places of fields outside terms.
-pub fn counted(
-    x: State,
-    goals: usize,
-    first: usize,
-    second: usize,
-    from: usize,
-    rest: usize,
-    field: usize,
-) -> State
-    ensures { result ≡ counted x goals first second from rest field }
-{
-    State {
-        mode: x.mode,
-        part: x.part,
-        at: x.at,
-        end: x.end,
-        fields: x.fields,
-        depth: x.depth,
-        top: x.top,
-        goals,
-        first,
-        second,
-        from,
-        rest,
-        field,
-        number: x.number,
-        place: x.place,
+    // What was found, once there is no field left to read: the refusal, or what P keeps of the state.
+    pub fn told<P: From<State>>(self) -> Result<P, Refusal>
+        ensures { Told P.From.from_gives self result }
+    {
+        if self.mode == Mode::Refused {
+            Err(self.refusal)
+        } else {
+            Ok(P::from(self))
+        }
     }
 }

@@ -6,11 +6,11 @@ use Prim.Native.Nat.{ℕ, zero, suc, ◌+◌, ◌-◌, ◌≤◌, ◌<◌}
 use native.Mathlib.Omega.{arith}
 use lib.Dec.{leb}
 use lib.ListN.{length}
-use Rattle.format.specs.declared.headers.HeaderRead.TheVariants as H
+use Rattle.format.specs.declared.refusals.Cause.{Cause}
 use Rattle.format.specs.TermRead.{TermRead}
 use Rattle.format.specs.TermRead.{Refused, Read}
 use Rattle.format.specs.Limits.{most_term_fields}
-use Rattle.format.specs.Results.{gives, and_then}
+use Rattle.format.specs.Results.{gives, and_then, refused_at}
 use Rattle.format.specs.Tags.{least_of, inner_of, hiproof_kind}
 use Rattle.format.specs.Headers.{header, header_at}
 use Rattle.format.specs.ReadTerms.{contents, term_of, read_term}
@@ -37,7 +37,7 @@ module _ (s : List ℕ) (high : ℕ) where
   unfold_once d at end n = refl
 
   -- a term by its field: refused, without inner terms, with inner terms
-  pub reads_refused : (at end n k p : ℕ) → header_shape (header_at s at end hiproof_kind high (leb most_term_fields n)) ≡ H.Refused k p → reads s high at end n ≡ Refused k p
+  pub reads_refused : (at end n : ℕ) (k : Cause) (p : ℕ) → header_shape (header_at s at end hiproof_kind high (leb most_term_fields n)) ≡ refused_at k p → reads s high at end n ≡ Refused k p
   unfolding reads read_term
   reads_refused at end n k p e = header_refused _ _ k p e
 

@@ -6,27 +6,28 @@ use mathlib.Core.List.{List}
 use Prim.Native.Nat.{ℕ, zero, suc, ◌+◌, ◌≤◌, ◌<◌}
 use native.Mathlib.Omega.{arith}
 use lib.Dec.{eqb, leb}
-use Rattle.format.specs.declared.headers.HeaderRead.TheVariants as H
+use Rattle.std.specs.Prelude.{Ok}
 use Rattle.format.specs.TermRead.{TermRead}
 use Rattle.format.specs.TermRead.{Refused, Read}
 use Rattle.format.specs.Limits.{most_term_fields}
-use Rattle.format.specs.Refusals.{number, LengthWrong}
-use Rattle.format.specs.Results.{Result, gives, refused, and_then, told}
+use Rattle.format.specs.declared.refusals.Cause.{Cause}
+use Rattle.format.specs.declared.refusals.Cause.TheVariants.{LengthWrong}
+use Rattle.format.specs.Results.{Result, gives, refused, and_then, told, refused_at}
 use Rattle.format.specs.Tags.{least_of, inner_of, hiproof_kind}
 use Rattle.format.specs.Headers.{Header, header}
 use Rattle.format.specs.Terms.{Term}
 use Rattle.format.specs.ReadTerms.{ParsedTerm, parsed_term, closed, contents, term_of, read_term}
 use Rattle.format.specs.Shapes.{header_shape, term_shape, ending, Within}
-use Rattle.format.proofs.ResultLaws.{told_refused, and_holds}
+use Rattle.format.proofs.ResultLaws.{refused_cause, refused_place, told_refused, and_holds}
 use Rattle.format.proofs.HeaderLaws.{IsField, is_field}
 use Rattle.reading.specs.Waiting.{go_on, closing}
 
 -- a header that was refused
-pub header_refused : (x : Result Header) (next : Header → Result ParsedTerm) (k p : ℕ) → header_shape x ≡ H.Refused k p → term_shape (and_then x next) ≡ Refused k p
+pub header_refused : (x : Result Header) (next : Header → Result ParsedTerm) (k : Cause) (p : ℕ) → header_shape x ≡ refused_at k p → term_shape (and_then x next) ≡ Refused k p
 unfolding header_shape term_shape
 header_refused x next k p e =
-    told_refused H.Refused (λ h. H.Field h.tag h.len) Refused (λ t. Read t.next t.count) x next k p e
-    (λ c q f. let a : number c ≡ k = cc in let b : q ≡ p = cc in rw (a, b)) (λ a f. let z : ◌≡◌ {A = ℕ} 0 1 = cc in omega arith)
+    told_refused refused_at (λ h. Ok (record { tag = h.tag; len = h.len })) Refused (λ t. Read t.next t.count) x next k p e
+    (λ c q f. let a : c ≡ k = refused_cause f in let b : q ≡ p = refused_place f in rw (a, b)) (λ a f. let z : ◌≡◌ {A = ℕ} 0 1 = cc in omega arith)
 
 -- a header that was read, of a field that ends at `close`
 pub header_read : (rec : ℕ → ℕ → ℕ → Result ParsedTerm) (s : List ℕ) (at n : ℕ) (x : Result Header) (tag len close : ℕ) → x ≡ gives (header tag len) → close ≡ at + 3 + len
@@ -44,7 +45,7 @@ closed-ending : (at end : ℕ) (t : Term) (next n : ℕ) → term_shape (closed 
 unfolding term_shape told closed ending
 closed-ending at end t next n = go (eqb next end)
   where
-    go : (b : Bool) → told Refused (λ u. Read u.next u.count) (cond b (gives (parsed_term t next n)) (refused LengthWrong at)) ≡ cond b (Read next n) (Refused (number LengthWrong) at)
+    go : (b : Bool) → told Refused (λ u. Read u.next u.count) (cond b (gives (parsed_term t next n)) (refused LengthWrong at)) ≡ cond b (Read next n) (Refused LengthWrong at)
     go true = refl
     go false = refl
 
@@ -52,7 +53,7 @@ within-ending : (at end close next n : ℕ) → at + 3 ≤ next → next ≤ end
 unfolding Within ending
 within-ending at end close next n l h = go (eqb next close)
   where
-    go : (b : Bool) → Within at end (cond b (Read next n) (Refused (number LengthWrong) at))
+    go : (b : Bool) → Within at end (cond b (Read next n) (Refused LengthWrong at))
     go true = (l, h)
     go false = tt
 

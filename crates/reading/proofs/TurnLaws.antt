@@ -12,42 +12,45 @@ use Rattle.words.specs.Word.{word, put_word}
 use Rattle.words.specs.Kept.{Kept}
 use Rattle.words.proofs.WordLaws.{length-put_word, word_same, word_other}
 use Rattle.words.proofs.KeptLaws.{kept_put, kept_both, kept_same}
-use Rattle.format.specs.declared.headers.HeaderRead.TheVariants as H
 use Rattle.format.specs.TermRead.{TermRead, Refused, Read}
 use Rattle.format.specs.Limits.{most_term_fields}
-use Rattle.format.specs.Refusals.{number}
-use Rattle.format.specs.Results.{gives}
+use Rattle.format.specs.declared.refusals.Cause.{Cause}
+use Rattle.format.specs.declared.refusals.Cause.TheVariants.{LengthWrong}
+use Rattle.format.specs.Results.{gives, refused_at}
 use Rattle.format.specs.Tags.{least_of, inner_of, hiproof_kind}
 use Rattle.format.specs.Headers.{header, header_at}
 use Rattle.format.specs.Shapes.{header_shape, ending}
 use Rattle.format.proofs.HeaderLaws.{IsField, is_field}
 use Rattle.format.proofs.Lengths.{short_field}
+use Rattle.parts.specs.declared.state.Mode.{Mode}
+use Rattle.parts.specs.declared.state.Mode.TheVariants as M
 use Rattle.parts.specs.declared.state.State.{State}
-use Rattle.parts.specs.States.{refusing, stepped, end_of}
+use Rattle.parts.specs.States.{by_mode, refusing, stepped, end_of}
+use Rattle.parts.proofs.PartLaws.{else_refused}
 use Rattle.reading.specs.Waiting.{reading_room, go_on, reads, closing, put_waiting, resumed, told, outcome, Waits, Going, weight, Held, Moved, Turned}
 use Rattle.reading.proofs.ShapeLaws.{reads_refused, reads-leaf, reads_inner}
 use Rattle.reading.proofs.WaitLaws.{resumed_refused, resumed_top, waits_top, waits_on, waits_lower, waits_inside, resumed_below, waits_below, waiting_kept, waiting-length, waiting_place, waiting_left}
 
 -- the outcome by the mode
 module _ (s w : List ℕ) (high base : ℕ) (x : State) where
-  pub when_refused : x.mode ≡ 0 → outcome s w high base x ≡ Refused x.number x.place
+  pub when_refused : x.mode ≡ M.Refused → outcome s w high base x ≡ Refused x.refusal.cause x.refusal.place
   unfolding outcome
-  when_refused e = rw (eq-eqb x.mode 0 e)
+  when_refused e = rw e
 
-  pub when_reads : x.mode ≡ 1 → outcome s w high base x ≡ resumed s w high base x.top x.depth (reads s high x.at x.end x.fields)
+  pub when_reads : x.mode ≡ M.Reads → outcome s w high base x ≡ resumed s w high base x.top x.depth (reads s high x.at x.end x.fields)
   unfolding outcome
-  when_reads e = rw (ne_eqb x.mode 0 (omega arith), eq-eqb x.mode 1 e)
+  when_reads e = rw e
 
-  pub when_gave : 2 ≤ x.mode → outcome s w high base x ≡ resumed s w high base x.top x.depth (Read x.at x.fields)
+  pub when_gave : x.mode ≡ M.Gave → outcome s w high base x ≡ resumed s w high base x.top x.depth (Read x.at x.fields)
   unfolding outcome
-  when_gave l = rw (ne_eqb x.mode 0 (omega arith), ne_eqb x.mode 1 (omega arith))
+  when_gave e = rw e
 
 -- a state is in the file
 pub inside : (s w : List ℕ) (base : ℕ) (x : State) → Going s w base x → (x.at ≤ x.end) × (x.end ≤ length s) × (x.top ≤ x.at)
 inside s w base x g = (g.ordered, waits_inside s w base x.top x.end x.depth g.waits, g.behind)
 
 -- two bytes tell how far a field stands behind the one around it
-pub gap_fits : (s w : List ℕ) (base : ℕ) (x : State) → Going s w base x → x.mode ≡ 1 → x.at + 3 ≤ x.end → x.at - x.top ≤ 65535
+pub gap_fits : (s w : List ℕ) (base : ℕ) (x : State) → Going s w base x → x.mode ≡ M.Reads → x.at + 3 ≤ x.end → x.at - x.top ≤ 65535
 gap_fits s w base x g m l = go (g.near m)
   where
     go : (x.at ≡ x.top) ⊎ (x.end ≤ x.top + 65538) → x.at - x.top ≤ 65535
@@ -55,10 +58,10 @@ gap_fits s w base x g m l = go (g.near m)
     go (inr e) = omega arith
 
 -- a step to a refusal
-refuses : (s w : List ℕ) (high base : ℕ) (x : State) (k p : ℕ) → Going s w base x → 1 ≤ x.mode → outcome s w high base x ≡ Refused k p → Moved s w high base x w (refusing x k p)
+refuses : (s w : List ℕ) (high base : ℕ) (x : State) (k : Cause) (p : ℕ) → Going s w base x → 1 ≤ by_mode x.mode 0 1 2 → outcome s w high base x ≡ Refused k p → Moved s w high base x w (refusing x k p)
 unfolding weight
 refuses s w high base x k p g m e = record {
-  going = record { ordered = g.ordered; waits = g.waits; few = g.few; most = g.most; behind = g.behind; near = λ z. absurd (omega arith); room = g.room; modes = omega arith };
+  going = record { ordered = g.ordered; waits = g.waits; few = g.few; most = g.most; behind = g.behind; near = λ z. cc; room = g.room };
   same = when_refused s w high base (refusing x k p) refl ∙ sym e;
   kept = kept_same w base (base + reading_room);
   less = omega arith;
@@ -67,20 +70,20 @@ refuses s w high base x k p g m e = record {
 }
 
 -- the returns of `enter`
-module _ (s w : List ℕ) (high base : ℕ) (x : State) (g : Going s w base x) (m : x.mode ≡ 1) where
-  pub enter_refused : (k p : ℕ) → header_shape (header_at s x.at x.end hiproof_kind high (leb most_term_fields x.fields)) ≡ H.Refused k p → Moved s w high base x w (refusing x k p)
+module _ (s w : List ℕ) (high base : ℕ) (x : State) (g : Going s w base x) (m : x.mode ≡ M.Reads) where
+  pub enter_refused : (k : Cause) (p : ℕ) → header_shape (header_at s x.at x.end hiproof_kind high (leb most_term_fields x.fields)) ≡ refused_at k p → Moved s w high base x w (refusing x k p)
   enter_refused k p e =
-      refuses s w high base x k p g (omega arith)
+      refuses s w high base x k p g (rw m (omega arith))
       (when_reads s w high base x m ∙ ap (λ (r : TermRead). resumed s w high base x.top x.depth r) (reads_refused s high x.at x.end x.fields k p e) ∙ resumed_refused s w high base x.top x.depth k p)
 
   module _ (tag len close inner : ℕ) (e : header_at s x.at x.end hiproof_kind high (leb most_term_fields x.fields) ≡ gives (header tag len)) (c : close ≡ x.at + 3 + len) (i : inner ≡ inner_of tag) where
     abbrev F : IsField s x.at x.end hiproof_kind high (leb most_term_fields x.fields) tag len
     F = is_field s x.at x.end hiproof_kind high (leb most_term_fields x.fields) tag len e
 
-    pub enter-leaf : inner ≡ 0 → Moved s w high base x w (stepped x 2 close close (x.fields + 1) x.depth x.top)
+    pub enter-leaf : inner ≡ 0 → Moved s w high base x w (stepped x M.Gave close close (x.fields + 1) x.depth x.top)
     unfolding weight
     enter-leaf z =
-        let y = stepped x 2 close close (x.fields + 1) x.depth x.top in
+        let y = stepped x M.Gave close close (x.fields + 1) x.depth x.top in
         let f = F in
         let h = inside s w base x g in
         record {
@@ -90,12 +93,11 @@ module _ (s w : List ℕ) (high base : ℕ) (x : State) (g : Going s w base x) (
             few = omega (arith, g.few);
             most = g.most;
             behind = omega (arith, h);
-            near = λ q. absurd (omega arith);
+            near = λ q. cc;
             room = g.room;
-            modes = omega (arith, g.modes);
           };
           same =
-              when_gave s w high base y (omega arith)
+              when_gave s w high base y refl
               ∙ ap (λ (r : TermRead). resumed s w high base x.top x.depth r) (ap (λ (a : ℕ). Read a (x.fields + 1)) c ∙ sym (reads-leaf s high x.at x.end x.fields tag len e (sym i ∙ z)))
               ∙ sym (when_reads s w high base x m);
           kept = kept_same w base (base + reading_room);
@@ -144,7 +146,6 @@ module _ (s w : List ℕ) (high base : ℕ) (x : State) (g : Going s w base x) (
             behind = omega arith;
             near = λ z. inr (omega (arith, ee, sh));
             room = omega (arith, n, g.room);
-            modes = omega (arith, g.modes);
           };
           same =
               when_reads s w' high base y m
@@ -171,7 +172,7 @@ unfolding end_of
 ends_at s place len e = rw e
 
 -- the returns of `leave`: d is the number of fields below, gap and left what stands on top
-module _ (s w : List ℕ) (high base : ℕ) (x : State) (g : Going s w base x) (m : 2 ≤ x.mode) (d gap left end : ℕ) (dd : x.depth ≡ d + 1)
+module _ (s w : List ℕ) (high base : ℕ) (x : State) (g : Going s w base x) (m : x.mode ≡ M.Gave) (d gap left end : ℕ) (dd : x.depth ≡ d + 1)
     (p : gap ≡ word w (base + d * 4)) (q : left ≡ word w (base + d * 4 + 2)) (ee : end ≡ end_of s x.top) where
   top_waits : (x.end ≤ end_of s x.top) × (end_of s x.top ≤ x.top + 65538) × (gap ≤ x.top) × Waits s w base (x.top - gap) (end_of s x.top) d
   top_waits = waits_top s w base x.top x.end d gap (sym p) (subst (λ (k : ℕ). Waits s w base x.top x.end k) dd g.waits)
@@ -199,9 +200,8 @@ module _ (s w : List ℕ) (high base : ℕ) (x : State) (g : Going s w base x) (
           few = omega (arith, g.few);
           most = omega (arith, g.most);
           behind = omega (arith, g.behind);
-          near = λ v. absurd (omega arith);
+          near = λ v. cc;
           room = g.room;
-          modes = omega (arith, g.modes);
         };
         same =
             when_gave s w high base y m
@@ -213,21 +213,21 @@ module _ (s w : List ℕ) (high base : ℕ) (x : State) (g : Going s w base x) (
         ahead = omega arith;
       }
 
-  pub leave_refused : left ≡ 0 → (x.at ≡ end → ⊥) → Moved s w high base x w (refusing x 4 x.top)
-  unfolding ending number
+  pub leave_refused : left ≡ 0 → (x.at ≡ end → ⊥) → Moved s w high base x w (refusing x LengthWrong x.top)
+  unfolding ending
   leave_refused z t =
-      refuses s w high base x 4 x.top g (omega arith)
-      (before ∙ ap (λ (r : TermRead). resumed s w high base (x.top - gap) d r) (ended left z ∙ rw (ne_eqb x.at end t)) ∙ resumed_refused s w high base (x.top - gap) d 4 x.top)
+      refuses s w high base x LengthWrong x.top g (rw m (omega arith))
+      (before ∙ ap (λ (r : TermRead). resumed s w high base (x.top - gap) d r) (ended left z ∙ rw (ne_eqb x.at end t)) ∙ resumed_refused s w high base (x.top - gap) d LengthWrong x.top)
 
   more : (l : ℕ) → (l ≡ 0 → ⊥) → closing (reads s high) x.top end l (Read x.at x.fields) ≡ closing (reads s high) x.top end 0 (reads s high x.at end x.fields)
   unfolding closing go_on
   more zero nz = absurd (nz refl)
   more (suc l) nz = refl
 
-  pub leave_more : (left ≡ 0 → ⊥) → (w' : List ℕ) → w' ≡ put_word w (base + d * 4 + 2) 0 → Moved s w high base x w' (stepped x 1 x.at end x.fields x.depth x.top)
+  pub leave_more : (left ≡ 0 → ⊥) → (w' : List ℕ) → w' ≡ put_word w (base + d * 4 + 2) 0 → Moved s w high base x w' (stepped x M.Reads x.at end x.fields x.depth x.top)
   unfolding weight
   leave_more nz w' ew =
-      let y = stepped x 1 x.at end x.fields x.depth x.top in
+      let y = stepped x M.Reads x.at end x.fields x.depth x.top in
       let tw = top_waits in
       let low = base + d * 4 in
       let fits : low + 3 < length w = omega (arith, g.most, g.room) in
@@ -247,7 +247,6 @@ module _ (s w : List ℕ) (high base : ℕ) (x : State) (g : Going s w base x) (
           behind = g.behind;
           near = λ v. inr (omega (arith, ee, tw.1));
           room = omega (arith, n, g.room);
-          modes = omega (arith, g.modes);
         };
         same =
             when_reads s w' high base y refl
@@ -258,7 +257,7 @@ module _ (s w : List ℕ) (high base : ℕ) (x : State) (g : Going s w base x) (
             ∙ ap (λ (r : TermRead). resumed s w high base (x.top - gap) d r) (sym (more left nz))
             ∙ sym before;
         kept = ka;
-        less = omega (arith, m);
+        less = rw m (omega arith);
         held = record { part = refl; goals = refl; first = refl; second = refl; from = refl; field = refl };
         ahead = omega arith;
       }
@@ -284,24 +283,20 @@ moved_both s w high base x w' y w'' z a b = record {
   ahead = omega (arith, a.ahead, b.ahead);
 }
 
--- a mode that is neither of two
-zero_left : (m : ℕ) → m ≤ 2 → (m ≡ 2 → ⊥) → (m ≡ 1 → ⊥) → m ≡ 0
-zero_left m l a b = omega (arith, a, b)
-
 -- the returns of `turn_within`: what was read is a term that no field encloses, or nothing was read
 module _ (s w : List ℕ) (high base : ℕ) (x : State) (w' : List ℕ) (r : State) (v : Moved s w high base x w' r) where
-  pub turned_whole : r.mode ≡ 2 → r.depth ≡ 0 → Turned s w high base x w' r
+  pub turned_whole : r.mode ≡ M.Gave → r.depth ≡ 0 → Turned s w high base x w' r
   unfolding resumed told
   turned_whole m z = record {
     moved = v;
-    over = λ n. when_gave s w' high base r (omega arith) ∙ ap (λ (k : ℕ). resumed s w' high base r.top k (Read r.at r.fields)) z ∙ rw (ne_eqb r.mode 0 (omega arith));
+    over = λ n. when_gave s w' high base r m ∙ ap (λ (k : ℕ). resumed s w' high base r.top k (Read r.at r.fields)) z ∙ rw m;
     bare = λ n. z;
   }
 
-  pub turned_on : (r.mode ≡ 2 → ⊥) → Turned s w high base x w' r
+  pub turned_on : (r.mode ≡ M.Gave → ⊥) → Turned s w high base x w' r
   unfolding told
   turned_on m = record {
     moved = v;
-    over = λ n. when_refused s w' high base r (zero_left r.mode v.going.modes m n) ∙ rw (eq-eqb r.mode 0 (zero_left r.mode v.going.modes m n));
+    over = λ n. let e = else_refused r.mode n m in when_refused s w' high base r e ∙ rw e;
     bare = λ n. absurd (m n);
   }

@@ -10,17 +10,18 @@ use Rattle.words.specs.Word.{word, put_word}
 use Rattle.words.specs.Kept.{Kept}
 use Rattle.words.proofs.WordLaws.{length-put_word, word_same, word_other}
 use Rattle.words.proofs.KeptLaws.{kept_put, kept_both, word_below}
+use Rattle.format.specs.declared.refusals.Cause.{Cause}
 use Rattle.format.specs.TermRead.{TermRead}
 use Rattle.format.specs.TermRead.{Refused}
 use Rattle.parts.specs.States.{end_of}
 use Rattle.reading.specs.Waiting.{go_on, reads, closing, put_waiting, resumed, Waits}
 
-closing_refused : (rec : ℕ → ℕ → ℕ → TermRead) (at end left k p : ℕ) → closing rec at end left (Refused k p) ≡ Refused k p
+closing_refused : (rec : ℕ → ℕ → ℕ → TermRead) (at end left : ℕ) (k : Cause) (p : ℕ) → closing rec at end left (Refused k p) ≡ Refused k p
 unfolding closing go_on
 closing_refused rec at end zero k p = refl
 closing_refused rec at end (suc left) k p = refl
 
-pub resumed_refused : (s w : List ℕ) (high base top depth k p : ℕ) → resumed s w high base top depth (Refused k p) ≡ Refused k p
+pub resumed_refused : (s w : List ℕ) (high base top depth : ℕ) (k : Cause) (p : ℕ) → resumed s w high base top depth (Refused k p) ≡ Refused k p
 unfolding resumed
 resumed_refused s w high base top zero k p = refl
 resumed_refused s w high base top (suc d) k p =

@@ -1,8 +1,10 @@
 -- Enclosing fields that wait while an inner term is read: what is still to be done with what the inner term comes to.
-use Rattle.std.specs.Prelude.{ℕ, zero, suc, ◌+◌, ◌*◌, ◌-◌, ◌≤◌, ◌<◌, ◌≡◌, cond, List, ◌⊎◌, eqb, leb, length}
+use Rattle.std.specs.Prelude.{ℕ, zero, suc, ◌+◌, ◌*◌, ◌-◌, ◌≤◌, ◌<◌, ◌≡◌, List, ◌⊎◌, leb, length}
 use Rattle.words.specs.Word.{word, put_word}
 use Rattle.words.specs.Kept.{Kept}
-use Rattle.format.specs.declared.headers.HeaderRead.{HeaderRead}
+use Rattle.std.specs.Prelude as std
+use Rattle.format.specs.declared.headers.Header as read
+use Rattle.format.specs.declared.refusals.Refusal as refusal
 use Rattle.format.specs.TermRead.{TermRead, Refused, Read}
 use Rattle.format.specs.Limits.{most_term_fields}
 use Rattle.format.specs.Tags.{hiproof_kind}
@@ -10,7 +12,8 @@ use Rattle.format.specs.Headers.{header_at}
 use Rattle.format.specs.ReadTerms.{read_term}
 use Rattle.format.specs.Shapes.{header_shape, term_shape, ending}
 use Rattle.parts.specs.declared.state.State.{State}
-use Rattle.parts.specs.States.{mode_refused, mode_reads, mode_gave, end_of}
+use Rattle.parts.specs.declared.state.Mode.TheVariants.{Reads, Gave}
+use Rattle.parts.specs.States.{by_mode, end_of}
 
 -- the bytes that the fields that wait take: at most every term field of a file waits, in four bytes
 abbrev pub reading_room : ℕ
@@ -18,7 +21,7 @@ reading_room = most_term_fields * 4
 
 -- go on behind a term that was read; a refusal stands
 unfoldable pub go_on : TermRead → (ℕ → ℕ → TermRead) → TermRead
-go_on (Refused k p) next = Refused k p
+go_on (Refused c p) next = Refused c p
 go_on (Read to n) next = next to n
 
 -- a term as the code tells it, at a depth that is enough for every term of the file
@@ -42,13 +45,14 @@ resumed s w high base top (suc k) r =
 
 -- what a state in which nothing is left to read comes to
 unfoldable pub told : State → TermRead
-told x = cond (eqb x.mode mode_refused) (Refused x.number x.place) (Read x.at x.fields)
+told x = by_mode x.mode (Refused x.refusal.cause x.refusal.place) (Read x.at x.fields) (Read x.at x.fields)
 
 -- what the loop comes to from here on
 unfoldable pub outcome : (s w : List ℕ) (high base : ℕ) → State → TermRead
 outcome s w high base x =
-    cond (eqb x.mode mode_refused) (Refused x.number x.place)
-    (resumed s w high base x.top x.depth (cond (eqb x.mode mode_reads) (reads s high x.at x.end x.fields) (Read x.at x.fields)))
+    by_mode x.mode (Refused x.refusal.cause x.refusal.place)
+    (resumed s w high base x.top x.depth (reads s high x.at x.end x.fields))
+    (resumed s w high base x.top x.depth (Read x.at x.fields))
 
 -- fields that wait stand in one another, and the innermost, at the place top, holds what ends at `end`
 unfoldable pub Waits : (s w : List ℕ) (base top end depth : ℕ) → Type 0
@@ -63,13 +67,12 @@ pub record Going (s w : List ℕ) (base : ℕ) (x : State) : Type 0 where
   pub few : x.depth ≤ x.fields
   pub most : x.depth ≤ most_term_fields
   pub behind : x.top ≤ x.at
-  pub near : x.mode ≡ mode_reads → (x.at ≡ x.top) ⊎ (x.end ≤ x.top + 65538)
+  pub near : x.mode ≡ Reads → (x.at ≡ x.top) ⊎ (x.end ≤ x.top + 65538)
   pub room : base + reading_room ≤ length w
-  pub modes : x.mode ≤ mode_gave
 
 -- what falls with each turn
 unfoldable pub weight : List ℕ → State → ℕ
-weight s x = (length s - x.at) * 2 + x.depth + x.mode
+weight s x = (length s - x.at) * 2 + x.depth + by_mode x.mode 0 1 2
 
 -- what stays while a term is read: the part of the file, and what was counted before the term
 pub record Held (x r : State) : Type 0 where
@@ -90,13 +93,13 @@ pub record Moved (s w : List ℕ) (high base : ℕ) (x : State) (w' : List ℕ) 
   pub ahead : x.at ≤ r.at
 
 -- what is known before a field: it is the one at the place of a term that is to be read
-pub record Enters (s w : List ℕ) (high base : ℕ) (x : State) (h : HeaderRead) : Type 0 where
+pub record Enters (s w : List ℕ) (high base : ℕ) (x : State) (h : std.Result read.Header refusal.Refusal) : Type 0 where
   pub going : Going s w base x
-  pub reading : x.mode ≡ mode_reads
+  pub reading : x.mode ≡ Reads
   pub header_is : h ≡ header_shape (header_at s x.at x.end hiproof_kind high (leb most_term_fields x.fields))
 
 -- one turn: to the next term that is to be read, or to the end of the outermost
 pub record Turned (s w : List ℕ) (high base : ℕ) (x : State) (w' : List ℕ) (r : State) : Type 0 where
   pub moved : Moved s w high base x w' r
-  pub over : (r.mode ≡ mode_reads → ⊥) → outcome s w' high base r ≡ told r
-  pub bare : r.mode ≡ mode_gave → r.depth ≡ 0
+  pub over : (r.mode ≡ Reads → ⊥) → outcome s w' high base r ≡ told r
+  pub bare : r.mode ≡ Gave → r.depth ≡ 0

@@ -6,26 +6,26 @@ pub mod reader;
 pub mod waiting;
 
 ghost use Rattle.std.specs.Prelude.{◌≡◌};
-ghost use Rattle.parts.specs.States.{mode_reads};
-ghost use Rattle.reading.specs.Reading.{Reading, Reads, Step, Reaches};
+ghost use Rattle.parts.specs.declared.state.Mode.TheVariants.{Reads};
+ghost use Rattle.reading.specs.Reading.{Reading, ReadsOn, Step, Reaches};
 
-use crate::reader::{header_of, new, to};
+use crate::reader::Reader;
 use crate::waiting::turn_within;
-use format::headers::HeaderRead;
-use parts::state::{BODY, GAVE, READS, State};
-use parts::{behind_term, high_of, is_full, low_of, take};
+use format::headers::Header;
+use format::refusals::Refusal;
+use parts::state::{Mode, State};
 
 // From a header to the next place where a field is to be read, if there is one.
-fn turn(x: State, header: HeaderRead, s: &[u8], work: &mut [u8], base: usize) -> State
-    requires { Reads s.now work.old base x header }
+fn turn(x: State, header: Result<Header, Refusal>, s: &[u8], work: &mut [u8], base: usize) -> State
+    requires { ReadsOn s.now work.old base x header }
     ensures { Step s.now work.old base x work.new result }
 {
-    if x.part < BODY {
-        return take(x, header, s);
+    if !x.part.is_term() {
+        return x.take(header, s);
     }
     let r = turn_within(x, header, s, work, base);
-    if r.mode == GAVE {
-        return behind_term(r, s);
+    if r.mode == Mode::Gave {
+        return r.behind_term(s);
     }
     r
 }
@@ -33,17 +33,14 @@ fn turn(x: State, header: HeaderRead, s: &[u8], work: &mut [u8], base: usize) ->
 // Reads on from a state to the end of the file or to a refusal.
 pub fn read_on(file: &[u8], start: State, work: &mut [u8], base: usize) -> State
     requires { Reading file.now work.old base start }
-    ensures { Reaches file.now base work.old start work.new result × (result.mode ≡ mode_reads → ⊥) }
+    ensures { Reaches file.now base work.old start work.new result × (result.mode ≡ Reads → ⊥) }
 {
-    let mut reader = new(file, start.at, start.end);
+    let mut reader = Reader::new(file, start.at, start.end);
     let mut x = start;
-    while x.mode == READS {
-        let low = low_of(x);
-        let high = high_of(x);
-        let full = is_full(x, file);
-        let header = header_of(reader, low, high, full);
+    while x.mode == Mode::Reads {
+        let header = reader.header(x.low(), x.high(), x.is_full(file));
         x = turn(x, header, file, work, base);
-        reader = to(reader, x.at, x.end);
+        reader = reader.to(x.at, x.end);
     }
     x
 }

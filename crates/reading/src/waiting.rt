@@ -1,11 +1,12 @@
 // Enclosing fields wait in lent bytes, four for each, while an inner term is read.
 ghost use Rattle.std.specs.Prelude.{◌≡◌, List, ℕ, ◌+◌, ◌≤◌, ◌<◌, length};
-ghost use Rattle.parts.specs.States.{mode_gave};
+ghost use Rattle.parts.specs.declared.state.Mode.TheVariants.{Gave};
 ghost use Rattle.reading.specs.Waiting.{put_waiting, Going, Moved, Enters, Turned};
 
-use format::headers::HeaderRead;
+use format::headers::Header;
+use format::refusals::{Cause, Refusal};
 use format::tags::{inner_at, least_at, row_of};
-use parts::state::{GAVE, READS, State, refused, stepped};
+use parts::state::{Mode, State};
 use words::{load16, store16};
 
 // A field that waits: how far behind the place of the field around it it stands, and how many inner terms follow the one that is read now.
@@ -18,32 +19,32 @@ fn push(work: &mut [u8], low: usize, gap: u16, left: u16)
 }
 
 // The field with that header: refused, read if it has no inner terms, or one more that waits for its first inner term.
-fn enter(x: State, header: HeaderRead, work: &mut [u8], base: usize) -> State
+fn enter(x: State, header: Result<Header, Refusal>, work: &mut [u8], base: usize) -> State
     requires { (s : List ℕ) × (high : ℕ) × Enters s work.old high base x header }
     ensures { (s : List ℕ) (high : ℕ) → Enters s work.old high base x header → Moved s work.old high base x work.new result }
 {
     match header {
-        HeaderRead::Refused(number, place) => refused(x, number, place),
-        HeaderRead::Field(tag, len) => {
+        Err(Refusal { cause, place }) => x.refused(cause, place),
+        Ok(Header { tag, len }) => {
             let at = x.at;
             let close = at + 3 + len;
             let fields = x.fields + 1;
             let row = row_of(tag);
             let inner = inner_at(row);
             if inner == 0 {
-                return stepped(x, GAVE, close, close, fields, x.depth, x.top);
+                return x.stepped(Mode::Gave, close, close, fields, x.depth, x.top);
             }
             let low = base + x.depth * 4;
             push(work, low, (at - x.top) as u16, (inner - 1) as u16);
             let next = at + 3 + least_at(row) as usize;
-            stepped(x, x.mode, next, close, fields, x.depth + 1, at)
+            x.stepped(x.mode, next, close, fields, x.depth + 1, at)
         }
     }
 }
 
 // Behind a term that was read: the field that waits last goes on to its second inner term, or ends there, or has leftovers.
 fn leave(x: State, s: &[u8], work: &mut [u8], base: usize) -> State
-    requires { Going s.now work.old base x × (mode_gave ≤ x.mode) × (0 < x.depth) }
+    requires { Going s.now work.old base x × (x.mode ≡ Gave) × (0 < x.depth) }
     ensures { (high : ℕ) → Moved s.now work.old high base x work.new result }
 {
     let top = x.top;
@@ -54,21 +55,27 @@ fn leave(x: State, s: &[u8], work: &mut [u8], base: usize) -> State
     let end = top + 3 + load16(s, top + 1) as usize;
     if left == 0 {
         if x.at == end {
-            return stepped(x, x.mode, x.at, end, x.fields, below, around);
+            return x.stepped(x.mode, x.at, end, x.fields, below, around);
         }
-        return refused(x, 4, top);
+        return x.refused(Cause::LengthWrong, top);
     }
     store16(work, low + 2, 0);
-    stepped(x, READS, x.at, end, x.fields, x.depth, top)
+    x.stepped(Mode::Reads, x.at, end, x.fields, x.depth, top)
 }
 
 // From the header of a term's field to the next place where a term is to be read, if there is one: behind a term that was read, all fields that end there are left.
-pub fn turn_within(x: State, header: HeaderRead, s: &[u8], work: &mut [u8], base: usize) -> State
+pub fn turn_within(
+    x: State,
+    header: Result<Header, Refusal>,
+    s: &[u8],
+    work: &mut [u8],
+    base: usize,
+) -> State
     requires { (high : ℕ) × Enters s.now work.old high base x header }
     ensures { (high : ℕ) → Enters s.now work.old high base x header → Turned s.now work.old high base x work.new result }
 {
     let mut r = enter(x, header, work, base);
-    while r.mode == GAVE {
+    while r.mode == Mode::Gave {
         if r.depth == 0 {
             return r;
         }
