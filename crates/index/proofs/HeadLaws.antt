@@ -11,7 +11,7 @@ use Rattle.words.specs.Kept.{Kept}
 use Rattle.words.proofs.WordLaws.{length-put_word, word_same, word_other}
 use Rattle.words.proofs.KeptLaws.{kept_put}
 use Rattle.index.specs.Layout.{heads, heads_room}
-use Rattle.index.specs.Blank.{Blank}
+use Rattle.words.specs.Blank.{Blank}
 use Rattle.index.specs.Nodes.{head_of, put_head}
 use Rattle.index.proofs.NodeLaws.{Same, split}
 

@@ -11,7 +11,7 @@ ghost use Rattle.rule_set.specs.Layout.{set_bits, set_room};
 ghost use Rattle.rule_set.specs.Sets.{RuleSet};
 
 use crate::layout::BITS_ROOM;
-use words::{load16, store16};
+use words::{clear_part, load16, store16};
 
 // Makes the set empty.
 pub fn make_empty(w: &mut [u8], base: usize)
@@ -20,11 +20,7 @@ pub fn make_empty(w: &mut [u8], base: usize)
     ensures kept { Kept w.old w.new base (base + set_room) }
 {
     store16(w, base + BITS_ROOM, 0);
-    let mut i: usize = 0;
-    while i < BITS_ROOM {
-        w[base + i] = 0;
-        i += 1;
-    }
+    clear_part(w, base, BITS_ROOM);
 }
 
 // Puts a number into the set. Where it is in it already nothing is written. Every use of a rule comes through here: the bit is shifted down from the highest, since the compiler would take 1 shifted up for a part of the test, and make it at every use.

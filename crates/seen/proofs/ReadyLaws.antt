@@ -17,7 +17,7 @@ use Rattle.words.proofs.KeptLaws.{kept_same}
 use Rattle.tables.specs.Standing.{InRow}
 use Rattle.tables.specs.Search.{step_at, Room, Headers}
 use Rattle.tables.proofs.SearchLaws.{header-here}
-use Rattle.index.specs.Blank.{Blank}
+use Rattle.words.specs.Blank.{Blank}
 use Rattle.index.specs.Keys.{Tagged}
 use Rattle.index.proofs.TurnLaws.{nothing_left}
 use Rattle.seen.specs.Layout.{seen_room}

@@ -5,9 +5,8 @@ ghost use Rattle.seen.specs.Layout.{seen_room};
 ghost use Rattle.seen.specs.Seen.{Forgets, Readies};
 
 use crate::layout::{FEW_BYTES, SEEN_ROOM};
-use index::blank::clear_part;
 use tables::repeats::{searched, step};
-use words::load16;
+use words::{clear_part, load16};
 
 // Sets the byte of a field's value to 0, if the search is about the field.
 fn forget(s: &[u8], w: &mut [u8], base: usize, at: usize, number: u8)

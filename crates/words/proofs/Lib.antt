@@ -1,3 +1,4 @@
 pub mod WordLaws
 pub mod Copy
 pub mod KeptLaws
+pub mod BlankLaws

@@ -17,7 +17,7 @@ pub clear_part-requires : goal.clear_part-requires
 clear_part-requires c = omega (arith, c.requires.0.4)
 
 pub loop-at-init : goal.loop-at-init
-loop-at-init c = (refl, kept_same _ _ _, λ ps h e. turn_first _ _ _ _ ps _ _ h e (tree_empty _ _ _ _ _ (omega (arith, c.requires.0.4, c.clear_part.auto.w)) c.clear_part.ensures))
+loop-at-init c = (refl, kept_same _ _ _, λ ps h e. turn_first _ _ _ _ ps _ _ h e (tree_empty _ _ _ _ _ (omega (arith, c.requires.0.4, c.clear_part.auto.s)) c.clear_part.ensures))
 
 pub enter-requires : goal.enter-requires
 enter-requires c =
@@ -26,10 +26,10 @@ enter-requires c =
     let more : c.loop-at.count < length c.requires.0.0 = omega (arith, room_left _ _ _ _ _ _ _ turn c.loop-at-test.true, turn.has.many) in
     let p = c.requires in
     let n = more in
-    record { by_index = (turn.seen, turn.has); tagged = (own _ _ _ _ _ _ _ turn c.loop-at-test.true, here.0, p.1, p.2, omega (arith, n, p.0.3), omega (arith, n, p.0.4, c.clear_part.auto.w, c.loop-at.invariant.0)) }
+    record { by_index = (turn.seen, turn.has); tagged = (own _ _ _ _ _ _ _ turn c.loop-at-test.true, here.0, p.1, p.2, omega (arith, n, p.0.3), omega (arith, n, p.0.4, c.clear_part.auto.s, c.loop-at.invariant.0)) }
 
 pub shape_of-w-then-enter : goal.shape_of-w-then-enter
-shape_of-w-then-enter c = c.enter.auto.w ∙ c.loop-at.invariant.0 ∙ c.clear_part.auto.w
+shape_of-w-then-enter c = c.enter.auto.w ∙ c.loop-at.invariant.0 ∙ c.clear_part.auto.s
 
 pub returns-then-enter : goal.returns-then-enter
 returns-then-enter c =
@@ -74,7 +74,7 @@ loop-at-preserved c =
     )
 
 pub shape_of-w : goal.shape_of-w
-shape_of-w c = c.loop-at.invariant.0 ∙ c.clear_part.auto.w
+shape_of-w c = c.loop-at.invariant.0 ∙ c.clear_part.auto.s
 
 pub returns : goal.returns
 returns c =

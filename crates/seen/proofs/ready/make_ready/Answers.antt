@@ -17,7 +17,7 @@ pub clear_part-requires : goal.clear_part-requires
 clear_part-requires c = omega (arith, c.requires.1)
 
 pub shape_of-w-then-to-from-gt-FEW_BYTES : goal.shape_of-w-then-to-from-gt-FEW_BYTES
-shape_of-w-then-to-from-gt-FEW_BYTES c = c.clear_part.auto.w
+shape_of-w-then-to-from-gt-FEW_BYTES c = c.clear_part.auto.s
 
 pub returns-then-to-from-gt-FEW_BYTES : goal.returns-then-to-from-gt-FEW_BYTES
 returns-then-to-from-gt-FEW_BYTES c = ready_blank _ _ _ _ _ _ _ c.clear_part.ensures
