@@ -4,8 +4,8 @@ use Rattle.reading.specs.Waiting.{weight}
 use Rattle.reading.specs.Reading.{Reading, Reaches}
 use Rattle.reading.proofs.read_on.Given as goal
 
-abbrev pub invariant-loop-x : goal.invariant-loop-x
-invariant-loop-x l = record {
+abbrev pub invariant-loop-reader : goal.invariant-loop-reader
+invariant-loop-reader l = record {
   reached : Reaches l.file l.base l.initial.work l.initial.x l.work l.x;
   reading : Reading l.file l.work l.base l.x;
   file : l.reader.file.now ≡ l.file;
@@ -13,5 +13,5 @@ invariant-loop-x l = record {
   end : l.reader.end ≡ l.x.end;
 }
 
-abbrev pub decreases-loop-x : goal.decreases-loop-x
-decreases-loop-x l = weight l.file l.x
+abbrev pub decreases-loop-reader : goal.decreases-loop-reader
+decreases-loop-reader l = weight l.file l.x

@@ -7,8 +7,10 @@ use native.Mathlib.Omega.{arith}
 use lib.Dec.{leb}
 use lib.ListN.{length}
 use borrow.Author.Tests.{leb-false}
-use Rattle.format.specs.declared.headers.HeaderRead.{HeaderRead}
-use Rattle.format.specs.declared.headers.HeaderRead.TheVariants as H
+use Rattle.std.specs.Prelude.{Ok}
+use Rattle.std.specs.Prelude as std
+use Rattle.format.specs.declared.headers.Header as read
+use Rattle.format.specs.declared.refusals.Refusal.{Refusal}
 use Rattle.format.specs.Limits.{most_term_fields}
 use Rattle.format.specs.Results.{gives}
 use Rattle.format.specs.Tags.{hiproof_kind, least_of}
@@ -20,7 +22,7 @@ use Rattle.reading.proofs.TurnLaws.{gap_fits, enter_refused, enter-leaf, enter_i
 use Rattle.reading.proofs.waiting.enter.Goals as goal
 
 -- what is told of the field
-header_is : (s w : List ℕ) (high base : ℕ) (x : State) (h : HeaderRead) (tag len : ℕ) → Enters s w high base x h → h ≡ H.Field tag len → header_at s x.at x.end hiproof_kind high (leb most_term_fields x.fields) ≡ gives (header tag len)
+header_is : (s w : List ℕ) (high base : ℕ) (x : State) (h : std.Result read.Header Refusal) (tag len : ℕ) → Enters s w high base x h → h ≡ Ok (record { tag = tag; len = len }) → header_at s x.at x.end hiproof_kind high (leb most_term_fields x.fields) ≡ gives (header tag len)
 header_is s w high base x h tag len e is = told-field _ _ _ (sym e.header_is ∙ is)
 
 -- the sums and places that the field needs
@@ -32,7 +34,7 @@ record Fits (w : List ℕ) (base : ℕ) (x : State) (tag len : ℕ) : Type 0 whe
   gap : x.at - x.top ≤ 65535
   least : least_of tag ≤ len
 
-fits : (s w : List ℕ) (high base : ℕ) (x : State) (h : HeaderRead) (tag len : ℕ) → Enters s w high base x h → h ≡ H.Field tag len → Fits w base x tag len
+fits : (s w : List ℕ) (high base : ℕ) (x : State) (h : std.Result read.Header Refusal) (tag len : ℕ) → Enters s w high base x h → h ≡ Ok (record { tag = tag; len = len }) → Fits w base x tag len
 fits s w high base x h tag len e is =
     let f : IsField s x.at x.end hiproof_kind high (leb most_term_fields x.fields) tag len = is_field _ _ _ _ _ _ _ _ (header_is s w high base x h tag len e is) in
     record {
@@ -45,42 +47,42 @@ fits s w high base x h tag len e is =
     }
 
 pub overflow_add-close : goal.overflow_add-close
-overflow_add-close c = omega (arith, fits _ _ _ _ _ _ _ _ c.requires.2 c.in-Field.is)
+overflow_add-close c = omega (arith, fits _ _ _ _ _ _ _ _ c.requires.2 c.in-Ok.is)
 
-pub overflow_add-close-in-Field : goal.overflow_add-close-in-Field
-overflow_add-close-in-Field c = omega (arith, fits _ _ _ _ _ _ _ _ c.requires.2 c.in-Field.is)
+pub overflow_add-close-in-Ok : goal.overflow_add-close-in-Ok
+overflow_add-close-in-Ok c = omega (arith, fits _ _ _ _ _ _ _ _ c.requires.2 c.in-Ok.is)
 
 pub overflow_add-fields : goal.overflow_add-fields
-overflow_add-fields c = omega (arith, fits _ _ _ _ _ _ _ _ c.requires.2 c.in-Field.is)
+overflow_add-fields c = omega (arith, fits _ _ _ _ _ _ _ _ c.requires.2 c.in-Ok.is)
 
 pub overflow_mul-low : goal.overflow_mul-low
-overflow_mul-low c = omega (arith, fits _ _ _ _ _ _ _ _ c.requires.2 c.in-Field.is)
+overflow_mul-low c = omega (arith, fits _ _ _ _ _ _ _ _ c.requires.2 c.in-Ok.is)
 
 pub overflow_add-low : goal.overflow_add-low
-overflow_add-low c = omega (arith, fits _ _ _ _ _ _ _ _ c.requires.2 c.in-Field.is)
+overflow_add-low c = omega (arith, fits _ _ _ _ _ _ _ _ c.requires.2 c.in-Ok.is)
 
 pub overflow_cast-at : goal.overflow_cast-at
-overflow_cast-at c = omega (arith, fits _ _ _ _ _ _ _ _ c.requires.2 c.in-Field.is)
+overflow_cast-at c = omega (arith, fits _ _ _ _ _ _ _ _ c.requires.2 c.in-Ok.is)
 
 pub push-requires : goal.push-requires
-push-requires c = omega (arith, fits _ _ _ _ _ _ _ _ c.requires.2 c.in-Field.is)
+push-requires c = omega (arith, fits _ _ _ _ _ _ _ _ c.requires.2 c.in-Ok.is)
 
 pub overflow_add-next : goal.overflow_add-next
-overflow_add-next c = omega (arith, fits _ _ _ _ _ _ _ _ c.requires.2 c.in-Field.is)
+overflow_add-next c = omega (arith, fits _ _ _ _ _ _ _ _ c.requires.2 c.in-Ok.is)
 
-pub overflow_add-next-in-Field : goal.overflow_add-next-in-Field
-overflow_add-next-in-Field c = omega (arith, fits _ _ _ _ _ _ _ _ c.requires.2 c.in-Field.is, c.least_at.ensures _ c.row_of-row.ensures.0)
+pub overflow_add-next-in-Ok : goal.overflow_add-next-in-Ok
+overflow_add-next-in-Ok c = omega (arith, fits _ _ _ _ _ _ _ _ c.requires.2 c.in-Ok.is, c.least_at.ensures _ c.row_of-row.ensures.0)
 
 pub overflow_add-x : goal.overflow_add-x
-overflow_add-x c = omega (arith, fits _ _ _ _ _ _ _ _ c.requires.2 c.in-Field.is)
+overflow_add-x c = omega (arith, fits _ _ _ _ _ _ _ _ c.requires.2 c.in-Ok.is)
 
-pub returns-in-Refused : goal.returns-in-Refused
-returns-in-Refused c = λ s high b. rw c.refused.ensures (enter_refused _ _ _ _ _ b.going b.reading _ _ (sym b.header_is ∙ c.in-Refused.is))
+pub returns-in-Err : goal.returns-in-Err
+returns-in-Err c = λ s high b. rw c.refused.ensures (enter_refused _ _ _ _ _ b.going b.reading _ _ (sym b.header_is ∙ c.in-Err.is))
 
 pub returns-then-inner-eq0 : goal.returns-then-inner-eq0
-returns-then-inner-eq0 c = λ s high b. rw c.stepped.ensures (enter-leaf _ _ _ _ _ b.going b.reading _ _ _ _ (header_is _ _ _ _ _ _ _ _ b c.in-Field.is) refl (c.inner_at-inner.ensures _ c.row_of-row.ensures.0) c.if-inner-eq0.true)
+returns-then-inner-eq0 c = λ s high b. rw c.stepped.ensures (enter-leaf _ _ _ _ _ b.going b.reading _ _ _ _ (header_is _ _ _ _ _ _ _ _ b c.in-Ok.is) refl (c.inner_at-inner.ensures _ c.row_of-row.ensures.0) c.if-inner-eq0.true)
 
 pub returns-else-inner-eq0 : goal.returns-else-inner-eq0
 returns-else-inner-eq0 c =
     let r = c.row_of-row.ensures.0 in
-    λ s high b. rw c.stepped-in-Field.ensures (enter_inner _ _ _ _ _ b.going b.reading _ _ _ _ (header_is _ _ _ _ _ _ _ _ b c.in-Field.is) refl (c.inner_at-inner.ensures _ r) _ (c.least_at.ensures _ r) c.if-inner-eq0.false _ c.push.ensures)
+    λ s high b. rw c.stepped-in-Ok.ensures (enter_inner _ _ _ _ _ b.going b.reading _ _ _ _ (header_is _ _ _ _ _ _ _ _ b c.in-Ok.is) refl (c.inner_at-inner.ensures _ r) _ (c.least_at.ensures _ r) c.if-inner-eq0.false _ c.push.ensures)
