@@ -11,7 +11,6 @@ use lib.Dec.{eqb}
 use lib.ListN.{length}
 use borrow.Author.Tests.{lt-ltb, le-ltb, eq-eqb, ne_eqb, eqb-true}
 use Rattle.words.specs.Word.{word}
-use Rattle.format.specs.declared.headers.Header as read
 use Rattle.format.specs.declared.refusals.Refusal.{Refusal}
 use Rattle.format.specs.TermRead.{TermRead, Refused, Read}
 use Rattle.format.specs.declared.refusals.Cause.TheVariants.{LengthWrong}
@@ -36,7 +35,7 @@ use Rattle.tables.proofs.FieldLaws.{RuleRead, FieldLaw, field_law}
 use Rattle.tables.proofs.FieldBound.{same_bound}
 
 -- what the code tells of a table once so many rules and definitions are read and the rules so far end at a place
-abbrev Told : Type 0
+abbrev pub Told : Type 0
 Told = std.Result TableParts Refusal
 
 abbrev counted : (rules definitions first : ℕ) → Told

@@ -3,11 +3,11 @@ ghost use Rattle.std.specs.Prelude.{◌≡◌, ◌+◌, ◌≤◌, length};
 ghost use Rattle.words.specs.Kept.{Kept};
 ghost use Rattle.reading.specs.Waiting.{reading_room};
 ghost use Rattle.tables.specs.ReadTables.{read_fields};
-ghost use Rattle.tables.specs.Shapes.{table_shape, told_table};
+ghost use Rattle.tables.specs.Shapes.{table_shape, table_counted};
 
 use format::refusals::Refusal;
 use parts::begin_table;
-use parts::state::{REFUSED, State};
+use parts::state::State;
 use reading::read_on;
 
 // What reading a table finds: the numbers of rules and of definitions, and the place of the first definition, where the rules end.
@@ -18,18 +18,15 @@ pub struct TableParts {
     pub first: usize,
 }
 
-// What was found, once there is no field left to read.
-fn found(x: State) -> Result<TableParts, Refusal>
-    ensures { result ≡ told_table x }
-{
-    if x.mode == REFUSED {
-        Err(x.refusal)
-    } else {
-        Ok(TableParts {
+impl From<State> for TableParts {
+    ghost from_gives = { λ x p. p ≡ table_counted x };
+
+    fn from(x: State) -> TableParts {
+        TableParts {
             rules: x.first,
             definitions: x.second,
             first: x.from,
-        })
+        }
     }
 }
 
@@ -39,7 +36,5 @@ pub fn read_fields(s: &[u8], work: &mut [u8], base: usize) -> Result<TableParts,
     ensures value { result ≡ table_shape (read_fields (length s.now + 1) s.now 0 0 0 0) }
     ensures kept { Kept work.old work.new base (base + reading_room) }
 {
-    let start = begin_table(s);
-    let last = read_on(s, start, work, base);
-    found(last)
+    read_on(s, begin_table(s), work, base).told()
 }
