@@ -3,6 +3,7 @@
 use Prim.Native.Nat.{ℕ, zero, suc, ◌+◌, ◌*◌, ◌-◌, ◌≤◌}
 use mathlib.Core.Path.{◌≡◌, refl, sym, ap, ap₂, subst, ◌∙◌}
 use mathlib.Core.List.{List, ◌++◌}
+use Rattle.std.specs.Prelude.{Some}
 use native.Mathlib.Omega.{arith}
 use lib.ListN.{length, take, drop, length-append}
 use lib.Seq.{take_at}
@@ -21,6 +22,7 @@ use Rattle.arities.specs.Layout.{frames_end, space_end}
 use Rattle.tactics.specs.Source.{source}
 use Rattle.tactics.proofs.SourceLaws.{source_small}
 use Rattle.tactics.proofs.MemoryLaws.{same_goals}
+use Rattle.machine.specs.declared.state.Mode.TheVariants as is
 use Rattle.machine.specs.declared.state.State.{State}
 use Rattle.machine.specs.Shows.{here, Runs}
 use Rattle.saver.specs.Put.{put, Writes}
@@ -28,7 +30,7 @@ use Rattle.saver.specs.Gather.{gathered, AllFit, GatherGiven, Gathers}
 use Rattle.saver.specs.Waiting.{frames_bytes, AllLow, WaitingGiven}
 use Rattle.saver.specs.Head.{head_bytes, HeadGiven, Heads}
 use Rattle.saver.specs.Last.{last_bytes, LastGiven}
-use Rattle.saver.specs.Save.{Halts, SaveGiven, Saves}
+use Rattle.saver.specs.Save.{Halts, SaveGiven, SavesUpTo, Saves}
 use Rattle.saver.proofs.PutLaws.{length-put, take_put, block-put, put-behind, same_below}
 use Rattle.saver.proofs.WaitingLaws.{frames_same}
 use Rattle.saver.proofs.SavedLaws.{counted, frames_end_lem, all_fit, frames_are, frames_low}
@@ -43,7 +45,7 @@ contents_parts : (n : ℕ) (π : M.Place) (g : List Goal) (k : List M.Frame) →
 unfolding saved_contents head_bytes
 contents_parts n π g k = refl
 
-module _ (w : List ℕ) (fs : List LentFrame) (s : State) (q : SaveGiven w fs s) (m : s.mode ≡ 0) where
+module _ (w : List ℕ) (fs : List LentFrame) (s : State) (q : SaveGiven w fs s) (m : s.mode ≡ is.Running) where
   abbrev h : Halts w s
   h = q.halts m
 
@@ -236,17 +238,17 @@ module _ (w : List ℕ) (fs : List LentFrame) (s : State) (q : SaveGiven w fs s)
             ∙ put-behind w (first ++ waiting) (last_bytes w s) space_end r₂ (omega (arith, two, r₂_is)) (omega (arith, length_last, r₂_is, parts_fit, q.space)) in
             (omega (arith, d.0, ap length last_same, r₂_is, two, length-append (first ++ waiting) (last_bytes w s), ap length all), f ∙ ap (put w space_end) all)
 
-        pub save_end : (r₃ : ℕ) (v : List ℕ) → Writes v₂ r₂ (last_bytes v₂ s) r₃ v → Saves w s r₃ v
-        save_end r₃ v d = record { ended = λ z. absurd (z m); halted = λ _. halted_end r₃ v d }
+        pub save_end : (r₃ : ℕ) (v : List ℕ) → Writes v₂ r₂ (last_bytes v₂ s) r₃ v → Saves w s (Some r₃) v
+        save_end r₃ v d = record { ended = λ z. absurd (z m); halted = λ _. (r₃, refl, halted_end r₃ v d) }
 
 -- what the work space holds afterwards: the contents of the saved state, and what lay before them
-module _ (w : List ℕ) (s : State) (end : ℕ) (v : List ℕ) (b : Saves w s end v) (m : s.mode ≡ 0) (table job : List ℕ) (π : M.Place) (t : Term) (g : List Goal) (k : List M.Frame) (r : Runs table job w s π t g k)
+module _ (w : List ℕ) (s : State) (end : ℕ) (v : List ℕ) (b : SavesUpTo w s end v) (table job : List ℕ) (π : M.Place) (t : Term) (g : List Goal) (k : List M.Frame) (r : Runs table job w s π t g k)
     (space : halting_work ≤ length w) (fits : length (saved_contents s.steps π g k) ≤ saved_size) where
   abbrev bytes : List ℕ
   bytes = saved_contents s.steps π g k
 
   written : Writes w space_end bytes end v
-  written = b.halted m table job π t g k r
+  written = b table job π t g k r
 
   room : space_end + length bytes ≤ length w
   room = omega (arith, fits, space)

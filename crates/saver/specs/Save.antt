@@ -1,5 +1,5 @@
 -- Document 02, P1: the contents of the saved state of a run that halts, written behind what a run uses of the work space.
-use Rattle.std.specs.Prelude.{ℕ, ◌+◌, ◌≤◌, ◌<◌, ◌≡◌, List, [], ◌∷◌, length}
+use Rattle.std.specs.Prelude.{ℕ, ◌+◌, ◌≤◌, ◌<◌, ◌≡◌, List, [], ◌∷◌, length, Option, Some, None}
 use Rattle.format.specs.declared.values.Goal.{Goal}
 use Rattle.format.specs.Limits.{most_steps}
 use Rattle.format.specs.Terms.{Term}
@@ -9,6 +9,7 @@ use Rattle.lent_frames.specs.declared.LentFrame.{LentFrame}
 use Rattle.entries.specs.SavedState.{saved_size, saved_contents}
 use Rattle.entries.specs.Halting.{halting_work, most_frames}
 use Rattle.arities.specs.Layout.{space_end}
+use Rattle.machine.specs.declared.state.Mode.TheVariants as is
 use Rattle.machine.specs.declared.state.State.{State}
 use Rattle.machine.specs.Shows.{Runs}
 use Rattle.saver.specs.Put.{Writes}
@@ -40,10 +41,13 @@ pub record Halts (w : List ℕ) (s : State) : Type 0 where
 pub record SaveGiven (w : List ℕ) (fs : List LentFrame) (s : State) : Type 0 where
   pub space : halting_work ≤ length w
   pub lent : most_frames ≤ length fs
-  pub halts : s.mode ≡ 0 → Halts w s
+  pub halts : s.mode ≡ is.Running → Halts w s
 
--- where the contents end is told of a run that halts
-pub record Saves (w : List ℕ) (s : State) (end : ℕ) (v : List ℕ) : Type 0 where
-  pub ended : (s.mode ≡ 0 → ⊥) → v ≡ w
-  pub halted : s.mode ≡ 0 → (table job : List ℕ) (π : M.Place) (t : Term) (g : List Goal) (k : List M.Frame) → Runs table job w s π t g k
-      → Writes w space_end (saved_contents s.steps π g k) end v
+-- the contents written, from where the part that a run uses ends up to a place
+abbrev pub SavesUpTo : (w : List ℕ) → State → (end : ℕ) → (v : List ℕ) → Type 0
+SavesUpTo w s end v = (table job : List ℕ) (π : M.Place) (t : Term) (g : List Goal) (k : List M.Frame) → Runs table job w s π t g k → Writes w space_end (saved_contents s.steps π g k) end v
+
+-- of a run that halts it is told where the contents end
+pub record Saves (w : List ℕ) (s : State) (r : Option ℕ) (v : List ℕ) : Type 0 where
+  pub ended : (s.mode ≡ is.Running → ⊥) → (r ≡ None) × (v ≡ w)
+  pub halted : s.mode ≡ is.Running → (end : ℕ) × (r ≡ Some end) × SavesUpTo w s end v

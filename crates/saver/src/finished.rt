@@ -6,19 +6,18 @@ ghost use Rattle.saver.specs.Finished.{keeps_field, left_field, inside_of, Field
 
 use arities::layout::FRAMES_END;
 use frames::{SEQUENCE_RIGHT, TENSOR_RIGHT, load_frame};
-use words::move_up;
+use words::move_within;
 
 // A waiting term whose left term has ended.
+#[tactic(auto, unfolding(crate::specs::Finished::keeps_field))]
 fn keeps_field(kind: u16) -> bool
     ensures { result ≡ keeps_field kind }
 {
-    if kind == SEQUENCE_RIGHT {
-        return true;
-    }
-    kind == TENSOR_RIGHT
+    matches!(kind, SEQUENCE_RIGHT | TENSOR_RIGHT)
 }
 
 // Where the output inside the frame at a place begins: at the mark of the next frame inside, or at the output's end.
+#[tactic(auto, unfolding(crate::specs::Finished::inside_of))]
 fn inside_of(work: &[u8], at: usize, top: usize, out: usize) -> usize
     requires { ((at ≡ top → ⊥) → 19 ≤ at) × (at ≤ length work.now) }
     ensures { result ≡ inside_of work.now at top out }
@@ -26,8 +25,7 @@ fn inside_of(work: &[u8], at: usize, top: usize, out: usize) -> usize
     if at == top {
         return out;
     }
-    let f = load_frame(work, at - 19);
-    f.mark
+    load_frame(work, at - 19).mark
 }
 
 // The field that the frame at a place keeps, copied; it lies behind the header of the waiting term's own field.
@@ -36,14 +34,13 @@ fn write_field(work: &mut [u8], at: usize, end: usize, to: usize) -> usize
     ensures { Writes work.old to (left_field work.old (frame_at work.old at) end) result work.new }
 {
     let f = load_frame(work, at);
-    let keeps = keeps_field(f.kind);
-    if keeps {
-        let from = f.mark + 3;
-        let size = end - from;
-        move_up(work, from, to, size);
-        return to + size;
+    if !keeps_field(f.kind) {
+        return to;
     }
-    to
+    let from = f.mark + 3;
+    let size = end - from;
+    move_within(work, from, to, size);
+    to + size
 }
 
 // The fields of all frames from a place on, outermost first.
@@ -53,6 +50,7 @@ pub fn write_finished(work: &mut [u8], top: usize, out: usize, to: usize) -> usi
 {
     let mut at = FRAMES_END;
     let mut next = to;
+    // The frames are a stack, walked inwards: no count.
     while top < at {
         at -= 19;
         let end = inside_of(work, at, top, out);

@@ -15,48 +15,39 @@ pub struct Gathered {
 }
 
 // How many of a waiting term's goals no term inside it holds.
+#[tactic(auto, unfolding(crate::specs::Gather::own_count_of))]
 fn own_count(kind: u16, count: u16, inside: usize) -> u16
     requires { (inside ≤ 65535) × (kind ≡ 6 → inside ≤ count) }
     ensures { result ≡ own_count_of kind count inside }
 {
-    if kind == TENSOR_LEFT {
-        return count;
+    match kind {
+        TENSOR_LEFT | TENSOR_RIGHT => count,
+        ALTERNATION_LEFT => count - (inside as u16),
+        _ => 0,
     }
-    if kind == TENSOR_RIGHT {
-        return count;
-    }
-    if kind == ALTERNATION_LEFT {
-        return count - (inside as u16);
-    }
-    0
 }
 
 // How many goals of its list it holds, together with the terms inside it.
+#[tactic(auto, unfolding(crate::specs::Gather::held_after))]
 fn held_after(kind: u16, count: u16, inside: usize) -> usize
     requires { inside ≤ 65535 }
     ensures { result ≡ held_after kind count inside }
 {
-    if kind == TENSOR_LEFT {
-        return inside + (count as usize);
+    match kind {
+        TENSOR_LEFT => inside + (count as usize),
+        ALTERNATION_LEFT => count as usize,
+        SEQUENCE_RIGHT => 0,
+        _ => inside,
     }
-    if kind == ALTERNATION_LEFT {
-        return count as usize;
-    }
-    if kind == SEQUENCE_RIGHT {
-        return 0;
-    }
-    inside
 }
 
 // Where its own goals begin; 0 if it has none, whatever its frame names.
+#[tactic(auto, unfolding(crate::specs::Gather::own_start))]
 fn own_start(own: u16, start: usize) -> u32
     requires { start < 4294967296 }
     ensures { result ≡ own_start own start }
 {
-    if own == 0 {
-        return 0;
-    }
-    start as u32
+    if own == 0 { 0 } else { start as u32 }
 }
 
 // The waiting term at a place of the work space.
@@ -65,17 +56,15 @@ pub fn gather_at(work: &[u8], at: usize, inside: usize) -> Gathered
     ensures { result ≡ gathered_of (frame_at work.now at) inside }
 {
     let f = load_frame(work, at);
-    let kind = f.kind;
-    let own = own_count(kind, f.count, inside);
-    let held = held_after(kind, f.count, inside);
+    let own = own_count(f.kind, f.count, inside);
+    let held = held_after(f.kind, f.count, inside);
     let goals = own_start(own, f.start);
-    let term = (f.file as u32) * 65536 + (f.at as u32);
     Gathered {
         frame: LentFrame {
-            term,
+            term: (f.file as u32) * 65536 + (f.at as u32),
             goals,
             count: own,
-            stage: kind,
+            stage: f.kind,
         },
         inside: held,
     }
@@ -89,6 +78,7 @@ pub fn gather(work: &[u8], frames: &mut [LentFrame], top: usize, inside: usize) 
     let mut at = top;
     let mut held = inside;
     let mut n: usize = 0;
+    // The frames are a stack, walked outwards: no count.
     while at < FRAMES_END {
         let g = gather_at(work, at, held);
         n = push(frames, n, g.frame);

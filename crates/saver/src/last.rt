@@ -14,13 +14,10 @@ pub fn write_last(work: &mut [u8], s: State, to: usize) -> usize
     requires { LastGiven work.old s to }
     ensures { Writes work.old to (last_bytes work.old s) result work.new }
 {
-    let term = (s.file as u32) * 65536 + (s.at as u32);
-    let goals = s.start as u32;
-    let count = s.count as u16;
     let f = LentFrame {
-        term,
-        goals,
-        count,
+        term: (s.file as u32) * 65536 + (s.at as u32),
+        goals: s.start as u32,
+        count: s.count as u16,
         stage: TO_BEGIN,
     };
     write_frame(work, to, f)

@@ -7,18 +7,18 @@ use crate::head::write_head;
 use crate::last::write_last;
 use crate::waiting::write_waiting;
 use lent_frames::LentFrame;
-use machine::state::{RUNNING, State};
+use machine::state::{Mode, State};
 
-// A run that halted: all of it behind what the run uses of the work space, and where it ends. Any other run: nothing, and 0. The frames hold what was gathered: an entry that saves twice clears them once.
-pub fn save(s: State, work: &mut [u8], frames: &mut [LentFrame]) -> usize
+// A run that halted: all of it behind what the run uses of the work space, and where it ends. Any other run: nothing. The frames hold what was gathered: an entry that saves twice clears them once.
+pub fn save(s: State, work: &mut [u8], frames: &mut [LentFrame]) -> Option<usize>
     requires { SaveGiven work.old frames.old s }
     ensures { Saves work.old s result work.new }
 {
-    if s.mode != RUNNING {
-        return 0;
+    if s.mode != Mode::Running {
+        return None;
     }
     let n = gather(work, frames, s.top, s.count);
     let to = write_head(work, s, n);
     let end = write_waiting(work, frames, n, to);
-    write_last(work, s, end)
+    Some(write_last(work, s, end))
 }

@@ -3,8 +3,8 @@ ghost use Rattle.std.specs.Prelude.{take};
 ghost use Rattle.saver.specs.Put.{Writes};
 ghost use Rattle.saver.specs.Waiting.{frame_bytes, frames_bytes, FrameGiven, WaitingGiven};
 
-use lent_frames::{LentFrame, pop};
-use words::{move_up, store16};
+use lent_frames::LentFrame;
+use words::{move_within, store16};
 
 // One waiting term: its stage, the file and the place of its last inner term, and its own goals, which lie further down in the work space.
 pub fn write_frame(work: &mut [u8], to: usize, f: LentFrame) -> usize
@@ -16,7 +16,7 @@ pub fn write_frame(work: &mut [u8], to: usize, f: LentFrame) -> usize
     work[to + 1] = (f.term / 65536) as u8;
     store16(work, to + 2, (f.term % 65536) as u16);
     store16(work, to + 4, f.count);
-    move_up(work, f.goals as usize, to + 6, size);
+    move_within(work, f.goals as usize, to + 6, size);
     to + 6 + size
 }
 
@@ -25,12 +25,9 @@ pub fn write_waiting(work: &mut [u8], frames: &[LentFrame], n: usize, to: usize)
     requires { WaitingGiven work.old frames.now n to }
     ensures { Writes work.old to (frames_bytes work.old (take n frames.now)) result work.new }
 {
-    let mut left = n;
     let mut next = to;
-    while 0 < left {
-        left -= 1;
-        let f = pop(frames, left);
-        next = write_frame(work, next, f);
+    for i in (0..n).rev() {
+        next = write_frame(work, next, frames[i]);
     }
     next
 }

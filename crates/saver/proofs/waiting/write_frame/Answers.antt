@@ -14,16 +14,16 @@ store16-requires c = simp length-set (omega arith)
 pub store16-requires-2 : goal.store16-requires-2
 store16-requires-2 c = omega (arith, simp length-set at c.store16.auto.s, c.requires.room)
 
-pub move_up-requires : goal.move_up-requires
-move_up-requires c =
+pub move_within-requires : goal.move_within-requires
+move_within-requires c =
     let p = c.requires in
     let n = c.store16-2.auto.s ∙ simp length-set at c.store16.auto.s in
     (omega (arith, p.low.goals_low, p.above), omega (arith, n, p.room))
 
 pub shape_of-work : goal.shape_of-work
-shape_of-work c = c.move_up.auto.s ∙ c.store16-2.auto.s ∙ simp length-set at c.store16.auto.s
+shape_of-work c = c.move_within.auto.s ∙ c.store16-2.auto.s ∙ simp length-set at c.store16.auto.s
 
 pub returns : goal.returns
 returns c =
     let a = c.args in
-    frame_end a.work.now a.to a.f (λ j. search rules) c.requires _ _ _ c.store16.ensures c.store16-2.ensures c.move_up.ensures
+    frame_end a.work.now a.to a.f (λ j. search rules) c.requires _ _ _ c.store16.ensures c.store16-2.ensures c.move_within.ensures

@@ -1,22 +1,13 @@
 -- A turn keeps what holds, and what holds at the end are the bytes of all: WaitingLaws. Assumes nothing.
+use Rattle.std.proofs.Common.{arith, refl}
 use Rattle.saver.proofs.WaitingLaws.{waiting_frame_given, waiting_next, waiting_all}
 use Rattle.saver.proofs.waiting.write_waiting.Goals as goal
 
 pub write_frame-next-requires : goal.write_frame-next-requires
-write_frame-next-requires c =
-    let a = c.args in
-    let l = c.loop-left in
-    waiting_frame_given a.work.now a.frames.now a.n a.to l.work l.left l.next l.invariant c.loop-left-test.true c.pop-f.result c.pop-f.ensures
+write_frame-next-requires c = waiting_frame_given _ _ _ _ _ _ _ c.loop-i.invariant (omega (arith, c.loop-i-test.true)) _ refl
 
-pub loop-left-preserved : goal.loop-left-preserved
-loop-left-preserved c =
-    let a = c.args in
-    let l = c.loop-left in
-    let f = c.write_frame-next in
-    waiting_next a.work.now a.frames.now a.n a.to l.work l.left l.next l.invariant c.loop-left-test.true c.pop-f.result c.pop-f.ensures f.result f.new.work f.ensures
+pub loop-i-preserved : goal.loop-i-preserved
+loop-i-preserved c = waiting_next _ _ _ _ _ _ _ c.loop-i.invariant (omega (arith, c.loop-i-test.true)) _ refl _ _ c.write_frame-next.ensures
 
 pub returns : goal.returns
-returns c =
-    let a = c.args in
-    let l = c.loop-left in
-    waiting_all a.work.now a.frames.now a.n a.to l.work l.left l.next l.invariant c.loop-left-test.false
+returns c = waiting_all _ _ _ _ _ _ _ c.loop-i.invariant (omega (arith, c.loop-i-test.false))

@@ -2,8 +2,5 @@
 use Rattle.saver.proofs.WaitingLaws.{WaitingTurn}
 use Rattle.saver.proofs.waiting.write_waiting.Given as goal
 
-abbrev pub invariant-loop-left : goal.invariant-loop-left
-invariant-loop-left l = WaitingTurn l.fn.work l.fn.frames l.fn.n l.fn.to l.work l.left l.next
-
-abbrev pub decreases-loop-left : goal.decreases-loop-left
-decreases-loop-left l = l.left
+abbrev pub invariant-loop-i : goal.invariant-loop-i
+invariant-loop-i l = WaitingTurn l.fn.work l.fn.frames l.fn.n l.fn.to l.work l.i l.next
