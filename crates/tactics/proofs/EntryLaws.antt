@@ -5,13 +5,15 @@ use mathlib.Core.Path.{◌≡◌, refl, sym, ap, subst, ◌∙◌}
 use mathlib.Core.List.{List, ◌++◌}
 use native.Mathlib.Omega.{arith}
 use lib.ListN.{length, drop}
+use Rattle.std.specs.Prelude.{Ok, Err}
 use Rattle.format.specs.declared.values.Goal.{Goal}
+use Rattle.format.specs.declared.refusals.Refusal.{Refusal}
 use Rattle.format.specs.Refusals.{Cause, number}
 use Rattle.format.specs.Results.{gives, refused}
 use Rattle.format.specs.Goals.{goals_at}
 use Rattle.format.specs.Terms.{Term, size}
 use Rattle.format.specs.Standing.{Stands}
-use Rattle.tables.specs.declared.fields.TableRead.TheVariants as R
+use Rattle.tables.specs.declared.fields.TableParts.{TableParts}
 use Rattle.tables.specs.Tables.{Table, UniqueDefinitions}
 use Rattle.tables.specs.ReadTables.{read_table}
 use Rattle.tables.specs.Standing.{TableStands}
@@ -19,7 +21,6 @@ use Rattle.tables.specs.Shapes.{table_shape}
 use Rattle.tables.proofs.ToldTable.{told-reads, told_refuses}
 use Rattle.tables.proofs.ReadsTable.{reads_unique_definitions}
 use Rattle.files.specs.declared.jobs.JobParts.{JobParts}
-use Rattle.files.specs.declared.jobs.JobRead.TheVariants as J
 use Rattle.files.specs.Proofs.{proof_bytes}
 use Rattle.files.specs.Jobs.{Job, read_job}
 use Rattle.files.specs.Counts.{job_term_place}
@@ -38,11 +39,11 @@ use Rattle.tactics.specs.Entry.{on_job, FilesRefused, no_table, no_job}
 use Rattle.tactics.proofs.FileLaws.{file_size_lem}
 
 -- a refusal's place lies in its file
-pub table_place : (t : List ℕ) (k p : ℕ) → table_shape (read_table t) ≡ R.Refused k p → p ≤ 65535
-table_place t k p e = (told_refuses t k p e).refusal.below
+pub table_place : (t : List ℕ) (e : Refusal) → table_shape (read_table t) ≡ Err e → e.place ≤ 65535
+table_place t e q = (told_refuses t e q).refusal.below
 
-pub job_place : (s : List ℕ) (k p : ℕ) → job_shape (read_job s) ≡ J.Refused k p → p ≤ 65535
-job_place s k p f = let x = files.job_refused s k p f in (Job-refused s x.0 p x.1).below
+pub job_place : (s : List ℕ) (e : Refusal) → job_shape (read_job s) ≡ Err e → e.place ≤ 65535
+job_place s e q = (Job-refused s e.cause e.place (files.job_refused s e q)).below
 
 -- what is known once both files were read
 pub record BothRead (t s : List ℕ) (definitions first : ℕ) (parts : JobParts) : Type 0 where
@@ -59,19 +60,16 @@ pub record BothRead (t s : List ℕ) (definitions first : ℕ) (parts : JobParts
 
 -- what the code is told of the files
 module _ (t s : List ℕ) where
-  pub table_refused : (k p : ℕ) (r : Answer) → table_shape (read_table t) ≡ R.Refused k p → r ≡ said.refusal k 1 p 0 → FilesRefused t s r
-  table_refused k p r e q = let x = told_refuses t k p e in no_table x.cause p x.refuses (q ∙ ap (λ (n : ℕ). said.refusal n 1 p 0) (sym x.number_is))
+  pub table_refused : (e : Refusal) (r : Answer) → table_shape (read_table t) ≡ Err e → r ≡ said.refusal (number e.cause) 1 e.place 0 → FilesRefused t s r
+  table_refused e r q a = no_table e.cause e.place (told_refuses t e q).refuses a
 
-  module _ (rules definitions first : ℕ) (e : table_shape (read_table t) ≡ R.Read rules definitions first) where
-    pub job_refused : (k p : ℕ) (r : Answer) → job_shape (read_job s) ≡ J.Refused k p → r ≡ said.refusal k 2 p 0 → FilesRefused t s r
-    job_refused k p r f q =
-        let y = told-reads t rules definitions first e in
-        let x = files.job_refused s k p f in
-        no_job y.table x.0 p y.reads x.1 (q ∙ ap (λ (n : ℕ). said.refusal n 2 p 0) (sym x.2))
+  module _ (fields : TableParts) (e : table_shape (read_table t) ≡ Ok fields) where
+    pub job_refused : (f : Refusal) (r : Answer) → job_shape (read_job s) ≡ Err f → r ≡ said.refusal (number f.cause) 2 f.place 0 → FilesRefused t s r
+    job_refused f r q a = let y = told-reads t fields e in no_job y.table f.cause f.place y.reads (files.job_refused s f q) a
 
-    pub both_read : (parts : JobParts) → job_shape (read_job s) ≡ J.Read parts → BothRead t s definitions first parts
+    pub both_read : (parts : JobParts) → job_shape (read_job s) ≡ Ok parts → BothRead t s fields.definitions fields.first parts
     both_read parts f =
-        let y = told-reads t rules definitions first e in
+        let y = told-reads t fields e in
         let x = files.job_read s parts f in
         record {
           table = y.table;
