@@ -1,4 +1,5 @@
 pub mod Rows
+pub mod KindLaws
 pub mod ResultLaws
 mod HeaderCases
 pub mod HeaderLaws

@@ -1,4 +1,4 @@
--- The constant tables of the code are columns of the rows of the specification, and each tag has the row number that the code computes: tests that antt computes, row by row and number by number.
+-- What holds of each row of the table of tags, and of each number of an interval: tests that antt computes, row by row and number by number.
 -- Assumes nothing.
 use mathlib.Core.Path.{◌≡◌, refl, sym, ◌∙◌, subst, ap}
 use mathlib.Core.Bool.{Bool, true, false, cond}
@@ -10,17 +10,16 @@ use lib.Dec.{T, eqb, ltb, eqb→eq, ltb→lt}
 use lib.ListN.{get_or}
 use borrow.Author.Tests.{ne_eqb}
 use Rattle.format.specs.Tags.{Row, row, no_kind, any_length, rows, find_row, row_of, most_of, inner_of}
-use Rattle.format.specs.RowNumbers.{number_from, row_number}
 
-abbrev both : Bool → Bool → Bool
+abbrev pub both : Bool → Bool → Bool
 both true b = b
 both false b = false
 
-both_left : (a b : Bool) → T (both a b) → T a
+pub both_left : (a b : Bool) → T (both a b) → T a
 both_left true b t = tt
 both_left false b t = t
 
-both_right : (a b : Bool) → T (both a b) → T b
+pub both_right : (a b : Bool) → T (both a b) → T b
 both_right true b t = t
 both_right false b t = absurd t
 
@@ -28,26 +27,6 @@ both_right false b t = absurd t
 abbrev pub every : (Row → Bool) → List Row → Bool
 every f [] = true
 every f (r ∷ rs) = both (f r) (every f rs)
-
--- the table has the column's entries, where the first row has the number i
-abbrev pub agrees : (col : Row → ℕ) → (table : List ℕ) → (i : ℕ) → List Row → Bool
-agrees col table i [] = true
-agrees col table i (r ∷ rs) = both (eqb (get_or table i 0) (col r)) (agrees col table (suc i) rs)
-
-agreed : (col : Row → ℕ) (table : List ℕ) (t : ℕ) → get_or table 0 0 ≡ col (row t no_kind 0 0 0) → (rs : List Row) (i : ℕ) → T (agrees col table i rs) → get_or table (number_from i rs t) 0 ≡ col (find_row rs t)
-unfolding number_from find_row
-agreed col table t none [] i p = none
-agreed col table t none (r ∷ rs) i p =
-    go (eqb t r.tag) (number_from (suc i) rs t) (find_row rs t) (eqb→eq _ _ (both_left (eqb (get_or table i 0) (col r)) (agrees col table (suc i) rs) p))
-    (agreed col table t none rs (suc i) (both_right (eqb (get_or table i 0) (col r)) (agrees col table (suc i) rs) p))
-  where
-    go : (b : Bool) (n : ℕ) (f : Row) → get_or table i 0 ≡ col r → get_or table n 0 ≡ col f → get_or table (cond b i n) 0 ≡ col (cond b r f)
-    go true n f here later = here
-    go false n f here later = later
-
-pub entry : (col : Row → ℕ) (table : List ℕ) → ((t : ℕ) → get_or table 0 0 ≡ col (row t no_kind 0 0 0)) → T (agrees col table 1 rows) → (n t : ℕ) → n ≡ row_number t → get_or table n 0 ≡ col (row_of t)
-unfolding row_number row_of
-entry col table none p n t e = ap (λ (k : ℕ). get_or table k 0) e ∙ agreed col table t (none t) rows 1 p
 
 -- the test passes at n numbers from i on
 abbrev pub each : (ℕ → Bool) → (i n : ℕ) → Bool
@@ -66,18 +45,6 @@ pub tested : (g h : ℕ → ℕ) (i n : ℕ) → T (each (λ k. eqb (g k) (h k))
 tested g h i n p t low high =
     let e : i + (t - i) ≡ t = omega arith in
     subst (λ (m : ℕ). g m ≡ h m) e (eqb→eq _ _ (from (λ k. eqb (g k) (h k)) n i p (t - i) (omega arith)))
-
-none_from : (rs : List Row) (i t : ℕ) → T (every (λ r. ltb r.tag 34) rs) → 34 ≤ t → number_from i rs t ≡ 0
-unfolding number_from
-none_from [] i t p h = refl
-none_from (r ∷ rs) i t p h =
-    let q : r.tag < 34 = ltb→lt _ _ (both_left (ltb r.tag 34) (every (λ r. ltb r.tag 34) rs) p) in
-    rw (ne_eqb t r.tag (λ e. omega arith)) (none_from rs (suc i) t (both_right (ltb r.tag 34) (every (λ r. ltb r.tag 34) rs) p) h)
-
--- a number past the last tag is no tag
-pub beyond : (t : ℕ) → 34 ≤ t → row_number t ≡ 0
-unfolding row_number rows
-beyond t h = none_from rows 1 t tt h
 
 -- contents with inner terms may have any length
 abbrev free : Row → Bool

@@ -4,7 +4,7 @@ pub mod Results
 pub mod Inputs
 pub mod Values
 pub mod Tags
-pub mod RowNumbers
+pub mod Kinds
 pub mod Next
 pub mod Headers
 pub mod Terms

@@ -2,11 +2,11 @@
 ghost use Rattle.std.specs.Prelude.{◌≡◌, ℕ, ◌≤◌, ◌<◌, length};
 ghost use Rattle.format.specs.Headers.{header_at};
 ghost use Rattle.format.specs.Shapes.{header_shape};
-ghost use Rattle.format.specs.Tags.{any_length, length_fits};
-ghost use Rattle.format.specs.RowNumbers.{row_number, row_numbers};
+ghost use Rattle.format.specs.Kinds.{kind_number};
+ghost use Rattle.format.specs.Tags.{any_length, least_of, most_of, inner_of, length_fits};
 
 use crate::refusals::{Cause, Refusal};
-use crate::tags::{inner_at, kind_at, least_at, most_at, row_of};
+use crate::tags::{Kind, Row, row_of};
 use words::load16;
 
 // A field's header: the tag and the length of the contents.
@@ -17,17 +17,17 @@ pub struct Header {
 }
 
 // Whether a length is right for the tag of a row. Where inner terms follow any length may be.
-fn length_fits(row: usize, len: usize) -> bool
-    requires { (row < row_numbers) × (len ≤ any_length) }
-    ensures { (t : ℕ) → row ≡ row_number t → result ≡ length_fits t len }
+fn length_fits(row: Row, len: usize) -> bool
+    requires { len ≤ any_length }
+    ensures { (t : ℕ) → row.least ≡ least_of t → row.most ≡ most_of t → row.inner ≡ inner_of t → result ≡ length_fits t len }
 {
-    if len < least_at(row) as usize {
+    if len < row.least as usize {
         return false;
     }
-    if inner_at(row) != 0 {
+    if row.inner != 0 {
         return true;
     }
-    if (most_at(row) as usize) < len {
+    if (row.most as usize) < len {
         return false;
     }
     len % 2 == 0
@@ -38,53 +38,30 @@ pub fn read_header(
     s: &[u8],
     at: usize,
     end: usize,
-    low: u8,
-    high: u8,
+    low: Kind,
+    high: Kind,
     full: bool,
 ) -> Result<Header, Refusal>
     requires { (at ≤ end) × (end ≤ length s.now) }
-    ensures { result ≡ header_shape (header_at s.now at end low high full) }
+    ensures { result ≡ header_shape (header_at s.now at end (kind_number low) (kind_number high) full) }
 {
     if end < at + 3 {
-        return Err(Refusal {
-            cause: Cause::FieldTorn,
-            place: at,
-        });
+        return Err(Refusal::new(Cause::FieldTorn, at));
     }
     let tag = s[at];
     let row = row_of(tag);
-    let kind = kind_at(row);
-    if kind < low {
-        return Err(Refusal {
-            cause: Cause::TagNotAllowed,
-            place: at,
-        });
-    }
-    if high < kind {
-        return Err(Refusal {
-            cause: Cause::TagNotAllowed,
-            place: at,
-        });
+    if row.kind < low || high < row.kind {
+        return Err(Refusal::new(Cause::TagNotAllowed, at));
     }
     if full {
-        return Err(Refusal {
-            cause: Cause::LimitPassed,
-            place: at,
-        });
+        return Err(Refusal::new(Cause::LimitPassed, at));
     }
     let len = load16(s, at + 1) as usize;
     if end < at + 3 + len {
-        return Err(Refusal {
-            cause: Cause::FieldTorn,
-            place: at,
-        });
+        return Err(Refusal::new(Cause::FieldTorn, at));
     }
-    if length_fits(row, len) {
-        Ok(Header { tag, len })
-    } else {
-        Err(Refusal {
-            cause: Cause::LengthWrong,
-            place: at,
-        })
+    if !length_fits(row, len) {
+        return Err(Refusal::new(Cause::LengthWrong, at));
     }
+    Ok(Header { tag, len })
 }

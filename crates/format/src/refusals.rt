@@ -80,3 +80,11 @@ pub struct Refusal {
     pub cause: Cause,
     pub place: usize,
 }
+
+impl Refusal {
+    pub fn new(cause: Cause, place: usize) -> Refusal
+        ensures { result ≡ record { cause = cause; place = place } }
+    {
+        Refusal { cause, place }
+    }
+}

@@ -1,21 +1,7 @@
-// Document 01, "Fourteen tags in all": constant tables with a row for each tag, in that order, and row 0 for a number that is no tag: the tag's kind (where it may stand), the smallest and the greatest length of its contents, and the number of its inner terms.
-// A table is stored anew at each look-up, so tables are short, and who looks up more than once takes the row first.
-ghost use Rattle.std.specs.Prelude.{◌≡◌, ℕ, ◌<◌};
+// Document 01, "Fourteen tags in all": a table with a row for each tag.
+ghost use Rattle.std.specs.Prelude.{◌≡◌};
 ghost use Rattle.format.specs.Tags.{kind_of, least_of, most_of, inner_of};
-ghost use Rattle.format.specs.RowNumbers.{row_number, row_numbers};
-
-// The kinds. A table has its kinds in rising order; the gaps are for kinds that later requests add.
-pub const RULE: u8 = 10;
-
-pub const DEFINITION: u8 = 30;
-
-pub const GOAL_LIST: u8 = 40;
-
-pub const HIPROOF: u8 = 50;
-
-pub const TACTIC: u8 = 60;
-
-pub const ENTRY: u8 = 70;
+ghost use Rattle.format.specs.Kinds.{kind_number};
 
 // The tags: of a table's fields, of a goal list, of terms, and of a flat file's entries.
 pub const RULE_TAG: u8 = 1;
@@ -46,77 +32,42 @@ pub const USE_TAG: u8 = 32;
 
 pub const OPEN_TAG: u8 = 33;
 
-// Where a tag may stand; 0 for a number that is no tag.
-const KINDS: [u8; 15] = [
-    0, 10, // 1
-    30, // 2
-    40, // 3
-    50, // 16
-    50, // 17
-    50, // 18
-    50, // 19
-    50, // 20
-    50, // 21
-    60, // 22
-    60, // 23
-    60, // 24
-    70, // 32
-    70, // 33
-];
+// Where a tag may stand: nowhere, or as a field of that kind. A term of a hiproof is also one of a tactic; Tactic are the others. A table has its kinds in rising order.
+#[derive(Clone, Copy, PartialEq, Eq, PartialOrd, Ord)]
+pub enum Kind {
+    NoTag,
+    Rule,
+    Definition,
+    GoalList,
+    Hiproof,
+    Tactic,
+    Entry,
+}
 
-// The fixed or smallest length of the contents.
-const LEAST: [u8; 15] = [
-    0, 4, // 1
-    2, // 2
-    0, // 3
-    2, // 16
-    0, // 17
-    2, // 18
-    0, // 19
-    0, // 20
-    0, // 21
-    0, // 22
-    2, // 23
-    2, // 24
-    4, // 32
-    2, // 33
-];
+// A row of the table: where the tag may stand, the fixed or smallest and the fixed or greatest length of its contents, and the number of its inner terms.
+#[derive(Clone, Copy)]
+pub struct Row {
+    pub kind: Kind,
+    pub least: u8,
+    pub most: u16,
+    pub inner: u8,
+}
 
-// The fixed or greatest length of the contents.
-const MOST: [u16; 15] = [
-    0, 20, // 1
-    65535, // 2
-    65535, // 3
-    2, // 16
-    0, // 17
-    65535, // 18
-    65535, // 19
-    65535, // 20
-    0, // 21
-    65535, // 22
-    2, // 23
-    2, // 24
-    4, // 32
-    2, // 33
-];
+impl Row {
+    fn new(kind: Kind, least: u8, most: u16, inner: u8) -> Row
+        ensures { result ≡ record { kind = kind; least = least; most = most; inner = inner } }
+    {
+        Row {
+            kind,
+            least,
+            most,
+            inner,
+        }
+    }
+}
 
-// The number of inner terms.
-const INNER: [u8; 15] = [
-    0, 0, // 1
-    1, // 2
-    0, // 3
-    0, // 16
-    0, // 17
-    1, // 18
-    2, // 19
-    2, // 20
-    0, // 21
-    2, // 22
-    0, // 23
-    0, // 24
-    0, // 32
-    0, // 33
-];
+// The greatest number that two length bytes hold.
+const ANY: u16 = 65535;
 
 // From the header of a term's field to the next header in the term: over the header and the values in front of the inner terms. For tags 16 to 24 alone, since who moves so knows that a term stands there.
 pub const TERM_STEPS: [u8; 9] = [
@@ -131,64 +82,36 @@ pub const TERM_STEPS: [u8; 9] = [
     5, // 24
 ];
 
-// The row of a tag; 0 for a number that is no tag.
-pub fn row_of(tag: u8) -> usize
-    ensures { (result ≡ row_number tag) × (result < row_numbers) }
+// The row of a tag, or of a number that is no tag. It is a match, since a constant array of rows would be stored anew at each look-up.
+#[tactic(auto, unfolding(crate::specs::Tags::rows, crate::specs::Tags::find_row, crate::specs::Tags::row_of, crate::specs::Tags::kind_of, crate::specs::Tags::least_of, crate::specs::Tags::most_of, crate::specs::Tags::inner_of))]
+pub fn row_of(tag: u8) -> Row
+    ensures kind { kind_number result.kind ≡ kind_of tag }
+    ensures least { result.least ≡ least_of tag }
+    ensures most { result.most ≡ most_of tag }
+    ensures inner { result.inner ≡ inner_of tag }
 {
-    if tag < 4 {
-        return tag as usize;
+    match tag {
+        RULE_TAG => Row::new(Kind::Rule, 4, 20, 0),
+        DEFINITION_TAG => Row::new(Kind::Definition, 2, ANY, 1),
+        GOALS_TAG => Row::new(Kind::GoalList, 0, ANY, 0),
+        ATOMIC => Row::new(Kind::Hiproof, 2, 2, 0),
+        ID => Row::new(Kind::Hiproof, 0, 0, 0),
+        LABEL => Row::new(Kind::Hiproof, 2, ANY, 1),
+        SEQUENCE => Row::new(Kind::Hiproof, 0, ANY, 2),
+        TENSOR => Row::new(Kind::Hiproof, 0, ANY, 2),
+        EMPTY => Row::new(Kind::Hiproof, 0, 0, 0),
+        ALTERNATION => Row::new(Kind::Tactic, 0, ANY, 2),
+        ASSERTION => Row::new(Kind::Tactic, 2, 2, 0),
+        DEFINED => Row::new(Kind::Tactic, 2, 2, 0),
+        USE_TAG => Row::new(Kind::Entry, 4, 4, 0),
+        OPEN_TAG => Row::new(Kind::Entry, 2, 2, 0),
+        _ => Row::new(Kind::NoTag, 0, 0, 0),
     }
-    if tag < 16 {
-        return 0;
-    }
-    if tag < 25 {
-        return (tag - 12) as usize;
-    }
-    if tag < 32 {
-        return 0;
-    }
-    if tag < 34 {
-        return (tag - 19) as usize;
-    }
-    0
-}
-
-// Where the tag of a row may stand.
-pub fn kind_at(row: usize) -> u8
-    requires { row < row_numbers }
-    ensures { (t : ℕ) → row ≡ row_number t → result ≡ kind_of t }
-{
-    KINDS[row]
-}
-
-// The fixed or smallest length of its contents.
-pub fn least_at(row: usize) -> u8
-    requires { row < row_numbers }
-    ensures { (t : ℕ) → row ≡ row_number t → result ≡ least_of t }
-{
-    LEAST[row]
-}
-
-// The fixed or greatest length of its contents.
-pub fn most_at(row: usize) -> u16
-    requires { row < row_numbers }
-    ensures { (t : ℕ) → row ≡ row_number t → result ≡ most_of t }
-{
-    MOST[row]
-}
-
-// The number of its inner terms.
-pub fn inner_at(row: usize) -> u8
-    requires { row < row_numbers }
-    ensures { (t : ℕ) → row ≡ row_number t → result ≡ inner_of t }
-{
-    INNER[row]
 }
 
 // The fixed or smallest length of a tag's contents.
 pub fn least_of(tag: u8) -> u8
     ensures { result ≡ least_of tag }
 {
-    let row = row_of(tag);
-    least_at(row)
+    row_of(tag).least
 }

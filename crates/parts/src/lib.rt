@@ -5,6 +5,7 @@
 pub mod state;
 
 ghost use Rattle.std.specs.Prelude.{◌≡◌, ◌+◌, ◌≤◌, ◌<◌, length};
+ghost use Rattle.format.specs.Kinds.{kind_number};
 ghost use Rattle.format.specs.Next.{full_table, full_flat};
 ghost use Rattle.parts.specs.declared.state.Part.TheVariants.{Entries, Fields, Body};
 ghost use Rattle.parts.specs.Reader.{Encloses};
@@ -13,7 +14,7 @@ ghost use Rattle.parts.specs.States.{low_of, high_of, full_of, next_of, table_fi
 use crate::state::{MOST_TERM_FIELDS, Mode, Part, State};
 use format::headers::Header;
 use format::refusals::{Cause, Refusal};
-use format::tags::{DEFINITION, ENTRY, GOAL_LIST, HIPROOF, RULE, RULE_TAG, TACTIC, USE_TAG};
+use format::tags::{Kind, RULE_TAG, USE_TAG};
 use words::load16;
 
 pub const MOST_BYTES: usize = 65535;
@@ -58,35 +59,39 @@ fn is_full_flat(s: &[u8], at: usize, uses: usize, opens: usize) -> bool
 impl State {
     // The lowest kind that may stand where a state is; once there is a definition no rule may follow.
     #[tactic(auto, using(crate::proofs::PartLaws::term_chosen, crate::proofs::PartLaws::list_chosen, crate::proofs::PartLaws::else_list), unfolding(crate::specs::States::low_of, format::specs::Next::lowest))]
-    pub fn low(self) -> u8
-        ensures { result ≡ low_of self }
+    pub fn low(self) -> Kind
+        ensures { kind_number result ≡ low_of self }
     {
         if self.part.is_term() {
-            return HIPROOF;
+            return Kind::Hiproof;
         }
         match self.part {
-            Part::Fields => if self.second == 0 { RULE } else { DEFINITION },
-            Part::Entries => ENTRY,
-            _ => GOAL_LIST,
+            Part::Fields => if self.second == 0 {
+                Kind::Rule
+            } else {
+                Kind::Definition
+            },
+            Part::Entries => Kind::Entry,
+            _ => Kind::GoalList,
         }
     }
 
     // The highest kind that may stand there.
     #[tactic(auto, using(crate::proofs::PartLaws::term_chosen, crate::proofs::PartLaws::list_chosen, crate::proofs::PartLaws::else_list), unfolding(crate::specs::States::high_of))]
-    pub fn high(self) -> u8
-        ensures { result ≡ high_of self.part }
+    pub fn high(self) -> Kind
+        ensures { kind_number result ≡ high_of self.part }
     {
         if self.part.is_term() {
             return if self.part == Part::ProofTerm {
-                HIPROOF
+                Kind::Hiproof
             } else {
-                TACTIC
+                Kind::Tactic
             };
         }
         match self.part {
-            Part::Fields => DEFINITION,
-            Part::Entries => ENTRY,
-            _ => GOAL_LIST,
+            Part::Fields => Kind::Definition,
+            Part::Entries => Kind::Entry,
+            _ => Kind::GoalList,
         }
     }
 

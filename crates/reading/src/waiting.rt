@@ -5,7 +5,7 @@ ghost use Rattle.reading.specs.Waiting.{put_waiting, Going, Moved, Enters, Turne
 
 use format::headers::Header;
 use format::refusals::{Cause, Refusal};
-use format::tags::{inner_at, least_at, row_of};
+use format::tags::row_of;
 use parts::state::{Mode, State};
 use words::{load16, store16};
 
@@ -30,13 +30,12 @@ fn enter(x: State, header: Result<Header, Refusal>, work: &mut [u8], base: usize
             let close = at + 3 + len;
             let fields = x.fields + 1;
             let row = row_of(tag);
-            let inner = inner_at(row);
-            if inner == 0 {
+            if row.inner == 0 {
                 return x.stepped(Mode::Gave, close, close, fields, x.depth, x.top);
             }
             let low = base + x.depth * 4;
-            push(work, low, (at - x.top) as u16, (inner - 1) as u16);
-            let next = at + 3 + least_at(row) as usize;
+            push(work, low, (at - x.top) as u16, (row.inner - 1) as u16);
+            let next = at + 3 + row.least as usize;
             x.stepped(x.mode, next, close, fields, x.depth + 1, at)
         }
     }

@@ -12,17 +12,17 @@ inner-fits : (t n : ℕ) → least_of t ≤ n → n ≤ any_length → (inner_of
 unfolding length_fits
 inner-fits t n low high inner = simp (le-ltb _ _ low, any_length_lem t inner, le-ltb _ _ high, ne_eqb _ _ inner)
 
-pub returns-then-len-least_at : goal.returns-then-len-least_at
+pub returns-then-len-row : goal.returns-then-len-row
 unfolding length_fits
-returns-then-len-least_at c = λ t e. simp (← c.least_at.ensures t e, lt-ltb _ _ c.if-len-least_at.true)
+returns-then-len-row c = λ t l m i. simp (← l, lt-ltb _ _ c.if-len-row.true)
 
-pub returns-then-inner_at-ne0 : goal.returns-then-inner_at-ne0
-returns-then-inner_at-ne0 c = λ t e. inner-fits t _ (rw (sym (c.least_at.ensures t e)) c.if-len-least_at.false) c.requires.1 (λ z. c.if-inner_at-ne0.true (c.inner_at.ensures t e ∙ z))
+pub returns-then-row-ne0 : goal.returns-then-row-ne0
+returns-then-row-ne0 c = λ t l m i. inner-fits t _ (rw (sym l) c.if-len-row.false) c.requires (λ z. c.if-row-ne0.true (i ∙ z))
 
-pub returns-then-most_at-len : goal.returns-then-most_at-len
+pub returns-then-row-len : goal.returns-then-row-len
 unfolding length_fits
-returns-then-most_at-len c = λ t e. simp (← c.least_at.ensures t e, le-ltb _ _ c.if-len-least_at.false, ← c.most_at.ensures t e, lt-ltb _ _ c.if-most_at-len.true)
+returns-then-row-len c = λ t l m i. simp (← l, le-ltb _ _ c.if-len-row.false, ← m, lt-ltb _ _ c.if-row-len.true)
 
 pub returns : goal.returns
 unfolding length_fits
-returns c = λ t e. simp (← c.least_at.ensures t e, le-ltb _ _ c.if-len-least_at.false, ← c.most_at.ensures t e, le-ltb _ _ c.if-most_at-len.false, ← c.inner_at.ensures t e, eq-eqb _ _ c.if-inner_at-ne0.false)
+returns c = λ t l m i. simp (← l, le-ltb _ _ c.if-len-row.false, ← m, le-ltb _ _ c.if-row-len.false, ← i, eq-eqb _ _ c.if-row-ne0.false)

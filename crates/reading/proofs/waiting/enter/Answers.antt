@@ -71,7 +71,7 @@ pub overflow_add-next : goal.overflow_add-next
 overflow_add-next c = omega (arith, fits _ _ _ _ _ _ _ _ c.requires.2 c.in-Ok.is)
 
 pub overflow_add-next-in-Ok : goal.overflow_add-next-in-Ok
-overflow_add-next-in-Ok c = omega (arith, fits _ _ _ _ _ _ _ _ c.requires.2 c.in-Ok.is, c.least_at.ensures _ c.row_of-row.ensures.0)
+overflow_add-next-in-Ok c = omega (arith, fits _ _ _ _ _ _ _ _ c.requires.2 c.in-Ok.is, c.row_of-row.ensures.least)
 
 pub overflow_add-x : goal.overflow_add-x
 overflow_add-x c = omega (arith, fits _ _ _ _ _ _ _ _ c.requires.2 c.in-Ok.is)
@@ -79,10 +79,10 @@ overflow_add-x c = omega (arith, fits _ _ _ _ _ _ _ _ c.requires.2 c.in-Ok.is)
 pub returns-in-Err : goal.returns-in-Err
 returns-in-Err c = λ s high b. rw c.refused.ensures (enter_refused _ _ _ _ _ b.going b.reading _ _ (sym b.header_is ∙ c.in-Err.is))
 
-pub returns-then-inner-eq0 : goal.returns-then-inner-eq0
-returns-then-inner-eq0 c = λ s high b. rw c.stepped.ensures (enter-leaf _ _ _ _ _ b.going b.reading _ _ _ _ (header_is _ _ _ _ _ _ _ _ b c.in-Ok.is) refl (c.inner_at-inner.ensures _ c.row_of-row.ensures.0) c.if-inner-eq0.true)
+pub returns-then-row-eq0 : goal.returns-then-row-eq0
+returns-then-row-eq0 c = λ s high b. rw c.stepped.ensures (enter-leaf _ _ _ _ _ b.going b.reading _ _ _ _ (header_is _ _ _ _ _ _ _ _ b c.in-Ok.is) refl c.row_of-row.ensures.inner c.if-row-eq0.true)
 
-pub returns-else-inner-eq0 : goal.returns-else-inner-eq0
-returns-else-inner-eq0 c =
-    let r = c.row_of-row.ensures.0 in
-    λ s high b. rw c.stepped-in-Ok.ensures (enter_inner _ _ _ _ _ b.going b.reading _ _ _ _ (header_is _ _ _ _ _ _ _ _ b c.in-Ok.is) refl (c.inner_at-inner.ensures _ r) _ (c.least_at.ensures _ r) c.if-inner-eq0.false _ c.push.ensures)
+pub returns-else-row-eq0 : goal.returns-else-row-eq0
+returns-else-row-eq0 c =
+    let r = c.row_of-row.ensures in
+    λ s high b. rw c.stepped-in-Ok.ensures (enter_inner _ _ _ _ _ b.going b.reading _ _ _ _ (header_is _ _ _ _ _ _ _ _ b c.in-Ok.is) refl r.inner _ r.least c.if-row-eq0.false _ c.push.ensures)
