@@ -98,7 +98,7 @@ module _ (n a : ℕ) where
     -- the next one is refused, a use, an open
     pub turn_refused : (k : Cause) (p : ℕ) → at < length s → header_shape (header_at s at (length s) entry_kind entry_kind (full_flat s at u o)) ≡ refused_at k p → entries_told n a u o (read_entries (suc f) s at u o) ≡ refused_at k p
     unfolding entries_told header_shape
-    turn_refused k p l e = rw (step l) (first_refused answers_tell {Q = read.Header} (λ g. record { tag = g.tag; len = g.len }) refused_at (λ es. Ok (flat_parts n a (u + uses_in es) (o + opens_in es))) (entries_of (read_entries f s) s at u o) _ k p e)
+    turn_refused k p l e = rw (step l) (first_refused (answers_tell {Q = read.Header}) (λ g. record { tag = g.tag; len = g.len }) refused_at (λ es. Ok (flat_parts n a (u + uses_in es) (o + opens_in es))) (entries_of (read_entries f s) s at u o) _ k p e)
 
     module _ (tag len : ℕ) (l : at < length s) (e : header_at s at (length s) entry_kind entry_kind (full_flat s at u o) ≡ gives (header tag len)) where
       pub turn_use : tag ≡ 32 → entries_told n a u o (read_entries (suc f) s at u o) ≡ entries_told n a (u + 1) o (read_entries f s (at + 3 + len) (u + 1) o)

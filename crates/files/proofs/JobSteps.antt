@@ -1,23 +1,23 @@
 -- Reading a job file: what is known in each state, that each turn keeps it, and what the last state tells.
 -- Assumes nothing.
-use mathlib.Core.Path.{◌≡◌, refl, sym, subst}
+use mathlib.Core.Path.{◌≡◌, refl, sym, ap, subst, ◌∙◌}
+use Rattle.std.specs.Prelude.{Ok, Err}
 use mathlib.Core.Bool.{Bool, true, false, cond}
 use mathlib.Core.List.{List}
 use Prim.Native.Nat.{ℕ}
-use native.Mathlib.Omega.{arith}
 use lib.Dec.{eqb}
 use lib.ListN.{length}
-use borrow.Author.Tests.{eq-eqb, ne_eqb, eqb-true, eqb-false}
+use borrow.Author.Tests.{eqb-true, eqb-false}
 use Rattle.format.specs.GoalsRead as G
 use Rattle.format.specs.declared.refusals.Cause.TheVariants.{LengthWrong}
-use Rattle.format.specs.Refusals.{number}
 use Rattle.format.specs.Tags.{tactic_kind}
+use Rattle.parts.specs.declared.state.Mode.TheVariants as M
+use Rattle.parts.specs.declared.state.Part.TheVariants as P
 use Rattle.parts.specs.declared.state.State.{State}
-use Rattle.parts.specs.States.{refusing, behind_term, begun_file}
+use Rattle.parts.specs.States.{refusing, behind_list, behind_job, behind_part, behind_term, begun_file}
 use Rattle.parts.proofs.AskLaws.{high_of_job}
 use Rattle.reading.specs.Reading.{Reading, Step, Reaches}
 use Rattle.reading.proofs.ReachLaws.{holds_on}
-use Rattle.files.specs.declared.jobs.JobRead.TheVariants as J
 use Rattle.files.specs.Jobs.{read_job}
 use Rattle.files.specs.Shapes.{job_parts, job_shape, told_job}
 use Rattle.files.proofs.ListSteps.{stated, ListStep, stops, reads, First, Begins, long, first, begins, first_step}
@@ -31,51 +31,45 @@ module _ (s : List ℕ) (base : ℕ) where
 
   -- by how far it was read
   data Known (w : List ℕ) (x : State) : Type 0 where
-    is_refused : x.mode ≡ 0 → job_shape (read_job s) ≡ J.Refused x.number x.place → Known w x
-    in_goals : First s 3 x → Known w x
-    in_term : InTerm s 7 tactic_kind Front base w x → Known w x
-    is_read : x.mode ≡ 2 → job_shape (read_job s) ≡ J.Read (job_parts x.goals x.from) → Known w x
+    is_refused : x.mode ≡ M.Refused → job_shape (read_job s) ≡ Err x.refusal → Known w x
+    in_goals : First s P.JobGoals x → Known w x
+    in_term : InTerm s P.JobTerm tactic_kind Front base w x → Known w x
+    is_read : x.mode ≡ M.Gave → job_shape (read_job s) ≡ Ok (job_parts x.goals x.from) → Known w x
 
   module _ (w : List ℕ) (x : State) (h : Reading s w base x) (w' : List ℕ) (r : State) where
-    behind_goals : First s 3 x → w' ≡ w → ListStep s x (stated s) r → Known w' r
+    behind_goals : First s P.JobGoals x → w' ≡ w → ListStep s x (stated s) r → Known w' r
+    unfolding behind_list
     behind_goals f v (stops m e) = is_refused m (stated_refused s _ _ e)
-    behind_goals f v (reads n close e q) =
-        let p = f.part_is in
-        in_term (rw (v, q, ne_eqb x.part 5 (λ z. omega (arith, p, z)), ne_eqb x.part 0 (λ z. omega (arith, p, z)), eq-eqb x.part 3 p) (term_begun s 7 tactic_kind Front base w x h 3 (omega arith) f n close e))
+    behind_goals f v (reads n close e q) = in_term (rw (v, q, f.part_is) (term_begun s P.JobTerm tactic_kind Front base w x h P.JobGoals refl f n close e))
 
-    behind_term_lem : InTerm s 7 tactic_kind Front base w x → Turn s 7 tactic_kind Front base x w' r → Known w' r
-    unfolding behind_term number
+    behind_term_lem : InTerm s P.JobTerm tactic_kind Front base w x → Turn s P.JobTerm tactic_kind Front base x w' r → Known w' r
+    unfolding behind_term behind_part behind_job
     behind_term_lem t (goes_on u) = in_term u
     behind_term_lem t (refuses m e) = is_refused m (tactic_refused s _ _ t.front _ _ e)
-    behind_term_lem t (leaves y b q) = rw (q, ne_eqb y.part 6 (λ z. omega (arith, b.part_is, z)), eq-eqb y.part 7 b.part_is) (go (eqb y.at (length s)) refl)
+    behind_term_lem t (leaves y b q) = subst (Known w') (sym (q ∙ ap (behind_part s y) b.part_is)) (go (eqb y.at (length s)) refl)
       where
-        go : (c : Bool) → eqb y.at (length s) ≡ c → Known w' (cond c y (refusing y (number LengthWrong) y.at))
+        go : (c : Bool) → eqb y.at (length s) ≡ c → Known w' (cond c y (refusing y LengthWrong y.at))
         go true e = is_read b.mode_is (job_read s _ _ b.front _ _ b.term (eqb-true y.at (length s) e))
         go false e = is_refused refl (bytes_left s _ _ b.front _ _ b.term (eqb-false y.at (length s) e))
 
-  keeps : (w : List ℕ) (x : State) (w' : List ℕ) (r : State) → Reading s w base x → x.mode ≡ 1 → Step s w base x w' r → Known w x → Known w' r
-  keeps w x w' r h m step (is_refused z e) = absurd (omega (arith, m, z))
+  keeps : (w : List ℕ) (x : State) (w' : List ℕ) (r : State) → Reading s w base x → x.mode ≡ M.Reads → Step s w base x w' r → Known w x → Known w' r
+  keeps w x w' r h m step (is_refused z e) = cc
   keeps w x w' r h m step (in_goals f) =
-      let l = first_step s w base 3 (omega arith) (λ z. absurd (omega arith)) (λ z. absurd (omega arith)) x h f w' r step in
+      let l = first_step s w base P.JobGoals refl x h f w' r step in
       behind_goals w x h w' r f l.0 l.1
-  keeps w x w' r h m step (in_term t) = behind_term_lem w x h w' r t (term_turn s 7 tactic_kind Front base w x h (omega arith) high_of_job t w' r step)
-  keeps w x w' r h m step (is_read z e) = absurd (omega (arith, m, z))
+  keeps w x w' r h m step (in_term t) = behind_term_lem w x h w' r t (term_turn s P.JobTerm tactic_kind Front base w x h refl high_of_job t w' r step)
+  keeps w x w' r h m step (is_read z e) = cc
 
-  begins_known : (w : List ℕ) (x : State) → Begins s 3 x → Known w x
+  begins_known : (w : List ℕ) (x : State) → Begins s P.JobGoals x → Known w x
   begins_known w x (long m e) = is_refused m (stated_refused s _ _ e)
   begins_known w x (first f) = in_goals f
 
-  tells : (w : List ℕ) (x : State) → Known w x → (x.mode ≡ 1 → ⊥) → told_job x ≡ job_shape (read_job s)
-  unfolding told_job
-  tells w x (is_refused m e) n = rw (eq-eqb x.mode 0 m) (sym e)
+  tells : (w : List ℕ) (x : State) → Known w x → (x.mode ≡ M.Reads → ⊥) → told_job x ≡ job_shape (read_job s)
+  tells w x (is_refused m e) n = rw m (sym e)
   tells w x (in_goals f) n = absurd (n f.mode_is)
   tells w x (in_term t) n = absurd (n t.mode_is)
-  tells w x (is_read m e) n = rw (ne_eqb x.mode 0 (λ z. omega (arith, m, z))) (sym e)
+  tells w x (is_read m e) n = rw m (sym e)
 
   -- from the first state on
-  module _ (w : List ℕ) (x : State) (e : x ≡ begun_file s 3) where
-    start_known : Known w x
-    start_known = begins_known w x (subst (Begins s 3) (sym e) (begins s 3))
-
-    pub job_told : Reading s w base x → (w' : List ℕ) (r : State) → Reaches s base w x w' r → (r.mode ≡ 1 → ⊥) → told_job r ≡ job_shape (read_job s)
-    job_told h w' r reaches n = tells w' r (holds_on s base Known keeps w x h start_known w' r reaches) n
+  pub job_told : (w : List ℕ) → Reading s w base (begun_file s P.JobGoals) → (w' : List ℕ) (r : State) → Reaches s base w (begun_file s P.JobGoals) w' r → (r.mode ≡ M.Reads → ⊥) → told_job r ≡ job_shape (read_job s)
+  job_told w h w' r reaches n = tells w' r (holds_on s base Known keeps w _ h (begins_known w _ (begins s P.JobGoals)) w' r reaches) n

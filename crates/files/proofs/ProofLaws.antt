@@ -31,7 +31,7 @@ use Rattle.files.proofs.ToldLaws.{Pair, first_refused, first_read, goals_tell, g
 abbrev parts : Proof → std.Result ProofParts Refusal
 parts p = Ok (parts_of p)
 
-same_parts : {a b c d a' b' c' d' : ℕ} → a ≡ a' → b ≡ b' → c ≡ c' → d ≡ d' → Ok (proof_parts a b c d) ≡ Ok (proof_parts a' b' c' d')
+same_parts : {a b c d a' b' c' d' : ℕ} → a ≡ a' → b ≡ b' → c ≡ c' → d ≡ d' → ◌≡◌ {A = std.Result ProofParts Refusal} (Ok (proof_parts a b c d)) (Ok (proof_parts a' b' c' d'))
 same_parts p q r t = λ i. Ok (proof_parts (p i) (q i) (r i) (t i))
 
 module _ (s : List ℕ) where

@@ -4,6 +4,8 @@ use Rattle.std.specs.Prelude as std
 use Rattle.format.specs.declared.refusals.Refusal.{Refusal}
 use Rattle.format.specs.Results.{Result, told, refused_at}
 use Rattle.format.specs.Terms.{Term}
+use Rattle.parts.specs.declared.state.State.{State}
+use Rattle.parts.specs.States.{told_state}
 use Rattle.files.specs.declared.proofs.ProofParts.{ProofParts}
 use Rattle.files.specs.declared.jobs.JobParts.{JobParts}
 use Rattle.files.specs.declared.flats.FlatParts.{FlatParts}
@@ -22,6 +24,13 @@ parts_of p = proof_parts (length p.goals) (term_place p) (remaining_place p) (le
 unfoldable pub proof_shape : Result Proof → std.Result ProofParts Refusal
 proof_shape x = told refused_at (λ p. Ok (parts_of p)) x
 
+-- what is kept of a state of a proof, and what a state in which nothing is left to read tells
+abbrev pub proof_kept : State → ProofParts
+proof_kept x = proof_parts x.goals x.from x.rest x.second
+
+abbrev pub told_proof : State → std.Result ProofParts Refusal
+told_proof x = told_state proof_kept x
+
 -- the parts of a job: the number of goals and the place of the term
 abbrev pub job_parts : (goals term : ℕ) → JobParts
 job_parts g t = record { goals = g; term = t }
@@ -32,9 +41,20 @@ job_parts_of j = job_parts (length j.goals) (job_term_place j)
 unfoldable pub job_shape : Result Job → std.Result JobParts Refusal
 job_shape x = told refused_at (λ j. Ok (job_parts_of j)) x
 
+-- the same of a job
+abbrev pub job_kept : State → JobParts
+job_kept x = job_parts x.goals x.from
+
+abbrev pub told_job : State → std.Result JobParts Refusal
+told_job x = told_state job_kept x
+
 -- of a term file, that it has a term
 unfoldable pub term_file_shape : Result Term → std.Result (Unit {0}) Refusal
 term_file_shape x = told refused_at (λ t. Ok tt) x
+
+-- the same of a term file
+abbrev pub told_term_file : State → std.Result (Unit {0}) Refusal
+told_term_file x = told_state (λ y. tt) x
 
 -- the parts of a flat file: the number of roots, the place of the first entry, and the numbers of use and open entries
 abbrev pub flat_parts : (roots first uses opens : ℕ) → FlatParts
@@ -45,3 +65,10 @@ flat_parts_of d = flat_parts (length d.roots) (entries_place d) (uses_in d.entri
 
 unfoldable pub flat_shape : Result Derivation → std.Result FlatParts Refusal
 flat_shape x = told refused_at (λ d. Ok (flat_parts_of d)) x
+
+-- the same of a flat file
+abbrev pub flat_kept : State → FlatParts
+flat_kept x = flat_parts x.goals x.from x.first x.second
+
+abbrev pub told_flat : State → std.Result FlatParts Refusal
+told_flat x = told_state flat_kept x

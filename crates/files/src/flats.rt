@@ -2,11 +2,11 @@
 ghost use Rattle.std.specs.Prelude.{◌≡◌, ◌+◌, ◌≤◌, length};
 ghost use Rattle.reading.specs.Waiting.{reading_room};
 ghost use Rattle.files.specs.Derivations.{read_flat};
-ghost use Rattle.files.specs.Shapes.{flat_parts, flat_shape};
+ghost use Rattle.files.specs.Shapes.{flat_kept, flat_shape};
 
 use crate::whole::read_whole;
 use format::refusals::Refusal;
-use parts::state::{ROOTS, State};
+use parts::state::{Part, State};
 
 // The parts of a flat file: the number of roots, the place of the first entry, and the numbers of use and open entries.
 #[derive(Clone, Copy)]
@@ -18,7 +18,7 @@ pub struct FlatParts {
 }
 
 impl From<State> for FlatParts {
-    ghost from_gives = { λ x p. p ≡ flat_parts x.goals x.from x.first x.second };
+    ghost from_gives = { λ x p. p ≡ flat_kept x };
 
     fn from(x: State) -> FlatParts {
         FlatParts {
@@ -36,5 +36,5 @@ pub fn read_flat(s: &[u8], work: &mut [u8], base: usize) -> Result<FlatParts, Re
     ensures value { result ≡ flat_shape (read_flat s.now) }
     ensures work_unchanged { work.new ≡ work.old }
 {
-    read_whole(s, ROOTS, work, base)
+    read_whole(s, Part::Roots, work, base)
 }

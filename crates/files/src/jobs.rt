@@ -3,11 +3,11 @@ ghost use Rattle.std.specs.Prelude.{◌≡◌, ◌+◌, ◌≤◌, length};
 ghost use Rattle.words.specs.Kept.{Kept};
 ghost use Rattle.reading.specs.Waiting.{reading_room};
 ghost use Rattle.files.specs.Jobs.{read_job};
-ghost use Rattle.files.specs.Shapes.{job_parts, job_shape};
+ghost use Rattle.files.specs.Shapes.{job_kept, job_shape};
 
 use crate::whole::read_whole;
 use format::refusals::Refusal;
-use parts::state::{JOB_GOALS, State};
+use parts::state::{Part, State};
 
 // The parts of a job: the number of goals and the place of the term.
 #[derive(Clone, Copy)]
@@ -17,7 +17,7 @@ pub struct JobParts {
 }
 
 impl From<State> for JobParts {
-    ghost from_gives = { λ x p. p ≡ job_parts x.goals x.from };
+    ghost from_gives = { λ x p. p ≡ job_kept x };
 
     fn from(x: State) -> JobParts {
         JobParts {
@@ -33,5 +33,5 @@ pub fn read_job(s: &[u8], work: &mut [u8], base: usize) -> Result<JobParts, Refu
     ensures value { result ≡ job_shape (read_job s.now) }
     ensures kept { Kept work.old work.new base (base + reading_room) }
 {
-    read_whole(s, JOB_GOALS, work, base)
+    read_whole(s, Part::JobGoals, work, base)
 }

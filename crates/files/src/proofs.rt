@@ -3,11 +3,11 @@ ghost use Rattle.std.specs.Prelude.{◌≡◌, ◌+◌, ◌≤◌, length};
 ghost use Rattle.words.specs.Kept.{Kept};
 ghost use Rattle.reading.specs.Waiting.{reading_room};
 ghost use Rattle.files.specs.Proofs.{read_proof_fields, proof_bytes, empty_proof, or_empty_proof};
-ghost use Rattle.files.specs.Shapes.{proof_parts, proof_shape};
+ghost use Rattle.files.specs.Shapes.{proof_kept, proof_shape};
 
 use crate::whole::read_whole;
 use format::refusals::Refusal;
-use parts::state::{PROOF_GOALS, State};
+use parts::state::{Part, State};
 
 // The parts of a proof: the number of goals, the place of the term, the place of the remaining list, which is the term's end, and the number of remaining goals.
 #[derive(Clone, Copy)]
@@ -19,7 +19,7 @@ pub struct ProofParts {
 }
 
 impl From<State> for ProofParts {
-    ghost from_gives = { λ x p. p ≡ proof_parts x.goals x.from x.rest x.second };
+    ghost from_gives = { λ x p. p ≡ proof_kept x };
 
     fn from(x: State) -> ProofParts {
         ProofParts {
@@ -54,5 +54,5 @@ pub fn read_proof_fields(s: &[u8], work: &mut [u8], base: usize) -> Result<Proof
     ensures value { result ≡ proof_shape (read_proof_fields s.now) }
     ensures kept { Kept work.old work.new base (base + reading_room) }
 {
-    read_whole(s, PROOF_GOALS, work, base)
+    read_whole(s, Part::ProofGoals, work, base)
 }

@@ -9,7 +9,7 @@ ghost use Rattle.files.specs.Shapes.{term_file_shape};
 use crate::jobs::JobParts;
 use crate::whole::read_whole;
 use format::refusals::Refusal;
-use parts::state::JOB_TERM;
+use parts::state::Part;
 
 // A term file; nothing may be left behind the term. While it is read its fields wait in work, from base on.
 pub fn read_term_file(s: &[u8], work: &mut [u8], base: usize) -> Result<(), Refusal>
@@ -18,6 +18,6 @@ pub fn read_term_file(s: &[u8], work: &mut [u8], base: usize) -> Result<(), Refu
     ensures kept { Kept work.old work.new base (base + reading_room) }
 {
     // It is read as a job of which no goals are stated.
-    read_whole::<JobParts>(s, JOB_TERM, work, base)?;
+    read_whole::<JobParts>(s, Part::JobTerm, work, base)?;
     Ok(())
 }

@@ -1,5 +1,5 @@
 // The signs by the tags of their terms.
-ghost use Rattle.std.specs.Prelude.{◌≡◌};
+ghost use Rattle.std.specs.Prelude.{◌≡◌, ◌≤◌};
 ghost use Rattle.notation.specs.Signs.{is_pair, rank_tag};
 
 use format::tags::{ALTERNATION, SEQUENCE, TENSOR};
@@ -15,7 +15,8 @@ pub fn is_pair(tag: u8) -> bool
 // How tight its sign binds.
 #[tactic(auto, unfolding(crate::specs::Signs::rank_tag))]
 pub fn rank_of(tag: u8) -> usize
-    ensures { result ≡ rank_tag tag }
+    ensures value { result ≡ rank_tag tag }
+    ensures few { result ≤ 2 }
 {
     match tag {
         TENSOR => 2,
