@@ -1,6 +1,7 @@
 -- An entry that reads a table, then a job: what its outcome is made of, whatever follows the reading.
 use Rattle.std.specs.Prelude.{ℕ, ◌≡◌, List}
-use Rattle.format.specs.Refusals.{Cause, number}
+use Rattle.format.specs.declared.refusals.Cause.{Cause}
+use Rattle.format.specs.Refusals.{number}
 use Rattle.format.specs.Results.{gives, refused}
 use Rattle.tables.specs.Tables.{Table}
 use Rattle.tables.specs.ReadTables.{read_table}
