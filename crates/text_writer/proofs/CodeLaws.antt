@@ -2,32 +2,16 @@
 -- Assumes nothing.
 use mathlib.Core.Path.{◌≡◌, ap, ◌∙◌}
 use mathlib.Core.List.{List, [], ◌∷◌}
-use Prim.Native.Nat.{ℕ, suc, ◌+◌, ◌-◌, ◌≤◌}
+use Prim.Native.Nat.{ℕ, ◌+◌}
 use native.Mathlib.Omega.{arith}
-use lib.Dec.{leb}
 use lib.ListN.{length, set, length-append}
 use lib.Seq.{sets}
 use borrow.Author.Tests.{eq-eqb, ne_eqb}
 use Rattle.notation.specs.Written.{decimal}
-use Rattle.notation.proofs.RoundTrip.{decimal_few}
 use Rattle.text_writer.specs.declared.writing.Writing.{Writing}
-use Rattle.notation.specs.Signs.{rank_tag}
-use Rattle.text_writer.specs.Spelling.{byte_of, letter_of, sign_text, label_text, leaf_text, leaf_size}
-use Rattle.text_writer.specs.Stack.{tag_in}
-use Rattle.text_writer.specs.Writing.{passed, taken_up}
+use Rattle.text_writer.specs.Spelling.{letter_of, label_text, leaf_text, leaf_size}
+use Rattle.text_writer.specs.Writing.{passed}
 use Rattle.text_writer.proofs.StoreLaws.{sets_more}
-
-pub up_law : (w : List ℕ) (x : Writing) (b tag sign binds : ℕ) (byte : ℕ) (w' : List ℕ) → byte ≡ b → tag ≡ tag_in byte → sign ≡ byte_of tag → binds ≡ rank_tag tag → w' ≡ sets w x.len (32 ∷ sign ∷ 32 ∷ [])
-    → (◌≡◌ {A = Writing} (record { at = x.at; len = x.len + 3; top = x.top - 1; binds = binds; followed = leb 64 byte }) (taken_up x b)) × (w' ≡ sets w x.len (sign_text (tag_in b)))
-up_law w x b tag sign binds byte w' e t s r v =
-    let tag_is : tag ≡ tag_in b = t ∙ ap tag_in e in
-    let rank_is : binds ≡ rank_tag (tag_in b) = r ∙ ap rank_tag tag_is in
-    let sign-is : sign ≡ byte_of (tag_in b) = s ∙ ap byte_of tag_is in
-    ((λ i. record { at = x.at; len = x.len + 3; top = x.top - 1; binds = rank_is i; followed = leb 64 (e i) }), v ∙ ap (λ (k : ℕ). sets w x.len (32 ∷ k ∷ 32 ∷ [])) sign-is)
-
--- a byte and the digits of a value
-pub numbered_few : (v n : ℕ) → n ≡ suc (length (decimal v)) → n ≤ 6
-numbered_few v n e = omega (arith, e, decimal_few v)
 
 pub label_done : (w : List ℕ) (x : Writing) (v n : ℕ) (w₁ : List ℕ) (value : ℕ) → v ≡ value → (n ≡ length (91 ∷ decimal v)) × (w₁ ≡ sets w x.len (91 ∷ decimal v)) → (r : Writing) → r ≡ passed x 5 (n + 1)
     → (r ≡ passed x 5 (length (label_text value))) × (set w₁ (x.len + n) 93 ≡ sets w x.len (label_text value))

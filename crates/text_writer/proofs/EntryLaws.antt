@@ -1,5 +1,6 @@
 -- What the entry write_text comes to, by cases: a file that is refused, or the text of its term.
 -- Assumes nothing.
+use Rattle.std.specs.Prelude.{Ok, Err}
 use mathlib.Core.Path.{◌≡◌, refl, ap, ◌∙◌}
 use mathlib.Core.List.{List, ◌++◌}
 use Prim.Native.Nat.{ℕ, ◌+◌, ◌≤◌}
@@ -7,7 +8,8 @@ use native.Mathlib.Omega.{arith}
 use lib.ListN.{length, take, drop}
 use lib.Seq.{paste}
 use Rattle.format.specs.Terms.{Term}
-use Rattle.files.specs.declared.terms.TermFileRead.TheVariants as R
+use Rattle.format.specs.declared.refusals.Refusal.{Refusal}
+use Rattle.format.specs.Refusals.{number}
 use Rattle.files.specs.TermFiles.{read_term_file}
 use Rattle.files.specs.Shapes.{term_file_shape}
 use Rattle.files.specs.Standing.{TermFileStands}
@@ -24,12 +26,12 @@ use Rattle.entries.specs.Left.{kept, left_in}
 use Rattle.entries.proofs.LeftLaws.{enough_room}
 
 module _ (s : List ℕ) where
-  pub refused_place : (k p : ℕ) → term_file_shape (read_term_file s) ≡ R.Refused k p → p ≤ 65535
-  refused_place k p e = let c = term_file_refused s k p e in (TermFile-refused s c.0 p c.1).below
+  pub refused_place : (r : Refusal) → term_file_shape (read_term_file s) ≡ Err r → r.place ≤ 65535
+  refused_place r e = (TermFile-refused s r.cause r.place (term_file_refused s r e)).below
 
-  pub refused_file : (out : List ℕ) (k p : ℕ) → term_file_shape (read_term_file s) ≡ R.Refused k p → kept (refusal k other_file p 0) out ≡ left_in out (write_text_outcome s)
+  pub refused_file : (out : List ℕ) (r : Refusal) → term_file_shape (read_term_file s) ≡ Err r → kept (refusal (number r.cause) other_file r.place 0) out ≡ left_in out (write_text_outcome s)
   unfolding write_text_outcome write_out
-  refused_file out k p e = let c = term_file_refused s k p e in rw (c.1, c.2) refl
+  refused_file out r e = let c = term_file_refused s r e in rw c
 
   -- the term of a file that reads
   pub record Found : Type 0 where
@@ -37,7 +39,7 @@ module _ (s : List ℕ) where
     pub stands : TermFileStands s term
     pub outcome_is : write_text_outcome s ≡ done (written term)
 
-  pub found_file : term_file_shape (read_term_file s) ≡ R.Read → Found
+  pub found_file : term_file_shape (read_term_file s) ≡ Ok tt → Found
   unfolding write_text_outcome
   found_file e = let t = term_file_read s e in record { term = t.0; stands = term_file_stands s t.0 t.1; outcome_is = rw t.1 refl }
 

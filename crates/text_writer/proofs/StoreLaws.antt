@@ -22,17 +22,3 @@ sets_behind (a ∷ x) w at i h = sets_behind x (set w at a) (suc at) i (omega ar
 pub sets_more : (x y w : List ℕ) (at : ℕ) → sets (sets w at x) (at + length x) y ≡ sets w at (x ++ y)
 sets_more [] y w at = let e : at + 0 ≡ at = omega arith in ap (λ (i : ℕ). sets w i y) e
 sets_more (a ∷ x) y w at = let e : at + suc (length x) ≡ suc at + length x = omega arith in ap (λ (i : ℕ). sets (sets (set w at a) (suc at) x) i y) e ∙ sets_more x y (set w at a) (suc at)
-
--- two to five bytes, each at its place
-module _ (w : List ℕ) (at : ℕ) where
-  pub stored_2 : (a b : ℕ) → set (set w at a) (at + 1) b ≡ sets w at (a ∷ b ∷ [])
-  stored_2 a b = let e : at + 1 ≡ suc at = omega arith in ap (λ (i : ℕ). set (set w at a) i b) e
-
-  pub stored_3 : (a b c : ℕ) → set (set (set w at a) (at + 1) b) (at + 2) c ≡ sets w at (a ∷ b ∷ c ∷ [])
-  stored_3 a b c = let e : at + 2 ≡ suc (suc at) = omega arith in ap (λ (l : List ℕ). set l (at + 2) c) (stored_2 a b) ∙ ap (λ (i : ℕ). set (sets w at (a ∷ b ∷ [])) i c) e
-
-  pub stored_4 : (a b c d : ℕ) → set (set (set (set w at a) (at + 1) b) (at + 2) c) (at + 3) d ≡ sets w at (a ∷ b ∷ c ∷ d ∷ [])
-  stored_4 a b c d = let e : at + 3 ≡ suc (suc (suc at)) = omega arith in ap (λ (l : List ℕ). set l (at + 3) d) (stored_3 a b c) ∙ ap (λ (i : ℕ). set (sets w at (a ∷ b ∷ c ∷ [])) i d) e
-
-  pub stored_5 : (a b c d e : ℕ) → set (set (set (set (set w at a) (at + 1) b) (at + 2) c) (at + 3) d) (at + 4) e ≡ sets w at (a ∷ b ∷ c ∷ d ∷ e ∷ [])
-  stored_5 a b c d e = let p : at + 4 ≡ suc (suc (suc (suc at))) = omega arith in ap (λ (l : List ℕ). set l (at + 4) e) (stored_4 a b c d) ∙ ap (λ (i : ℕ). set (sets w at (a ∷ b ∷ c ∷ d ∷ [])) i e) p

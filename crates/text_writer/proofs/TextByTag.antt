@@ -130,16 +130,7 @@ leaf_text_lem s at (alternation t u) b f st p x = no_way (sym p)
 leaf_text_lem s at (assert γ) b f st p x = record { sizes = refl; text = append-nil (63 ∷ decimal γ.0) ∙ ap (λ (n : ℕ). 63 ∷ decimal n) (sym st.1) }
 leaf_text_lem s at (defined n) b f st p x = record { sizes = refl; text = append-nil (84 ∷ decimal n.0) ∙ ap (λ (n : ℕ). 84 ∷ decimal n) (sym st.1) }
 
--- the ranks are few, and the tag of a pair leaves room for 64 in its byte
-pub rank_few : (k : ℕ) → rank_tag k ≤ 2
-unfolding rank_tag
-rank_few k = go (eqb k 20) (eqb k 22)
-  where
-    go : (c d : Bool) → cond c 2 (cond d 1 0) ≤ 2
-    go true d = omega arith
-    go false true = omega arith
-    go false false = omega arith
-
+-- the tag of a pair leaves room for 64 in its byte
 pub pair_tag : (k : ℕ) → is_pair k ≡ true → (19 ≤ k) × (k ≤ 22)
 unfolding is_pair
 pair_tag k h = go (eqb k 19) (eqb k 20) refl refl h

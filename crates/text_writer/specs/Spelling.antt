@@ -1,5 +1,5 @@
 -- How a term is written, by the tag of its field: where brackets are needed, and the bytes of each mark.
-use Rattle.std.specs.Prelude.{ℕ, Bool, false, cond, List, [], ◌∷◌, ◌++◌, eqb, ltb}
+use Rattle.std.specs.Prelude.{ℕ, zero, suc, ◌+◌, ◌/◌, ◌%◌, Bool, false, cond, List, [], ◌∷◌, ◌++◌, eqb, ltb}
 use Rattle.format.specs.Terms.{Term}
 use Rattle.notation.specs.Written.{decimal, marks_of, text_of}
 use Rattle.notation.specs.Signs.{is_pair, rank_tag}
@@ -34,3 +34,8 @@ leaf_text k v = cond (eqb k 17) (105 ∷ 100 ∷ []) (cond (eqb k 21) (60 ∷ 62
 -- the bytes of its field
 unfoldable pub leaf_size : (tag : ℕ) → ℕ
 leaf_size k = cond (eqb k 17) 3 (cond (eqb k 21) 3 5)
+
+-- so many of a number's lowest digits; all of them are its decimal form
+unfoldable pub low_digits : (count : ℕ) → ℕ → List ℕ
+low_digits zero v = []
+low_digits (suc n) v = low_digits n (v / 10) ++ ((48 + v % 10) ∷ [])

@@ -9,8 +9,9 @@ ghost use Rattle.entries.specs.Left.{left_in};
 ghost use Rattle.text_writer.specs.Writing.{writing_room};
 
 use crate::writing::write_term;
-use answers::{Answer, refusal, wrote};
-use files::terms::{TermFileRead, read_term_file};
+use answers::{Answer, File};
+use files::terms::read_term_file;
+use format::refusals::Cause;
 use words::{clear, copy_in};
 
 // The length of the work space: the text, and the stack behind it.
@@ -24,10 +25,10 @@ fn write_found(term: &[u8], work: &mut [u8], out: &mut [u8]) -> Answer
 {
     let len = write_term(term, work);
     if out.len() < len {
-        return refusal(26, 0, 0, 0);
+        return Answer::refused(Cause::OutputTooShort, File::Neither, 0, 0);
     }
     copy_in(out, 0, work, 0, len);
-    wrote(len, 0)
+    Answer::wrote(len, 0)
 }
 
 // The writing itself. While the file is read its fields wait where the text will stand.
@@ -36,10 +37,9 @@ fn write_within(term: &[u8], work: &mut [u8], out: &mut [u8]) -> Answer
     ensures answer { result ≡ (left_in out.old (write_text_outcome term.now)).answer }
     ensures out { out.new ≡ (left_in out.old (write_text_outcome term.now)).out }
 {
-    let read = read_term_file(term, work, 0);
-    match read {
-        TermFileRead::Refused(number, place) => refusal(number, 2, place, 0),
-        TermFileRead::Read => write_found(term, work, out),
+    match read_term_file(term, work, 0) {
+        Err(r) => Answer::refused(r.cause, File::Other, r.place, 0),
+        Ok(()) => write_found(term, work, out),
     }
 }
 
@@ -50,7 +50,7 @@ pub fn write_text(term: &[u8], work: &mut [u8], out: &mut [u8]) -> Answer
     ensures out { out.new ≡ (write_text term.now work.old out.old).out }
 {
     if work.len() < WORK {
-        return refusal(29, 0, 0, 0);
+        return Answer::refused(Cause::WorkTooShort, File::Neither, 0, 0);
     }
     let answer = write_within(term, work, out);
     clear(work);

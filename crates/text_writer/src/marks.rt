@@ -2,54 +2,45 @@
 ghost use Rattle.std.specs.Prelude.{◌≡◌, ◌∷◌, [], ◌+◌, ◌≤◌, ◌<◌, length};
 ghost use Rattle.std.proofs.lemmas.List.Edits.{sets};
 ghost use Rattle.notation.specs.Written.{decimal};
+ghost use Rattle.text_writer.specs.Spelling.{low_digits};
 
-// The digits of a value; tells how many.
+// How many digits a value has.
+fn count_digits(v: usize) -> usize
+    requires { v < 65536 }
+    ensures { (result ≤ 5) × (decimal v ≡ low_digits result v) }
+{
+    match v {
+        0..10 => 1,
+        10..100 => 2,
+        100..1000 => 3,
+        1000..10000 => 4,
+        _ => 5,
+    }
+}
+
+// The digits of a value, from the last to the first; tells how many.
 fn put_digits(v: usize, at: usize, out: &mut [u8]) -> usize
     requires { (v < 65536) × (at + 5 ≤ length out.old) }
-    ensures { (result ≡ length (decimal v)) × (out.new ≡ sets out.old at (decimal v)) }
+    ensures written { (result ≡ length (decimal v)) × (out.new ≡ sets out.old at (decimal v)) }
+    ensures few { result ≤ 5 }
 {
-    let d = v / 10;
-    let c = d / 10;
-    let b = c / 10;
-    let a = b / 10;
-    if v < 10 {
-        out[at] = (48 + v) as u8;
-        return 1;
+    let n = count_digits(v);
+    let mut rest = v;
+    for i in (0..n).rev() {
+        out[at + i] = b'0' + (rest % 10) as u8;
+        rest /= 10;
     }
-    if v < 100 {
-        out[at] = (48 + d) as u8;
-        out[at + 1] = (48 + v % 10) as u8;
-        return 2;
-    }
-    if v < 1000 {
-        out[at] = (48 + c) as u8;
-        out[at + 1] = (48 + d % 10) as u8;
-        out[at + 2] = (48 + v % 10) as u8;
-        return 3;
-    }
-    if v < 10000 {
-        out[at] = (48 + b) as u8;
-        out[at + 1] = (48 + c % 10) as u8;
-        out[at + 2] = (48 + d % 10) as u8;
-        out[at + 3] = (48 + v % 10) as u8;
-        return 4;
-    }
-    out[at] = (48 + a) as u8;
-    out[at + 1] = (48 + b % 10) as u8;
-    out[at + 2] = (48 + c % 10) as u8;
-    out[at + 3] = (48 + d % 10) as u8;
-    out[at + 4] = (48 + v % 10) as u8;
-    5
+    n
 }
 
 // A byte, and the digits of a value behind it; tells how many bytes they are.
 pub fn put_numbered(a: u8, v: usize, at: usize, out: &mut [u8]) -> usize
     requires { (v < 65536) × (at + 6 ≤ length out.old) }
-    ensures { (result ≡ length (a ∷ decimal v)) × (out.new ≡ sets out.old at (a ∷ decimal v)) }
+    ensures written { (result ≡ length (a ∷ decimal v)) × (out.new ≡ sets out.old at (a ∷ decimal v)) }
+    ensures few { result ≤ 6 }
 {
     out[at] = a;
-    let n = put_digits(v, at + 1, out);
-    n + 1
+    put_digits(v, at + 1, out) + 1
 }
 
 // Two bytes.
@@ -66,7 +57,7 @@ pub fn put_sign(b: u8, at: usize, out: &mut [u8])
     requires { at + 3 ≤ length out.old }
     ensures { out.new ≡ sets out.old at (32 ∷ b ∷ 32 ∷ []) }
 {
-    out[at] = 32;
+    out[at] = b' ';
     out[at + 1] = b;
-    out[at + 2] = 32;
+    out[at + 2] = b' ';
 }

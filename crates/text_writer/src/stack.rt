@@ -9,33 +9,27 @@ pub const STACK: usize = 28672;
 pub const FOLLOWED: u8 = 64;
 
 // The byte of a pair: its tag, and whether a sign follows it.
+#[tactic(auto, unfolding(crate::specs::Stack::pair_byte))]
 pub fn pair_byte(tag: u8, followed: bool) -> u8
     requires { tag < 64 }
     ensures { result ≡ pair_byte tag followed }
 {
-    if followed {
-        return tag + FOLLOWED;
-    }
-    tag
+    if followed { tag + FOLLOWED } else { tag }
 }
 
 // The tag of a pair's byte.
+#[tactic(auto, unfolding(crate::specs::Stack::tag_in))]
 pub fn tag_in(b: u8) -> u8
     ensures { result ≡ tag_in b }
 {
-    if FOLLOWED <= b {
-        return b - FOLLOWED;
-    }
-    b
+    if FOLLOWED <= b { b - FOLLOWED } else { b }
 }
 
 // Whether a bracket is to be closed next.
+#[tactic(auto, unfolding(crate::specs::Stack::bracket_on_top))]
 pub fn bracket_on_top(top: usize, work: &[u8]) -> bool
     requires { stack_place + top ≤ length work.now }
     ensures { result ≡ bracket_on_top work.now top }
 {
-    if top == 0 {
-        return false;
-    }
-    work[STACK + (top - 1)] == 0
+    0 < top && work[STACK + (top - 1)] == 0
 }

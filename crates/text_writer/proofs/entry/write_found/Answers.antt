@@ -2,6 +2,7 @@
 -- Assumes nothing.
 use mathlib.Core.Path.{ap, ◌∙◌}
 use native.Mathlib.Omega.{arith}
+use Rattle.format.specs.Refusals.{number}
 use Rattle.notation.specs.Written.{written}
 use Rattle.entries.specs.LentSpace.{Written}
 use Rattle.entries.proofs.LeftLaws.{no_room}
@@ -9,9 +10,10 @@ use Rattle.text_writer.proofs.EntryLaws.{text_few, copied}
 use Rattle.text_writer.proofs.entry.write_found.Goals as goal
 
 pub returns-then-out-len : goal.returns-then-out-len
+unfolding number
 returns-then-out-len c =
     let o = c.args.out.now in
-    let l = c.if-out-len.true in record { answer = (λ t st. c.refusal.ensures ∙ ap (λ (x : Written). x.answer) (no_room (written t) 0 o (omega (arith, (c.write_term-len.ensures t st).0, l)))); out = (λ t st. ap (λ (x : Written). x.out) (no_room (written t) 0 o (omega (arith, (c.write_term-len.ensures t st).0, l)))) }
+    let l = c.if-out-len.true in record { answer = (λ t st. c.refused.ensures ∙ ap (λ (x : Written). x.answer) (no_room (written t) 0 o (omega (arith, (c.write_term-len.ensures t st).0, l)))); out = (λ t st. ap (λ (x : Written). x.out) (no_room (written t) 0 o (omega (arith, (c.write_term-len.ensures t st).0, l)))) }
 
 pub copy_in-requires : goal.copy_in-requires
 copy_in-requires c =

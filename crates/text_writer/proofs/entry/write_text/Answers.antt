@@ -4,15 +4,16 @@ use mathlib.Core.Path.{ap, ◌∙◌}
 use Prim.Native.Nat.{ℕ}
 use native.Mathlib.Omega.{arith}
 use lib.ListN.{replicate}
+use Rattle.format.specs.Refusals.{number}
 use Rattle.entries.specs.Texts.{write_text_work, write_text_outcome, write_text}
 use Rattle.entries.proofs.LeftLaws.{unbegun_end, begun_end}
 use Rattle.text_writer.proofs.entry.write_text.Goals as goal
 
 pub returns-then-work-lt-WORK : goal.returns-then-work-lt-WORK
-unfolding write_text
+unfolding number write_text
 returns-then-work-lt-WORK c =
     let a = c.args in
-    let e = unbegun_end write_text_work a.work.now a.out.now (write_text_outcome a.term.now) _ (omega (arith, c.if-work-lt-WORK.true)) c.refusal.ensures in
+    let e = unbegun_end write_text_work a.work.now a.out.now (write_text_outcome a.term.now) _ (omega (arith, c.if-work-lt-WORK.true)) c.refused.ensures in
     record { answer = e.0; work = e.1.0; out = e.1.1 }
 
 pub returns : goal.returns

@@ -10,23 +10,23 @@ use Rattle.entries.specs.Left.{left_in}
 use Rattle.text_writer.proofs.EntryLaws.{refused_place, refused_file, found_file}
 use Rattle.text_writer.proofs.entry.write_within.Goals as goal
 
-pub refusal-requires : goal.refusal-requires
-refusal-requires c = (refused_place _ _ _ (sym c.read_term_file-read.ensures.value ∙ c.in-Refused.is), omega arith)
+pub refused-requires : goal.refused-requires
+refused-requires c = (refused_place _ _ (sym c.read_term_file.ensures.value ∙ c.in-Err.is), omega arith)
 
 pub write_found-requires : goal.write_found-requires
 write_found-requires c =
-    let f = found_file _ (sym c.read_term_file-read.ensures.value ∙ c.in-Read.is) in
-    (omega (arith, c.read_term_file-read.auto.work, c.requires), (f.term, f.stands))
+    let f = found_file _ (sym c.read_term_file.ensures.value ∙ c.in-Ok.is) in
+    (omega (arith, c.read_term_file.auto.work, c.requires), (f.term, f.stands))
 
-pub returns-in-Refused : goal.returns-in-Refused
-returns-in-Refused c =
+pub returns-in-Err : goal.returns-in-Err
+returns-in-Err c =
     let a = c.args in
-    let e = refused_file a.term.now a.out.now _ _ (sym c.read_term_file-read.ensures.value ∙ c.in-Refused.is) in
-    record { answer = c.refusal.ensures ∙ ap (λ (x : Written). x.answer) e; out = ap (λ (x : Written). x.out) e }
+    let e = refused_file a.term.now a.out.now _ (sym c.read_term_file.ensures.value ∙ c.in-Err.is) in
+    record { answer = c.refused.ensures ∙ ap (λ (x : Written). x.answer) e; out = ap (λ (x : Written). x.out) e }
 
-pub returns-in-Read : goal.returns-in-Read
-returns-in-Read c =
+pub returns-in-Ok : goal.returns-in-Ok
+returns-in-Ok c =
     let o = c.args.out.now in
-    let f = found_file _ (sym c.read_term_file-read.ensures.value ∙ c.in-Read.is) in
+    let f = found_file _ (sym c.read_term_file.ensures.value ∙ c.in-Ok.is) in
     let w = c.write_found.ensures in
     record { answer = w.answer f.term f.stands ∙ ap (λ (x : Outcome (List ℕ)). (left_in o x).answer) (sym f.outcome_is); out = w.out f.term f.stands ∙ ap (λ (x : Outcome (List ℕ)). (left_in o x).out) (sym f.outcome_is) }
