@@ -7,7 +7,8 @@ use Prim.Native.Nat.{ℕ, zero, suc, ◌+◌, ◌-◌, ◌<◌, ◌≤◌}
 use native.Mathlib.Omega.{arith}
 use native.Mathlib.Nat.{add-zero, add-suc, suc-add}
 use lib.Dec.{T, eqb, ltb, eqb→eq, ltb→lt}
-use lib.ListN.{get_or}
+use Rattle.std.specs.Prelude.{◌⊎◌, slice_index_or}
+use Rattle.std.proofs.Common.{inl, inr}
 use borrow.Author.Tests.{ne_eqb}
 use Rattle.format.specs.Tags.{Row, row, no_kind, any_length, rows, find_row, row_of, most_of, inner_of}
 
@@ -45,6 +46,24 @@ pub tested : (g h : ℕ → ℕ) (i n : ℕ) → T (each (λ k. eqb (g k) (h k))
 tested g h i n p t low high =
     let e : i + (t - i) ≡ t = omega arith in
     subst (λ (m : ℕ). g m ≡ h m) e (eqb→eq _ _ (from (λ k. eqb (g k) (h k)) n i p (t - i) (omega arith)))
+
+none_among : (rs : List Row) (t : ℕ) → T (every (λ r. ltb r.tag 34) rs) → 34 ≤ t → find_row rs t ≡ row t no_kind 0 0 0
+unfolding find_row
+none_among [] t p h = refl
+none_among (r ∷ rs) t p h =
+    let q : r.tag < 34 = ltb→lt _ _ (both_left (ltb r.tag 34) (every (λ r. ltb r.tag 34) rs) p) in
+    rw (ne_eqb t r.tag (λ e. omega arith)) (none_among rs t (both_right (ltb r.tag 34) (every (λ r. ltb r.tag 34) rs) p) h)
+
+-- a number past the last tag is no tag
+pub beyond : (t : ℕ) → 34 ≤ t → row_of t ≡ row t no_kind 0 0 0
+unfolding row_of rows
+beyond t h = none_among rows t tt h
+
+-- A table of the code has the column's entries: at each number below 34, and at 0 what a number past the last tag has. It is looked into at the number itself, if it is below 34, and else at 0.
+pub entry : {A : Type 0} (value : A → ℕ) (none : A) (table : List A) (column : ℕ → ℕ) → T (each (λ k. eqb (value (slice_index_or table k none)) (column k)) 0 34)
+    → ((t : ℕ) → 34 ≤ t → value (slice_index_or table 0 none) ≡ column t) → (t n : ℕ) → ((n ≡ t) × (t < 34)) ⊎ ((n ≡ 0) × (34 ≤ t)) → value (slice_index_or table n none) ≡ column t
+entry value none table column p past t n (inl b) = ap (λ (k : ℕ). value (slice_index_or table k none)) b.0 ∙ tested (λ k. value (slice_index_or table k none)) column 0 34 p t (omega arith) b.1
+entry value none table column p past t n (inr b) = ap (λ (k : ℕ). value (slice_index_or table k none)) b.0 ∙ past t b.1
 
 -- contents with inner terms may have any length
 abbrev free : Row → Bool

@@ -11,14 +11,12 @@ pub fn count_fields(bytes: &[u8], at: usize, end: usize) -> usize
     requires { (t : Term) × Stands bytes.now at t × (end ≡ at + size t) }
     ensures { (t : Term) → Stands bytes.now at t → end ≡ at + size t → result ≡ fields t }
 {
-    // Taken once: a constant table is stored anew at each look-up.
-    let steps = TERM_STEPS;
     let mut place = at;
     let mut count: usize = 0;
     while place < end {
         count += 1;
         let tag = bytes[place] as usize;
-        place += steps[tag - 16] as usize;
+        place += TERM_STEPS[tag - 16] as usize;
     }
     count
 }

@@ -1,5 +1,5 @@
-// Document 01, "Fourteen tags in all": a table with a row for each tag.
-ghost use Rattle.std.specs.Prelude.{◌≡◌};
+// Document 01, "Fourteen tags in all": constant tables by tag: where it may stand (its kind), the smallest and the greatest length of its contents, and the number of its inner terms.
+ghost use Rattle.std.specs.Prelude.{◌≡◌, ◌≤◌, ◌<◌, ◌⊎◌};
 ghost use Rattle.format.specs.Tags.{kind_of, least_of, most_of, inner_of};
 ghost use Rattle.format.specs.Kinds.{kind_number};
 
@@ -53,24 +53,11 @@ pub struct Row {
     pub inner: u8,
 }
 
-impl Row {
-    fn new(kind: Kind, least: u8, most: u16, inner: u8) -> Row
-        ensures { result ≡ record { kind = kind; least = least; most = most; inner = inner } }
-    {
-        Row {
-            kind,
-            least,
-            most,
-            inner,
-        }
-    }
-}
-
 // The greatest number that two length bytes hold.
 const ANY: u16 = 65535;
 
 // From the header of a term's field to the next header in the term: over the header and the values in front of the inner terms. For tags 16 to 24 alone, since who moves so knows that a term stands there.
-pub const TERM_STEPS: [u8; 9] = [
+pub static TERM_STEPS: [u8; 9] = [
     5, // 16
     3, // 17
     5, // 18
@@ -82,30 +69,122 @@ pub const TERM_STEPS: [u8; 9] = [
     5, // 24
 ];
 
-// The row of a tag, or of a number that is no tag. It is a match, since a constant array of rows would be stored anew at each look-up.
-#[tactic(auto, unfolding(crate::specs::Tags::rows, crate::specs::Tags::find_row, crate::specs::Tags::row_of, crate::specs::Tags::kind_of, crate::specs::Tags::least_of, crate::specs::Tags::most_of, crate::specs::Tags::inner_of))]
+// The tables have an entry for each number below this, those of no tag too.
+const NUMBERS: usize = 34;
+
+// Where a tag may stand.
+static KINDS: [Kind; NUMBERS] = [
+    Kind::NoTag,
+    Kind::Rule, // 1
+    Kind::Definition, // 2
+    Kind::GoalList, // 3
+    Kind::NoTag,
+    Kind::NoTag,
+    Kind::NoTag,
+    Kind::NoTag,
+    Kind::NoTag,
+    Kind::NoTag,
+    Kind::NoTag,
+    Kind::NoTag,
+    Kind::NoTag,
+    Kind::NoTag,
+    Kind::NoTag,
+    Kind::NoTag,
+    Kind::Hiproof, // 16
+    Kind::Hiproof, // 17
+    Kind::Hiproof, // 18
+    Kind::Hiproof, // 19
+    Kind::Hiproof, // 20
+    Kind::Hiproof, // 21
+    Kind::Tactic, // 22
+    Kind::Tactic, // 23
+    Kind::Tactic, // 24
+    Kind::NoTag,
+    Kind::NoTag,
+    Kind::NoTag,
+    Kind::NoTag,
+    Kind::NoTag,
+    Kind::NoTag,
+    Kind::NoTag,
+    Kind::Entry, // 32
+    Kind::Entry, // 33
+];
+
+// The fixed or smallest length of the contents.
+static LEAST: [u8; NUMBERS] = [
+    0, 4, // 1
+    2, // 2
+    0, // 3
+    0, 0, 0, 0, 0, 0, 0, 0, 0, 0, 0, 0, 2, // 16
+    0, // 17
+    2, // 18
+    0, // 19
+    0, // 20
+    0, // 21
+    0, // 22
+    2, // 23
+    2, // 24
+    0, 0, 0, 0, 0, 0, 0, 4, // 32
+    2, // 33
+];
+
+// The fixed or greatest length of the contents.
+static MOST: [u16; NUMBERS] = [
+    0, 20, // 1
+    ANY, // 2
+    ANY, // 3
+    0, 0, 0, 0, 0, 0, 0, 0, 0, 0, 0, 0, 2, // 16
+    0, // 17
+    ANY, // 18
+    ANY, // 19
+    ANY, // 20
+    0, // 21
+    ANY, // 22
+    2, // 23
+    2, // 24
+    0, 0, 0, 0, 0, 0, 0, 4, // 32
+    2, // 33
+];
+
+// The number of inner terms.
+static INNER: [u8; NUMBERS] = [
+    0, 0, // 1
+    1, // 2
+    0, // 3
+    0, 0, 0, 0, 0, 0, 0, 0, 0, 0, 0, 0, 0, // 16
+    0, // 17
+    1, // 18
+    2, // 19
+    2, // 20
+    0, // 21
+    2, // 22
+    0, // 23
+    0, // 24
+    0, 0, 0, 0, 0, 0, 0, 0, // 32
+    0, // 33
+];
+
+// Where a tag's entries are; those of 0 stand for all numbers past the last tag.
+fn entry_of(tag: u8) -> usize
+    ensures { ((result ≡ tag) × (tag < 34)) ⊎ ((result ≡ 0) × (34 ≤ tag)) }
+{
+    let n = tag as usize;
+    if n < NUMBERS { n } else { 0 }
+}
+
+// The row of a tag, or of a number that is no tag.
 pub fn row_of(tag: u8) -> Row
     ensures kind { kind_number result.kind ≡ kind_of tag }
     ensures least { result.least ≡ least_of tag }
     ensures most { result.most ≡ most_of tag }
     ensures inner { result.inner ≡ inner_of tag }
 {
-    match tag {
-        RULE_TAG => Row::new(Kind::Rule, 4, 20, 0),
-        DEFINITION_TAG => Row::new(Kind::Definition, 2, ANY, 1),
-        GOALS_TAG => Row::new(Kind::GoalList, 0, ANY, 0),
-        ATOMIC => Row::new(Kind::Hiproof, 2, 2, 0),
-        ID => Row::new(Kind::Hiproof, 0, 0, 0),
-        LABEL => Row::new(Kind::Hiproof, 2, ANY, 1),
-        SEQUENCE => Row::new(Kind::Hiproof, 0, ANY, 2),
-        TENSOR => Row::new(Kind::Hiproof, 0, ANY, 2),
-        EMPTY => Row::new(Kind::Hiproof, 0, 0, 0),
-        ALTERNATION => Row::new(Kind::Tactic, 0, ANY, 2),
-        ASSERTION => Row::new(Kind::Tactic, 2, 2, 0),
-        DEFINED => Row::new(Kind::Tactic, 2, 2, 0),
-        USE_TAG => Row::new(Kind::Entry, 4, 4, 0),
-        OPEN_TAG => Row::new(Kind::Entry, 2, 2, 0),
-        _ => Row::new(Kind::NoTag, 0, 0, 0),
+    let n = entry_of(tag);
+    Row {
+        kind: KINDS[n],
+        least: LEAST[n],
+        most: MOST[n],
+        inner: INNER[n],
     }
 }
 

@@ -46,8 +46,8 @@ overflow_sub-place c =
     let tag_is : OfTerm tag = counting_tag _ _ _ _ _ (omega (arith, c.loop-place-test.true)) c.loop-place.invariant in
     omega (arith, tag_is)
 
-pub bounds-steps-tag : goal.bounds-steps-tag
-bounds-steps-tag c =
+pub bounds-tag : goal.bounds-tag
+bounds-tag c =
     let tag : ℕ = get_or c.args.bytes.now c.loop-place.place 0 in
     let tag_is : OfTerm tag = counting_tag _ _ _ _ _ (omega (arith, c.loop-place-test.true)) c.loop-place.invariant in
     omega (arith, tag_is)
