@@ -1,5 +1,7 @@
 -- One law for each way in which a term without inner terms returns, by the cases of what it does to nodes.
 -- Assumes nothing.
+use Rattle.std.specs.Prelude.{Ok, Err}
+use Rattle.std.specs.Prelude as std
 use mathlib.Core.Path.{◌≡◌, refl, sym, subst, subst₂, ap, ◌∙◌}
 use mathlib.Core.Bool.{Bool, true, false}
 use mathlib.Core.Option.{none, some}
@@ -15,7 +17,8 @@ use Rattle.words.proofs.WordLaws.{word_same}
 use Rattle.words.proofs.KeptLaws.{kept_put, kept_same, kept_both}
 use Rattle.format.specs.declared.values.RuleName.{RuleName}
 use Rattle.format.specs.declared.values.Goal.{Goal}
-use Rattle.format.specs.Refusals.{number, RuleMissing, GoalCountWrong}
+use Rattle.format.specs.declared.refusals.Cause.TheVariants.{RuleMissing, GoalCountWrong}
+use Rattle.format.specs.declared.refusals.Cause.{Cause}
 use Rattle.format.specs.Results.{Result, gives, refused}
 use Rattle.format.specs.Values.{rule_name, goal}
 use Rattle.format.specs.Terms.{Term, atomic, id, label, sequence, tensor, empty, alternation, assert, defined}
@@ -35,7 +38,6 @@ use Rattle.walks.specs.Walks.{Out, out, on_one_value}
 use Rattle.walks.specs.Loops.{placed, Leaf, Acted}
 use Rattle.walks.proofs.ValueLaws.{length_values, values_below, one_value}
 use Rattle.nodes.specs.declared.leaf.Taken.{Taken}
-use Rattle.nodes.specs.declared.leaf.Taken.TheVariants as A
 use Rattle.nodes.specs.Space.{most_nodes, cell_place, cells_end, cells_of, put_use, put_opens, put_range, planted, grown}
 use Rattle.nodes.specs.NodeActs.{use_found, use_node, on_no_node, node_act}
 use Rattle.nodes.specs.Leaves.{LeafRoom, NodeRoom, act_in, Fitting, Takes}
@@ -56,17 +58,17 @@ some_node p A [] z = absurd (z refl)
 some_node p A (n ∷ ns) z = refl
 
 module _ (T : Table) (at : ℕ) (w : List ℕ) (n : Next) (next : ℕ) where
-  pub atomic_count : (a : RuleName) → (n.count ≡ 1 → ⊥) → Takes T (atomic a) at w w w n next (A.Refused 34)
-  unfolding Takes node_act number
-  atomic_count a z = (GoalCountWrong, refl, not_one at _ (values_at w n.top n.count) (λ e. z (sym (length_values w n.top n.count) ∙ e)), refl)
+  pub atomic_count : (a : RuleName) → (n.count ≡ 1 → ⊥) → Takes T (atomic a) at w w w n next (Err GoalCountWrong)
+  unfolding Takes node_act
+  atomic_count a z = (not_one at _ (values_at w n.top n.count) (λ e. z (sym (length_values w n.top n.count) ∙ e)), refl)
 
-  pub id_count : (n.count ≡ 1 → ⊥) → Takes T id at w w w n next (A.Refused 34)
-  unfolding Takes node_act number
-  id_count z = (GoalCountWrong, refl, not_one at _ (values_at w n.top n.count) (λ e. z (sym (length_values w n.top n.count) ∙ e)), refl)
+  pub id_count : (n.count ≡ 1 → ⊥) → Takes T id at w w w n next (Err GoalCountWrong)
+  unfolding Takes node_act
+  id_count z = (not_one at _ (values_at w n.top n.count) (λ e. z (sym (length_values w n.top n.count) ∙ e)), refl)
 
-  pub empty_count : (n.count ≡ 0 → ⊥) → Takes T empty at w w w n next (A.Refused 34)
-  unfolding Takes node_act number
-  empty_count z = (GoalCountWrong, refl, some_node at _ (values_at w n.top n.count) (λ e. z (sym (length_values w n.top n.count) ∙ e)), refl)
+  pub empty_count : (n.count ≡ 0 → ⊥) → Takes T empty at w w w n next (Err GoalCountWrong)
+  unfolding Takes node_act
+  empty_count z = (some_node at _ (values_at w n.top n.count) (λ e. z (sym (length_values w n.top n.count) ∙ e)), refl)
 
 -- ---- an atomic
 
@@ -109,9 +111,9 @@ module _ (T : Table) (a : RuleName) (at : ℕ) (w : List ℕ) (n : Next) (next :
         let m : length A₀ + 7 < most_nodes = omega (arith, nodeFits.1, length_cells next w index_end) in
         rw (one_value w n.top n.count one, lt-ltb node (length A₀) l, lt-ltb (length A₀ + 7) most_nodes m, goal_there there)
 
-    pub atomic_missing : find_rule T a goal_here ≡ none → Takes T (atomic a) at w w w n next (A.Refused 20)
-    unfolding Takes use_found number
-    atomic_missing e = (RuleMissing, refl, looked_up_lem ∙ ap (use_found a at A₀ node) e, refl)
+    pub atomic_missing : find_rule T a goal_here ≡ none → Takes T (atomic a) at w w w n next (Err RuleMissing)
+    unfolding Takes use_found
+    atomic_missing e = (looked_up_lem ∙ ap (use_found a at A₀ node) e, refl)
 
     module _ (number : ℕ) (h : List Goal) (found : find_rule T a goal_here ≡ some (found_rule number h)) (few : length h ≤ 8) (room : LeafRoom w n 1) where
       abbrev k : ℕ
@@ -166,7 +168,7 @@ module _ (T : Table) (a : RuleName) (at : ℕ) (w : List ℕ) (n : Next) (next :
       grown_gives = record { comes = ap (node_act T (atomic a) at A₀) same_values ∙ outcome; used_is = refl; few = omega (arith, one); kept = kept_stacks }
 
       -- the same in the code's words
-      pub atomic_gives : (w' : List ℕ) (i j : ℕ) → i ≡ node → j ≡ a.0 → w' ≡ grown w i j next h n.low → (c : ℕ) → length h ≡ c → Takes T (atomic a) at w (planted w i j next h) w' n next (A.Gives c 1 (next + c))
+      pub atomic_gives : (w' : List ℕ) (i j : ℕ) → i ≡ node → j ≡ a.0 → w' ≡ grown w i j next h n.low → (c : ℕ) → length h ≡ c → Takes T (atomic a) at w (planted w i j next h) w' n next (Ok (record { given = c; used = 1; next = next + c }))
       unfolding Takes
       atomic_gives w' i j p q made c l =
           subst (Gave (planted w i j next h) w') l
@@ -175,7 +177,7 @@ module _ (T : Table) (a : RuleName) (at : ℕ) (w : List ℕ) (n : Next) (next :
 
 -- ---- an id
 
-pub id_gives : (T : Table) (at : ℕ) (w w' : List ℕ) (n : Next) (next v : ℕ) → LeafRoom w n 0 → n.count ≡ 1 → v ≡ word w n.top → w' ≡ put_word w n.low v → Takes T id at w w w' n next (A.Gives 1 0 next)
+pub id_gives : (T : Table) (at : ℕ) (w w' : List ℕ) (n : Next) (next v : ℕ) → LeafRoom w n 0 → n.count ≡ 1 → v ≡ word w n.top → w' ≡ put_word w n.low v → Takes T id at w w w' n next (Ok (record { given = 1; used = 0; next = next }))
 unfolding Takes node_act on_one_value atomics
 id_gives T at w w' n next v room one e made = rw made (record {
   comes = rw (cells_above w x n.low (n.top + n.count * 2) next k (omega (arith, room.below)), one_value w n.top n.count one, one_value x n.low 1 refl, word_same w n.low v (omega (arith, room.apart, room.below, room.space)), e);
@@ -192,7 +194,7 @@ id_gives T at w w' n next v room one e made = rw made (record {
 
 -- ---- empty
 
-pub empty_gives : (T : Table) (at : ℕ) (w : List ℕ) (n : Next) (next : ℕ) → n.count ≡ 0 → Takes T empty at w w w n next (A.Gives 0 0 next)
+pub empty_gives : (T : Table) (at : ℕ) (w : List ℕ) (n : Next) (next : ℕ) → n.count ≡ 0 → Takes T empty at w w w n next (Ok (record { given = 0; used = 0; next = next }))
 unfolding Takes node_act on_no_node atomics goals_at
 empty_gives T at w n next z = record { comes = rw z; used_is = refl; few = omega arith; kept = kept_same w n.low (n.top + n.count * 2) }
 
@@ -200,17 +202,17 @@ empty_gives T at w n next z = record { comes = rw z; used_is = refl; few = omega
 
 -- no term without inner terms that is none of the three can take its nodes
 module _ (T : Table) (at : ℕ) (w : List ℕ) (n : Next) (next : ℕ) (s : List ℕ) where
-  pub other_refused : (get_or s at 0 ≡ 16 → ⊥) → (get_or s at 0 ≡ 17 → ⊥) → (get_or s at 0 ≡ 21 → ⊥) → Leaf s at → (t : Term) → Stands s at t → Takes T t at w w w n next (A.Refused 34)
-  unfolding Takes node_act number tag_of
+  pub other_refused : (get_or s at 0 ≡ 16 → ⊥) → (get_or s at 0 ≡ 17 → ⊥) → (get_or s at 0 ≡ 21 → ⊥) → Leaf s at → (t : Term) → Stands s at t → Takes T t at w w w n next (Err GoalCountWrong)
+  unfolding Takes node_act tag_of
   other_refused a b c l (atomic x) st = absurd (a (known s at (atomic x) st).tag_is)
   other_refused a b c l id st = absurd (b (known s at id st).tag_is)
   other_refused a b c l (label x t) st = absurd (l.0 (known s at (label x t) st).tag_is)
   other_refused a b c l (sequence t u) st = absurd (l.1 (known s at (sequence t u) st).tag_is)
   other_refused a b c l (tensor t u) st = absurd (l.2 (known s at (tensor t u) st).tag_is)
   other_refused a b c l empty st = absurd (c (known s at empty st).tag_is)
-  other_refused a b c l (alternation t u) st = (GoalCountWrong, refl, refl, refl)
-  other_refused a b c l (assert γ) st = (GoalCountWrong, refl, refl, refl)
-  other_refused a b c l (defined x) st = (GoalCountWrong, refl, refl, refl)
+  other_refused a b c l (alternation t u) st = (refl, refl)
+  other_refused a b c l (assert γ) st = (refl, refl)
+  other_refused a b c l (defined x) st = (refl, refl)
 
   -- an atomic by the name that stands in the file
   abbrev named : RuleName
@@ -240,7 +242,7 @@ module _ (T : Table) (at : ℕ) (w : List ℕ) (n : Next) (next : ℕ) (s : List
   unfolding atomics
   some_id e t st r = by_tag s at (λ t. LeafRoom w n (atomics t) → LeafRoom w n 0) 17 (λ r. r) e t st r
 
-  module _ (v w' : List ℕ) (r : Taken) where
+  module _ (v w' : List ℕ) (r : std.Result Taken Cause) where
     pub atomic_takes : get_or s at 0 ≡ 16 → Takes T (atomic named) at w v w' n next r → (t : Term) → Stands s at t → Takes T t at w v w' n next r
     atomic_takes e k = by_tag s at (λ t. Takes T t at w v w' n next r) 16 (λ a y. subst (λ (x : ℕ). Takes T (atomic (rule_name x)) at w v w' n next r) y.value_is k) e
 

@@ -1,8 +1,10 @@
 -- What a term without inner terms comes to in the work space: the cells made so far are the first ones behind the index, the nodes taken lie from `top` on and those given from `low` on.
-use Rattle.std.specs.Prelude.{ℕ, ◌+◌, ◌*◌, ◌≤◌, ◌<◌, ◌≡◌, List, length}
+use Rattle.std.specs.Prelude.{ℕ, ◌+◌, ◌*◌, ◌≤◌, ◌<◌, ◌≡◌, List, length, Ok, Err}
+use Rattle.std.specs.Prelude as std
 use Rattle.words.specs.Word.{word}
 use Rattle.words.specs.Kept.{Kept}
-use Rattle.format.specs.Refusals.{Cause, number, InputTooLong}
+use Rattle.format.specs.declared.refusals.Cause.{Cause}
+use Rattle.format.specs.declared.refusals.Cause.TheVariants.{InputTooLong}
 use Rattle.format.specs.Results.{Result, refused}
 use Rattle.format.specs.Terms.{Term}
 use Rattle.tables.specs.Tables.{Table}
@@ -14,7 +16,6 @@ use Rattle.walks.specs.Values.{values_at}
 use Rattle.walks.specs.Walks.{Out}
 use Rattle.walks.specs.Loops.{placed, Acted}
 use Rattle.nodes.specs.declared.leaf.Taken.{Taken}
-use Rattle.nodes.specs.declared.leaf.Taken.TheVariants as A
 use Rattle.nodes.specs.Space.{most_nodes, cells_end, cells_of}
 use Rattle.nodes.specs.NodeActs.{node_act}
 
@@ -40,7 +41,7 @@ Fitting T t at w n next = act_in T t at w n next ≡ refused InputTooLong at →
 abbrev pub Through : List ℕ → (List ℕ → Type 0) → Type 0
 Through w P = (between : List ℕ) × Kept w between index_end cells_end × P between
 
--- the code's answer: the refusal's number, at the term's place; or the term wrote on the stacks, and so many cells are made
-unfoldable pub Takes : Table → Term → (at : ℕ) → (w between w' : List ℕ) → Next → (next : ℕ) → Taken → Type 0
-Takes T t at w v w' n next (A.Refused k) = (c : Cause) × (number c ≡ k) × (act_in T t at w n next ≡ refused c at) × (w' ≡ w)
-Takes T t at w v w' n next (A.Gives given uses made) = Acted (node_act T) (cells_of w next) (cells_of w' made) v w' (placed n at) t given uses
+-- the code's answer: refused at the term's place; or the term wrote on the stacks, and so many cells are made
+unfoldable pub Takes : Table → Term → (at : ℕ) → (w between w' : List ℕ) → Next → (next : ℕ) → std.Result Taken Cause → Type 0
+Takes T t at w v w' n next (Err c) = (act_in T t at w n next ≡ refused c at) × (w' ≡ w)
+Takes T t at w v w' n next (Ok r) = Acted (node_act T) (cells_of w next) (cells_of w' r.next) v w' (placed n at) t r.given r.used

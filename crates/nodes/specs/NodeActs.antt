@@ -2,7 +2,7 @@
 use Rattle.std.specs.Prelude.{ℕ, ◌+◌, Bool, cond, ◌&&◌, List, [], ◌∷◌, ltb, length}
 use Rattle.std.proofs.Math.Option.{Option, none, some}
 use Rattle.format.specs.declared.values.RuleName.{RuleName}
-use Rattle.format.specs.Refusals.{RuleMissing, GoalCountWrong, InputTooLong}
+use Rattle.format.specs.declared.refusals.Cause.TheVariants.{RuleMissing, GoalCountWrong, InputTooLong}
 use Rattle.format.specs.Results.{Result, gives, refused}
 use Rattle.format.specs.Terms.{atomic, id, label, sequence, tensor, empty, alternation, assert, defined}
 use Rattle.tables.specs.Tables.{Table}

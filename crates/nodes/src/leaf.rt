@@ -15,18 +15,20 @@ ghost use Rattle.nodes.specs.Space.{most_nodes, cells_end, grown};
 ghost use Rattle.nodes.specs.Leaves.{LeafRoom, NodeRoom, Fitting, Through, Takes};
 
 use crate::cells::{CELLS, put_opens, put_range, put_use};
-use format::values::{RuleName, goal_at, rule_name_at};
+use format::refusals::Cause;
+use format::tags::{ATOMIC, EMPTY, ID};
+use format::values::{RuleName, value_at};
 use index::lookup::find_rule;
 use input_arities::layout::ARITIES_END;
-use tables::lookup::RuleFound;
 use walks::state::Next;
 use words::{load16, store16};
 
-// What such a term comes to: the number of the refusal; or the number of nodes that it gives, that of its uses, and the first node that is free behind it.
+// What such a term comes to: the number of nodes that it gives, that of its uses, and the first node that is free behind it.
 #[derive(Clone, Copy)]
-pub enum Taken {
-    Refused(u8),
-    Gives(usize, usize, usize),
+pub struct Taken {
+    pub given: usize,
+    pub used: usize,
+    pub next: usize,
 }
 
 // A node becomes a use; its premises, so many from a place of the table on, become new nodes, which are given.
@@ -57,48 +59,55 @@ fn use_rule(
     work: &mut [u8],
     n: Next,
     next: usize,
-) -> Taken
+) -> Result<Taken, Cause>
     requires { ((T : Table) × TableStands table.now first T) × RulesIndexed table.now first work.old arities_end × (at + 4 < length proof.now) × LeafRoom work.old n 1 × NodeRoom work.old n next }
     ensures { Through work.old (λ (v : List ℕ). (T : Table) → TableStands table.now first T → Takes T (atomic (rule_name (word proof.now (at + 3)))) at work.old v work.new n next result) }
 {
     if n.count != 1 {
-        return Taken::Refused(34);
+        return Err(Cause::GoalCountWrong);
     }
     let node = load16(work, n.top) as usize;
-    let name = rule_name_at(proof, at + 3);
-    let goal = goal_at(work, CELLS + node * 8);
+    let name = value_at(proof, at + 3);
+    let goal = value_at(work, CELLS + node * 8);
     let found = find_rule(table, first, work, ARITIES_END, name, goal);
-    match found {
-        RuleFound::Missing => Taken::Refused(20),
-        RuleFound::Rule(_, place, count) => {
-            let made = next + count;
-            grow(work, node, name, next, table, place, count, n.low);
-            Taken::Gives(count, 1, made)
-        }
-    }
+    let rule = found.ok_or(Cause::RuleMissing)?;
+    grow(work, node, name, next, table, rule.place, rule.count, n.low);
+    Ok(Taken {
+        given: rule.count,
+        used: 1,
+        next: next + rule.count,
+    })
 }
 
 // An id: one node, given back.
-fn keep_node(work: &mut [u8], n: Next, next: usize) -> Taken
+fn keep_node(work: &mut [u8], n: Next, next: usize) -> Result<Taken, Cause>
     requires { LeafRoom work.old n 0 }
     ensures { (T : Table) (at : ℕ) → Takes T id at work.old work.old work.new n next result }
 {
     if n.count != 1 {
-        return Taken::Refused(34);
+        return Err(Cause::GoalCountWrong);
     }
     let node = load16(work, n.top);
     store16(work, n.low, node);
-    Taken::Gives(1, 0, next)
+    Ok(Taken {
+        given: 1,
+        used: 0,
+        next,
+    })
 }
 
 // Empty: no node, and none given.
-fn take_nothing(n: Next, next: usize) -> Taken
+fn take_nothing(n: Next, next: usize) -> Result<Taken, Cause>
     ensures { (T : Table) (at : ℕ) (w : List ℕ) → Takes T empty at w w w n next result }
 {
     if n.count != 0 {
-        return Taken::Refused(34);
+        return Err(Cause::GoalCountWrong);
     }
-    Taken::Gives(0, 0, next)
+    Ok(Taken {
+        given: 0,
+        used: 0,
+        next,
+    })
 }
 
 // A term that is no label, no sequence and no tensor takes its nodes.
@@ -110,19 +119,14 @@ pub fn act(
     work: &mut [u8],
     n: Next,
     next: usize,
-) -> Taken
+) -> Result<Taken, Cause>
     requires { ((T : Table) × (t : Term) × TableStands table.now first T × Stands proof.now at t × LeafRoom work.old n (atomics t) × Fitting T t at work.old n next) × RulesIndexed table.now first work.old arities_end × Leaf proof.now at }
     ensures { Through work.old (λ (v : List ℕ). (T : Table) (t : Term) → TableStands table.now first T → Stands proof.now at t → Takes T t at work.old v work.new n next result) }
 {
-    let tag = proof[at];
-    if tag == 16 {
-        return use_rule(table, first, proof, at, work, n, next);
+    match proof[at] {
+        ATOMIC => use_rule(table, first, proof, at, work, n, next),
+        ID => keep_node(work, n, next),
+        EMPTY => take_nothing(n, next),
+        _ => Err(Cause::GoalCountWrong),
     }
-    if tag == 17 {
-        return keep_node(work, n, next);
-    }
-    if tag == 21 {
-        return take_nothing(n, next);
-    }
-    Taken::Refused(34)
 }

@@ -1,5 +1,6 @@
 -- A sequence or a tensor begins: it waits for its left term, which is next.
 -- Assumes nothing.
+use Rattle.std.specs.Prelude.{Ok}
 use mathlib.Core.Path.{◌≡◌, refl, sym, subst, ap, ap₂, ◌∙◌}
 use mathlib.Core.Logic.{inl, inr}
 use mathlib.Core.List.{List, ◌∷◌}
@@ -12,8 +13,8 @@ use Rattle.words.specs.Kept.{Kept}
 use Rattle.words.proofs.WordLaws.{length-put_word, word_same, word_other}
 use Rattle.words.proofs.KeptLaws.{kept_put, kept_same, kept_both}
 use Rattle.format.specs.Limits.{most_bytes}
-use Rattle.format.specs.Refusals.{number, GoalsTooFew}
-use Rattle.format.specs.Results.{and_then}
+use Rattle.format.specs.declared.refusals.Cause.TheVariants.{GoalsTooFew}
+use Rattle.format.specs.Results.{and_then, refused_at}
 use Rattle.format.specs.Terms.{Term, sequence, tensor, size, fields}
 use Rattle.format.specs.Standing.{Stands}
 use Rattle.format.proofs.StandsLaws.{known}
@@ -173,39 +174,37 @@ module _ {C : Type 0} (act : Act C) (x : Aim C) (A : List C) (s w : List ℕ) (n
   tensor_fits b e = by_tag s n.at (λ t. B t b.1 → Fits s w n × (n.arity + 2 ≤ arities_end)) 20
       (λ a c y q. (fits (tensor a c) b.1 q (two_fields a c) (omega (arith, y.first_size, y.second_size)), (ahead_first w n.arity (input_arity a) (arities a (arities c (later b.1))) q.ahead).2)) e b.0 b.2.stands b.2
 
-  pub sequence_pushed : (b : Begins act x A s w n) → get_or s n.at 0 ≡ 19 → (w' : List ℕ) (v : ℕ) → w' ≡ put_frame w n.frames n.at v → Steps act x A s w w' (n.at + 1) (U.Begin (left_of n n.count n.arity))
+  pub sequence_pushed : (b : Begins act x A s w n) → get_or s n.at 0 ≡ 19 → (w' : List ℕ) (v : ℕ) → w' ≡ put_frame w n.frames n.at v → Steps act x A s w w' (n.at + 1) (Ok (U.Begin (left_of n n.count n.arity)))
   unfolding Turned
   sequence_pushed b e w' v st =
       let fit = sequence_fits b e in
       record {
-        turned = by_tag s n.at (λ t. B t b.1 → Turned act x A s w' (n.at + 1) (U.Begin (left_of n n.count n.arity))) 19
+        turned = by_tag s n.at (λ t. B t b.1 → Turned act x A s w' (n.at + 1) (Ok (U.Begin (left_of n n.count n.arity)))) 19
             (λ a c y q. ((a, sequence_left c (n.at + 3 + size a) ∷ b.1, sequence_begun w' b.1 fit v st a c e q), omega arith)) e b.0 b.2.stands b.2;
         kept = wide w' b.1 fit v st;
       }
 
   module _ (b : Begins act x A s w n) (e : get_or s n.at 0 ≡ 20) (share : ℕ) (is : share ≡ word w n.arity) where
-    pub tensor_pushed : share ≤ n.count → (w' : List ℕ) → w' ≡ put_frame w n.frames n.at (n.top + n.count * 2) → Steps act x A s w w' (n.at + 1) (U.Begin (left_of n share (n.arity + 2)))
+    pub tensor_pushed : share ≤ n.count → (w' : List ℕ) → w' ≡ put_frame w n.frames n.at (n.top + n.count * 2) → Steps act x A s w w' (n.at + 1) (Ok (U.Begin (left_of n share (n.arity + 2))))
     unfolding Turned
     tensor_pushed cov w' st =
         let fit = (tensor_fits b e).0 in
         record {
-          turned = by_tag s n.at (λ t. B t b.1 → Turned act x A s w' (n.at + 1) (U.Begin (left_of n share (n.arity + 2)))) 20
+          turned = by_tag s n.at (λ t. B t b.1 → Turned act x A s w' (n.at + 1) (Ok (U.Begin (left_of n share (n.arity + 2))))) 20
               (λ a c y q. ((a, tensor_left n.at c (n.at + 3 + size a) (values_at w' (n.top + share * 2) (n.count - share)) ∷ b.1, tensor_begun w' b.1 fit _ st share cov a c e is refl q), omega arith)) e b.0 b.2.stands b.2;
           kept = wide w' b.1 fit _ st;
         }
 
-    few : (a c : Term) (f : List Waiting) → n.count < share → B (tensor a c) f → Turned act x A s w (n.at + 1) (U.Refused 35 n.at)
-    unfolding Turned walk_of arities number
+    few : (a c : Term) (f : List Waiting) → n.count < share → B (tensor a c) f → Turned act x A s w (n.at + 1) (refused_at GoalsTooFew n.at)
+    unfolding Turned walk_of arities
     few a c f h q =
         let y = ahead_first w n.arity (input_arity a) (arities a (arities c (later f))) q.ahead in (
-          GoalsTooFew,
-          refl,
           q.same ∙ ap (resumed act f) (rw (length_values w n.top n.count, ← (is ∙ y.0), lt-ltb n.count share h)) ∙ resumed_refused act f GoalsTooFew n.at,
           omega (arith, (known s n.at (tensor a c) q.stands).inside),
         )
 
-    pub tensor_few : n.count < share → Steps act x A s w w (n.at + 1) (U.Refused 35 n.at)
+    pub tensor_few : n.count < share → Steps act x A s w w (n.at + 1) (refused_at GoalsTooFew n.at)
     tensor_few h = record {
-      turned = by_tag s n.at (λ t. B t b.1 → Turned act x A s w (n.at + 1) (U.Refused 35 n.at)) 20 (λ a c y q. few a c b.1 h q) e b.0 b.2.stands b.2;
+      turned = by_tag s n.at (λ t. B t b.1 → Turned act x A s w (n.at + 1) (refused_at GoalsTooFew n.at)) 20 (λ a c y q. few a c b.1 h q) e b.0 b.2.stands b.2;
       kept = kept_same w _ _;
     }

@@ -1,5 +1,7 @@
 -- What the loops over `begin` and `resume` need besides: a term that begins without its labels, a term that acts and ends, a write behind the arities, and the walk's start.
 -- Assumes nothing.
+use Rattle.std.specs.Prelude.{Ok, Err}
+use Rattle.std.specs.Prelude as std
 use mathlib.Core.Path.{◌≡◌, refl, sym, subst, ap, ◌∙◌}
 use mathlib.Core.Logic.{inl, inr}
 use mathlib.Core.Bool.{true, false}
@@ -10,8 +12,10 @@ use lib.ListN.{length, get_or}
 use Rattle.words.specs.Kept.{Kept}
 use Rattle.words.proofs.KeptLaws.{kept_same, kept_both}
 use Rattle.format.specs.Limits.{most_bytes, most_term_fields, most_goals}
-use Rattle.format.specs.Refusals.{Cause, number, GoalCountWrong}
-use Rattle.format.specs.Results.{refused}
+use Rattle.format.specs.declared.refusals.Cause.{Cause}
+use Rattle.format.specs.declared.refusals.Cause.TheVariants.{GoalCountWrong}
+use Rattle.format.specs.declared.refusals.Refusal.{Refusal}
+use Rattle.format.specs.Results.{refused, refused_at}
 use Rattle.format.specs.Terms.{Term, atomic, id, label, sequence, tensor, empty, alternation, assert, defined, size, fields}
 use Rattle.format.specs.Standing.{Stands}
 use Rattle.format.proofs.StandsLaws.{tag_of, known}
@@ -71,14 +75,13 @@ module _ {C : Type 0} (act : Act C) (x : Aim C) (A : List C) (s w : List ℕ) (n
   bare_no_label b at e h =
       bare_tag b.0 (sym (known s (bare_at n.at b.0) (bare b.0) (bare_stands s b.0 n.at b.2.stands)).tag_is ∙ ap (λ (i : ℕ). get_or s i 0) (sym e) ∙ h)
 
-  refused_with : (t : Term) (f : List Waiting) (c : Cause) (k p : ℕ) → number c ≡ k → p ≤ length s → BeginsWith act x A s w n t f → walk_of act t n.at A (values_at w n.top n.count) ≡ refused c p → (w' : List ℕ) (at : ℕ) → Turned act x A s w' at (U.Refused k p)
+  refused_with : (t : Term) (f : List Waiting) (c : Cause) (p : ℕ) → p ≤ length s → BeginsWith act x A s w n t f → walk_of act t n.at A (values_at w n.top n.count) ≡ refused c p → (w' : List ℕ) (at : ℕ) → Turned act x A s w' at (refused_at c p)
   unfolding Turned
-  refused_with t f c k p m l b e w' at = (c, m, b.same ∙ ap (resumed act f) e ∙ resumed_refused act f c p, l)
+  refused_with t f c p l b e w' at = (b.same ∙ ap (resumed act f) e ∙ resumed_refused act f c p, l)
 
-  pub label_stops : (b : Begins act x A s w n) → label_count_wrong b.0 n.count ≡ true → (at : ℕ) → Steps act x A s w w at (U.Refused 34 n.at)
-  unfolding number
+  pub label_stops : (b : Begins act x A s w n) → label_count_wrong b.0 n.count ≡ true → (at : ℕ) → Steps act x A s w w at (refused_at GoalCountWrong n.at)
   label_stops b e at = record {
-    turned = refused_with b.0 b.1 GoalCountWrong 34 n.at refl (omega (arith, (known s n.at b.0 b.2.stands).inside)) b.2 (label_refused act A _ n.count (length_values w n.top n.count) b.0 n.at e) w at;
+    turned = refused_with b.0 b.1 GoalCountWrong n.at (omega (arith, (known s n.at b.0 b.2.stands).inside)) b.2 (label_refused act A _ n.count (length_values w n.top n.count) b.0 n.at e) w at;
     kept = kept_same w _ _;
   }
 
@@ -102,8 +105,8 @@ module _ {C : Type 0} (act : Act C) (x : Aim C) (A : List C) (s w : List ℕ) (n
   leaf-arities : (t : Term) (xs : List ℕ) → Stands s n.at t → Leaf s n.at → arities t xs ≡ xs
   leaf-arities t xs st l = let e = (known s n.at t st).tag_is in no_arities t xs (λ h. l.0 (e ∙ h)) (λ h. l.1 (e ∙ h)) (λ h. l.2 (e ∙ h))
 
-  pub leaf_refused : (b : Begins act x A s w n) → Leaf s n.at → (c : Cause) (k p : ℕ) → number c ≡ k → p ≤ length s → act b.0 n.at A (values_at w n.top n.count) ≡ refused c p → (w' : List ℕ) (at : ℕ) → Turned act x A s w' at (U.Refused k p)
-  leaf_refused b l c k p m h e w' at = refused_with b.0 b.1 c k p m h b.2 (leaf_acts b.0 _ b.2.stands l ∙ e) w' at
+  pub leaf_refused : (b : Begins act x A s w n) → Leaf s n.at → (c : Cause) (p : ℕ) → p ≤ length s → act b.0 n.at A (values_at w n.top n.count) ≡ refused c p → (w' : List ℕ) (at : ℕ) → Turned act x A s w' at (refused_at c p)
+  leaf_refused b l c p h e w' at = refused_with b.0 b.1 c p h b.2 (leaf_acts b.0 _ b.2.stands l ∙ e) w' at
 
   gave_with : (t : Term) (f : List Waiting) → BeginsWith act x A s w n t f → Leaf s n.at → (A' : List C) (w' : List ℕ) (k u : ℕ) → Acted act A A' w w' n t k u → (at : ℕ) → n.at + size t ≡ at
       → GaveWith act x A' s w' at n.low k (n.top + n.count * 2) n.frames n.arity (n.uses + u) f
@@ -146,14 +149,14 @@ module _ {C : Type 0} (act : Act C) (x : Aim C) (A : List C) (s w : List ℕ) (n
 
 module _ {C : Type 0} (act : Act C) (x : Aim C) (A : List C) (s : List ℕ) where
   -- the next term is behind an earlier place too
-  pub turned-later : (w : List ℕ) (at at' : ℕ) (r : Turn) → at' ≤ at → Turned act x A s w at r → Turned act x A s w at' r
+  pub turned-later : (w : List ℕ) (at at' : ℕ) (r : std.Result Turn Refusal) → at' ≤ at → Turned act x A s w at r → Turned act x A s w at' r
   unfolding Turned
-  turned-later w at at' (U.Refused k p) h v = v
-  turned-later w at at' (U.Ended k u) h v = v
-  turned-later w at at' (U.Begin m) h v = (v.0, omega (arith, v.1))
+  turned-later w at at' (Err e) h v = v
+  turned-later w at at' (Ok (U.Begin m)) h v = (v.0, omega (arith, v.1))
+  turned-later w at at' (Ok (U.Ended e)) h v = v
 
   -- what was written before, on the stacks and the frames too
-  pub steps_after : (w w' w'' : List ℕ) (at at' : ℕ) (r : Turn) → at' ≤ at → Kept w w' 0 frames_end → Steps act x A s w' w'' at r → Steps act x A s w w'' at' r
+  pub steps_after : (w w' w'' : List ℕ) (at at' : ℕ) (r : std.Result Turn Refusal) → at' ≤ at → Kept w w' 0 frames_end → Steps act x A s w' w'' at r → Steps act x A s w w'' at' r
   steps_after w w' w'' at at' r h k z = record {
     turned = turned-later w'' at at' r h z.turned;
     kept = kept_both w w' w'' _ _ _ _ _ _ k z.kept (omega arith) (omega arith) (omega arith) (omega arith);

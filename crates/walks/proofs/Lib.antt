@@ -7,3 +7,4 @@ pub mod ShownLaws
 pub mod BeginLaws
 pub mod ResumeLaws
 pub mod LeafLaws
+pub mod WalkLaws

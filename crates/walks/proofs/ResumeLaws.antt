@@ -1,5 +1,6 @@
 -- A term ended and gave: what the innermost term that waits makes of it. One law for each return of `resume` and for its loop's turn.
 -- Assumes nothing.
+use Rattle.std.specs.Prelude.{Ok}
 use mathlib.Core.Path.{◌≡◌, refl, sym, subst, ap, ap₂, ◌∙◌}
 use mathlib.Core.Logic.{inl, inr}
 use mathlib.Core.List.{List, [], ◌∷◌, ◌++◌}
@@ -13,8 +14,8 @@ use Rattle.words.specs.Kept.{Kept}
 use Rattle.words.proofs.WordLaws.{word_same}
 use Rattle.words.proofs.KeptLaws.{kept_put, kept_same, kept_both, kept_copy, word_below}
 use Rattle.format.specs.Limits.{most_joined}
-use Rattle.format.specs.Refusals.{number, JoinedTooLong}
-use Rattle.format.specs.Results.{gives, refused, and_then}
+use Rattle.format.specs.declared.refusals.Cause.TheVariants.{JoinedTooLong}
+use Rattle.format.specs.Results.{gives, refused, and_then, refused_at}
 use Rattle.format.specs.Terms.{Term, size}
 use Rattle.input_arities.specs.Layout.{stack_end, frames_end}
 use Rattle.input_arities.proofs.ArityLaws.{ahead_kept}
@@ -40,6 +41,23 @@ pub record TopFrame (s w : List ℕ) (frames : ℕ) : Type 0 where
 pub record Bounds (w : List ℕ) (frames low end : ℕ) : Type 0 where
   pub rest : word w (frames - 4 + 2) < began → (end ≤ word w (frames - 4 + 2)) × (word w (frames - 4 + 2) ≤ stack_end)
   pub first : began ≤ word w (frames - 4 + 2) → word w (frames - 4 + 2) ≤ began + low
+
+-- what is known whether a term waits or not; and of the innermost frame, where one does
+pub record Resumes (s w : List ℕ) (low given end frames : ℕ) : Type 0 where
+  pub room : low + given * 2 ≤ end
+  pub below : end ≤ stack_end
+  pub limited : frames ≤ frames_end
+  pub enough : frames_end ≤ length w
+  pub four : stack_end < frames → stack_end + 4 ≤ frames
+  pub place_inside : stack_end < frames → word w (frames - 4) < length s
+  pub no_sequence : stack_end < frames → (get_or s (word w (frames - 4)) 0 ≡ 19 → ⊥) → Bounds w frames low end
+
+-- the innermost frame is a tensor's, as the code reads it
+pub tensor_bounds : (s w : List ℕ) (low given end frames place value : ℕ) → Resumes s w low given end frames → stack_end < frames → place ≡ word w (frames - 4) → (get_or s place 0 ≡ 19 → ⊥) → value ≡ word w (frames - 4 + 2)
+    → (value < began → end ≤ value) × (began ≤ value → value ≤ began + low)
+tensor_bounds s w low given end frames place value r h p t e =
+    let b : Bounds w frames low end = r.no_sequence h (λ u. t (ap (λ (i : ℕ). get_or s i 0) p ∙ u)) in
+    (λ n. omega (arith, (b.rest (omega arith)).0), λ n. omega (arith, b.first (omega arith)))
 
 module _ {C : Type 0} (act : Act C) (x : Aim C) (A : List C) (s w : List ℕ) (at low given end frames arity uses : ℕ) where
   abbrev G : List Waiting → Type 0
@@ -107,8 +125,19 @@ module _ {C : Type 0} (act : Act C) (x : Aim C) (A : List C) (s w : List ℕ) (a
   pub bounds_of : Given → stack_end < frames → (get_or s (word w (frames - 4)) 0 ≡ 19 → ⊥) → Bounds w frames low end
   bounds_of g h t = bounds g.0 h t g.1
 
+  pub resumes : frames_end ≤ length w → Given → Resumes s w low given end frames
+  resumes n g = record {
+    room = omega (arith, g.1.room);
+    below = g.1.below;
+    limited = omega (arith, shown_depth s w g.0 _ _ _ _ g.1.shown, weight-length g.0, g.1.depth);
+    enough = n;
+    four = λ h. (top_of g h).four;
+    place_inside = λ h. (top_of g h).place_inside;
+    no_sequence = λ h n. bounds_of g h n;
+  }
+
   -- the walk's end
-  end_with : (f : List Waiting) → frames ≤ stack_end → G f → Turned act x A s w at (U.Ended given uses)
+  end_with : (f : List Waiting) → frames ≤ stack_end → G f → Turned act x A s w at (Ok (U.Ended (record { given = given; uses = uses })))
   unfolding Shown Turned resumed pending
   end_with [] h g = (
     g.same ∙ ap (λ (i : ℕ). gives (out A (values_at w i given))) g.shown.1,
@@ -119,7 +148,7 @@ module _ {C : Type 0} (act : Act C) (x : Aim C) (A : List C) (s w : List ℕ) (a
   end_with (tensor_left q u r k ∷ f) h g = absurd (omega (arith, g.shown.3.next, g.shown.3.above))
   end_with (tensor_right q k ∷ f) h g = absurd (omega (arith, g.shown.3.next, g.shown.3.above))
 
-  pub ended : Given → frames ≤ stack_end → Steps act x A s w w at (U.Ended given uses)
+  pub ended : Given → frames ≤ stack_end → Steps act x A s w w at (Ok (U.Ended (record { given = given; uses = uses })))
   ended g h = record { turned = end_with g.0 h g.1; kept = kept_same w _ _ }
 
   -- a sequence's right term is next, on what its left gave
@@ -150,14 +179,14 @@ module _ {C : Type 0} (act : Act C) (x : Aim C) (A : List C) (s w : List ℕ) (a
           depth = omega (arith, g.depth);
         }
 
-    sequence_turn : (f : List Waiting) → stack_end < frames → get_or s (word w (frames - 4)) 0 ≡ 19 → G f → Turned act x A s w' at (U.Begin second_of)
+    sequence_turn : (f : List Waiting) → stack_end < frames → get_or s (word w (frames - 4)) 0 ≡ 19 → G f → Turned act x A s w' at (Ok (U.Begin second_of))
     unfolding Shown Turned
     sequence_turn [] h t g = nothing h g.shown.0
     sequence_turn (sequence_left u r ∷ f) h t g = ((u, f, sequence_main u r f g), omega arith)
     sequence_turn (tensor_left q u r k ∷ f) h t g = clash _ t (tag_here g.shown.0 q 20 g.shown.3)
     sequence_turn (tensor_right q k ∷ f) h t g = clash _ t (tag_here g.shown.0 q 20 g.shown.3)
 
-    pub sequence_next_lem : Given → stack_end < frames → get_or s (word w (frames - 4)) 0 ≡ 19 → Steps act x A s w w' at (U.Begin second_of)
+    pub sequence_next_lem : Given → stack_end < frames → get_or s (word w (frames - 4)) 0 ≡ 19 → Steps act x A s w w' at (Ok (U.Begin second_of))
     sequence_next_lem g h t = record {
       turned = sequence_turn g.0 h t g.1;
       kept = kept_both w w' w' low end 0 frames_end 0 frames_end (moved-kept (omega (arith, g.1.room)) g.1.below) (kept_same w' _ _) (omega arith) (omega arith) (omega (arith, g.1.below)) (omega arith);
@@ -213,14 +242,14 @@ module _ {C : Type 0} (act : Act C) (x : Aim C) (A : List C) (s w : List ℕ) (a
           depth = omega (arith, g.depth);
         }
 
-    tensor_turn : TopFrame s w frames → (f : List Waiting) → stack_end < frames → (get_or s (word w (frames - 4)) 0 ≡ 19 → ⊥) → own < began → G f → Turned act x A s w' at (U.Begin beside_of)
+    tensor_turn : TopFrame s w frames → (f : List Waiting) → stack_end < frames → (get_or s (word w (frames - 4)) 0 ≡ 19 → ⊥) → own < began → G f → Turned act x A s w' at (Ok (U.Begin beside_of))
     unfolding Shown Turned
     tensor_turn m [] h t n g = nothing h g.shown.0
     tensor_turn m (sequence_left u r ∷ f) h t n g = absurd (t (tag_here g.shown.0 g.shown.1 19 g.shown.2))
     tensor_turn m (tensor_left q u r k ∷ f) h t n g = ((u, tensor_right q (values_at w low given) ∷ f, tensor_main m q u r k f g), omega arith)
     tensor_turn m (tensor_right q k ∷ f) h t n g = absurd (omega (arith, own_is, value_here g.shown.0 q 20 g.shown.3, g.shown.4.value_is, n))
 
-    pub tensor_next_lem : Given → stack_end < frames → (get_or s (word w (frames - 4)) 0 ≡ 19 → ⊥) → own < began → Steps act x A s w w' at (U.Begin beside_of)
+    pub tensor_next_lem : Given → stack_end < frames → (get_or s (word w (frames - 4)) 0 ≡ 19 → ⊥) → own < began → Steps act x A s w w' at (Ok (U.Begin beside_of))
     tensor_next_lem g h t n =
         let m = top_of g h in
         record {
@@ -247,12 +276,10 @@ module _ {C : Type 0} (act : Act C) (x : Aim C) (A : List C) (s w : List ℕ) (a
       unfolding resumed and_then
       joining = g.same
 
-      over : most_joined < count → Turned act x A s w at (U.Refused 22 (word w (frames - 4)))
-      unfolding Turned number joined_values
+      over : most_joined < count → Turned act x A s w at (refused_at JoinedTooLong (word w (frames - 4)))
+      unfolding Turned joined_values
       over m =
           let e = place_here p q 20 o in (
-            JoinedTooLong,
-            refl,
             joining ∙ ap (resumed act f) (rw (both, length_values w first count, lt-ltb most_joined count m)) ∙ resumed_refused act f JoinedTooLong q ∙ ap (refused JoinedTooLong) e,
             omega (arith, e, o.inside),
           )
@@ -273,7 +300,7 @@ module _ {C : Type 0} (act : Act C) (x : Aim C) (A : List C) (s w : List ℕ) (a
       left_value : {A : Type 0} (p q e : ℕ) → Framed s w frames p q 20 → word w (p + 2) ≡ e → e ≤ stack_end → A
       left_value p q e o v b = absurd (omega (arith, v, value_here p q 20 o, first_is))
 
-      over_turn : (f : List Waiting) → most_joined < count → G f → Turned act x A s w at (U.Refused 22 (word w (frames - 4)))
+      over_turn : (f : List Waiting) → most_joined < count → G f → Turned act x A s w at (refused_at JoinedTooLong (word w (frames - 4)))
       unfolding Shown
       over_turn [] l g = nothing h g.shown.0
       over_turn (sequence_left u r ∷ f) l g = absurd (t (tag_here g.shown.0 g.shown.1 19 g.shown.2))
@@ -287,7 +314,7 @@ module _ {C : Type 0} (act : Act C) (x : Aim C) (A : List C) (s w : List ℕ) (a
       within-turn (tensor_left q u r k ∷ f) l g = left_value g.shown.0 q g.shown.1 g.shown.3 g.shown.4.value_is g.shown.4.below
       within-turn (tensor_right q k ∷ f) l g = let y = g.shown in (f, within q k f g y.0 y.1 y.2 y.3 y.4 y.5 l)
 
-      pub joined_over : Given → most_joined < count → Steps act x A s w w at (U.Refused 22 (word w (frames - 4)))
+      pub joined_over : Given → most_joined < count → Steps act x A s w w at (refused_at JoinedTooLong (word w (frames - 4)))
       joined_over g l = record { turned = over_turn g.0 l g.1; kept = kept_same w _ _ }
 
       pub joined-within : Given → count ≤ most_joined → Gave act x A s w at first count end (frames - 4) arity uses

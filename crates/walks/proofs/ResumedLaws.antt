@@ -5,7 +5,7 @@ use mathlib.Core.List.{List, [], ◌∷◌}
 use Prim.Native.Nat.{ℕ, ◌*◌, ◌≤◌}
 use native.Mathlib.Omega.{arith}
 use lib.ListN.{length}
-use Rattle.format.specs.Refusals.{Cause}
+use Rattle.format.specs.declared.refusals.Cause.{Cause}
 use Rattle.format.specs.Results.{refused, and_then}
 use Rattle.format.specs.Terms.{Term, atomic, id, label, sequence, tensor, empty, alternation, assert, defined, fields}
 use Rattle.walks.specs.Walks.{Act}

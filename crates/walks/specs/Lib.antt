@@ -7,3 +7,4 @@ pub mod Labels
 pub mod Waiting
 pub mod Shows
 pub mod Loops
+pub mod Leaves

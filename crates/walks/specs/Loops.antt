@@ -1,8 +1,9 @@
 -- Where a walk stands: the whole walk comes to what the terms that wait make of the current term's walk. What was made so far is passed on as it is; where it lies is for each user of the walk to say.
-use Rattle.std.specs.Prelude.{ℕ, ◌+◌, ◌*◌, ◌-◌, ◌≤◌, ◌≡◌, List, length, get_or}
+use Rattle.std.specs.Prelude.{ℕ, ◌+◌, ◌*◌, ◌-◌, ◌≤◌, ◌≡◌, List, length, get_or, Ok, Err}
+use Rattle.std.specs.Prelude as std
 use Rattle.words.specs.Kept.{Kept}
 use Rattle.format.specs.Limits.{most_bytes, most_term_fields}
-use Rattle.format.specs.Refusals.{Cause, number}
+use Rattle.format.specs.declared.refusals.Refusal.{Refusal}
 use Rattle.format.specs.Results.{Result, gives, refused}
 use Rattle.format.specs.Terms.{Term, size, fields}
 use Rattle.format.specs.Standing.{Stands}
@@ -59,10 +60,6 @@ Gave act x A s w at low given end frames arity uses = (f : List Waiting) × Gave
 abbrev pub placed : Next → (at : ℕ) → Next
 placed n at = record { at = at; count = n.count; low = n.low; top = n.top; frames = n.frames; arity = n.arity; uses = n.uses }
 
--- the term that is next, with the next arity where it was
-abbrev pub next_of : Next → (at count low top frames uses : ℕ) → Next
-next_of n at count low top frames uses = record { at = at; count = count; low = low; top = top; frames = frames; arity = n.arity; uses = uses }
-
 -- the walk's first term, on so many values, with nothing begun
 abbrev pub start_of : (at count : ℕ) → Next
 start_of at count = record { at = at; count = count; low = 0; top = stack_end - count * 2; frames = stack_end; arity = frames_end; uses = 0 }
@@ -78,13 +75,13 @@ pub record Acted {C : Type 0} (act : Act C) (A A' : List C) (w w' : List ℕ) (n
   pub few : given ≤ n.count + 7 * used
   pub kept : Kept w w' n.low (n.top + n.count * 2)
 
--- how a step ended that left the work space w: at the walk's end, or at the next term, which is not before the place `at`
-unfoldable pub Turned : {C : Type 0} → Act C → Aim C → List C → List ℕ → List ℕ → (at : ℕ) → Turn → Type 0
-Turned act x A s w at (U.Refused k p) = (c : Cause) × (number c ≡ k) × (x.result ≡ refused c p) × (p ≤ length s)
-Turned act x A s w at (U.Ended n uses) = (x.result ≡ gives (out A (values_at w 0 n))) × (uses ≡ x.uses) × (n * 2 ≤ stack_end)
-Turned act x A s w at (U.Begin n) = Begins act x A s w n × (at ≤ n.at)
+-- how a step ended that left the work space w: refused in the file, at the walk's end, or at the next term, which is not before the place `at`
+unfoldable pub Turned : {C : Type 0} → Act C → Aim C → List C → List ℕ → List ℕ → (at : ℕ) → std.Result Turn Refusal → Type 0
+Turned act x A s w at (Err e) = (x.result ≡ refused e.cause e.place) × (e.place ≤ length s)
+Turned act x A s w at (Ok (U.Begin n)) = Begins act x A s w n × (at ≤ n.at)
+Turned act x A s w at (Ok (U.Ended e)) = (x.result ≡ gives (out A (values_at w 0 e.given))) × (e.uses ≡ x.uses) × (e.given * 2 ≤ stack_end)
 
 -- a step that wrote on the stacks and the frames alone
-pub record Steps {C : Type 0} (act : Act C) (x : Aim C) (A : List C) (s w w' : List ℕ) (at : ℕ) (r : Turn) : Type 0 where
+pub record Steps {C : Type 0} (act : Act C) (x : Aim C) (A : List C) (s w w' : List ℕ) (at : ℕ) (r : std.Result Turn Refusal) : Type 0 where
   pub turned : Turned act x A s w' at r
   pub kept : Kept w w' 0 frames_end

@@ -1,7 +1,7 @@
 -- The walk of document 01, "Checking a hiproof", over values, for any way in which the terms without inner terms act, and any type of what they make beside the values.
 use Rattle.std.specs.Prelude.{ℕ, ◌+◌, cond, List, [], ◌∷◌, ◌++◌, ltb, length, take, drop}
 use Rattle.format.specs.Limits.{most_joined}
-use Rattle.format.specs.Refusals.{GoalCountWrong, GoalsTooFew, JoinedTooLong}
+use Rattle.format.specs.declared.refusals.Cause.TheVariants.{GoalCountWrong, GoalsTooFew, JoinedTooLong}
 use Rattle.format.specs.Results.{Result, gives, refused, and_then}
 use Rattle.format.specs.Terms.{Term, atomic, id, label, sequence, tensor, empty, alternation, assert, defined, size}
 use Rattle.hitac.specs.Hiproofs.{input_arity}

@@ -2,17 +2,10 @@
 -- Assumes nothing.
 use mathlib.Core.Path.{sym, ap, ◌∙◌}
 use native.Mathlib.Omega.{arith}
-use lib.ListN.{drop, length-set}
+use lib.ListN.{drop}
 use lib.Seq.{paste}
-use borrow.Author.Rules.{rules}
 use Rattle.walks.proofs.MoveLaws.{two_moved}
 use Rattle.walks.proofs.waiting.raise.Goals as goal
-
-pub bounds-work-from-then-n-eq2 : goal.bounds-work-from-then-n-eq2
-bounds-work-from-then-n-eq2 c = simp length-set (search rules)
-
-pub bounds-work-to-then-n-eq2 : goal.bounds-work-to-then-n-eq2
-bounds-work-to-then-n-eq2 c = simp length-set (search rules)
 
 pub returns-then-n-eq2 : goal.returns-then-n-eq2
 returns-then-n-eq2 c =
