@@ -18,7 +18,7 @@ use Rattle.format.specs.declared.values.Goal.{Goal}
 use Rattle.format.specs.Values.{goal}
 use Rattle.format.specs.Goals.{goals_at}
 use Rattle.derivation.specs.declared.pending.Pending.{Pending}
-use Rattle.derivation.specs.declared.pending.Taken.TheVariants as T
+use Rattle.std.specs.Prelude.{None, Some}
 use Rattle.derivation.specs.Layout.{cursors_place}
 use Rattle.derivation.specs.Pending.{place_in, left_in, waiting, first_entry, last_roots, pending_in, Cursor, Pends, carries_first, Takes, RuleInside, Pushes}
 
@@ -145,7 +145,7 @@ module _ (table flat : List ℕ) (roots : ℕ) (w : List ℕ) (p : Pending) (h :
         ∙ ap {B = List Goal} (λ l. goal (word flat root_place) ∷ l) (ap (λ (k : ℕ). goals_at flat k (p.roots - 1)) next)
 
     module _ (γ : Goal) where
-      pub none_taken : p.roots ≡ 0 → Takes table flat roots w w p γ T.Other
+      pub none_taken : p.roots ≡ 0 → Takes table flat roots w w p γ None
       unfolding Takes carries_first
       none_taken e = (ap (carries_first γ) (none_pending_lem table flat roots w p (omega arith)), refl)
 
@@ -153,11 +153,11 @@ module _ (table flat : List ℕ) (roots : ℕ) (w : List ℕ) (p : Pending) (h :
         some_root : 0 < p.roots
         some_root = omega arith
 
-        pub other_root : (γ.0 ≡ r → ⊥) → Takes table flat roots w w p γ T.Other
+        pub other_root : (γ.0 ≡ r → ⊥) → Takes table flat roots w w p γ None
         unfolding Takes
         other_root n = (other_first γ _ goals _ (from_root some_root) r r-is n, refl)
 
-        pub root_taken : γ.0 ≡ r → Takes table flat roots w w p γ (T.Left (record { lists = p.lists; roots = p.roots - 1 }))
+        pub root_taken : γ.0 ≡ r → Takes table flat roots w w p γ (Some (record { lists = p.lists; roots = p.roots - 1 }))
         unfolding Takes waiting
         root_taken e = (
           this_first γ _ goals _ (from_root some_root) r r-is e,
@@ -210,7 +210,7 @@ module _ (table flat : List ℕ) (roots : ℕ) (w : List ℕ) (p : Pending) (h :
         first_is : r ≡ word table (place_in w d)
         first_is = r-is ∙ ap (word table) told_place
 
-        pub other_listed : (γ.0 ≡ r → ⊥) → Takes table flat roots w w p γ T.Other
+        pub other_listed : (γ.0 ≡ r → ⊥) → Takes table flat roots w w p γ None
         unfolding Takes
         other_listed m = (other_first γ _ goals _ from_list r first_is m, refl)
 
@@ -219,7 +219,7 @@ module _ (table flat : List ℕ) (roots : ℕ) (w : List ℕ) (p : Pending) (h :
           unfolding left_in
           told_left = left_is ∙ ap (word w) at_left
 
-          pub last_taken : left ≡ 1 → Takes table flat roots w w p γ (T.Left (record { lists = p.lists - 1; roots = p.roots }))
+          pub last_taken : left ≡ 1 → Takes table flat roots w w p γ (Some (record { lists = p.lists - 1; roots = p.roots }))
           unfolding Takes goals_at
           last_taken one = (
             this_first γ _ goals _ from_list r first_is e,
@@ -235,7 +235,7 @@ module _ (table flat : List ℕ) (roots : ℕ) (w : List ℕ) (p : Pending) (h :
             pub two_left : (2 ≤ left) × (place + left * 2 ≤ length table)
             two_left = (omega (arith, told_left, top.some_left), omega (arith, told_left, told_place, top.inside))
 
-            pub one_taken : (w₁ w₂ : List ℕ) → w₁ ≡ put_word w (cursors_place + p.lists * 4 - 4) (place + 2) → w₂ ≡ put_word w₁ (cursors_place + p.lists * 4 - 4 + 2) (left - 1) → Takes table flat roots w w₂ p γ (T.Left p)
+            pub one_taken : (w₁ w₂ : List ℕ) → w₁ ≡ put_word w (cursors_place + p.lists * 4 - 4) (place + 2) → w₂ ≡ put_word w₁ (cursors_place + p.lists * 4 - 4 + 2) (left - 1) → Takes table flat roots w w₂ p γ (Some p)
             unfolding Takes
             one_taken w₁ w₂ a b =
                 let first : w₁ ≡ put_word w (cursors_place + d * 4) (place_in w d + 2) = a ∙ ap₂ (λ (x y : ℕ). put_word w x (y + 2)) at_place told_place in

@@ -29,8 +29,7 @@ use Rattle.files.proofs.EntriesStanding.{First, none_left, first_use, first_open
 use Rattle.hitac.specs.FlatWalk.{flat_walk}
 use Rattle.hitac.specs.UsedRules.{flat_rules}
 use Rattle.derivation.specs.declared.pending.Pending.{Pending}
-use Rattle.derivation.specs.declared.pending.Taken.{Taken}
-use Rattle.derivation.specs.declared.pending.Taken.TheVariants as T
+use Rattle.std.specs.Prelude.{Option, None, Some}
 use Rattle.derivation.specs.Layout.{cursors_place, set_place, set_end}
 use Rattle.derivation.specs.Pending.{waiting, first_entry, pending_in, Pends, carries_first, Passes, Takes, Pushes}
 use Rattle.derivation.specs.Walks.{EntryInside, carried_goal, walked, Given}
@@ -39,12 +38,12 @@ use Rattle.derivation.proofs.PendingLaws.{pends_kept}
 use Rattle.derivation.proofs.UsedLaws.{Used, used_first, used_all, used_open, used_use}
 
 -- what `take` tells, by its two cases
-module _ (table flat : List ℕ) (roots : ℕ) (w w' : List ℕ) (p : Pending) (γ : Goal) (r : Taken) (t : Takes table flat roots w w' p γ r) where
-  pub other_told : r ≡ T.Other → (carries_first γ (pending_in table flat roots w p) ≡ false) × (w' ≡ w)
+module _ (table flat : List ℕ) (roots : ℕ) (w w' : List ℕ) (p : Pending) (γ : Goal) (r : Option Pending) (t : Takes table flat roots w w' p γ r) where
+  pub other_told : r ≡ None → (carries_first γ (pending_in table flat roots w p) ≡ false) × (w' ≡ w)
   unfolding Takes
   other_told e = subst (Takes table flat roots w w' p γ) e t
 
-  pub left_told : (q : Pending) → r ≡ T.Left q → (carries_first γ (pending_in table flat roots w p) ≡ true) × Passes table flat roots w w' p q
+  pub left_told : (q : Pending) → r ≡ Some q → (carries_first γ (pending_in table flat roots w p) ≡ true) × Passes table flat roots w w' p q
   unfolding Takes
   left_told q e = subst (Takes table flat roots w w' p γ) e t
 

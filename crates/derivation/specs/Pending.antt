@@ -1,13 +1,11 @@
 -- The pending goals: those of lists of premises in the table, the last list first, then roots in the flat file.
-use Rattle.std.specs.Prelude.{ℕ, zero, suc, ◌+◌, ◌*◌, ◌-◌, ◌/◌, ◌≤◌, ◌<◌, ◌≡◌, Bool, true, false, List, [], ◌∷◌, ◌++◌, length, drop}
+use Rattle.std.specs.Prelude.{ℕ, zero, suc, ◌+◌, ◌*◌, ◌-◌, ◌/◌, ◌≤◌, ◌<◌, ◌≡◌, Bool, true, false, List, [], ◌∷◌, ◌++◌, length, drop, Option, None, Some}
 use Rattle.words.specs.Word.{word}
 use Rattle.words.specs.Kept.{Kept}
 use Rattle.format.specs.declared.values.Goal.{Goal}
 use Rattle.format.specs.Goals.{goals_at}
 use Rattle.tables.specs.Lookup.{same_goal}
 use Rattle.derivation.specs.declared.pending.Pending.{Pending}
-use Rattle.derivation.specs.declared.pending.Taken.{Taken}
-use Rattle.derivation.specs.declared.pending.Taken.TheVariants as T
 use Rattle.derivation.specs.Layout.{cursors_place}
 
 -- the place of the first goal that is left of a list, and how many are left, by the list's cursor
@@ -58,9 +56,9 @@ pub record Passes (table flat : List ℕ) (roots : ℕ) (w w' : List ℕ) (p r :
   pub kept : Kept w w' cursors_place (cursors_place + p.lists * 4)
 
 -- if it is this goal
-unfoldable pub Takes : (table flat : List ℕ) → (roots : ℕ) → (w w' : List ℕ) → Pending → Goal → Taken → Type 0
-Takes table flat n w w' p γ T.Other = (carries_first γ (pending_in table flat n w p) ≡ false) × (w' ≡ w)
-Takes table flat n w w' p γ (T.Left r) = (carries_first γ (pending_in table flat n w p) ≡ true) × Passes table flat n w w' p r
+unfoldable pub Takes : (table flat : List ℕ) → (roots : ℕ) → (w w' : List ℕ) → Pending → Goal → Option Pending → Type 0
+Takes table flat n w w' p γ None = (carries_first γ (pending_in table flat n w p) ≡ false) × (w' ≡ w)
+Takes table flat n w w' p γ (Some r) = (carries_first γ (pending_in table flat n w p) ≡ true) × Passes table flat n w w' p r
 
 -- the field of a rule of at most eight premises lies within the table
 pub record RuleInside (table : List ℕ) (rule : ℕ) : Type 0 where

@@ -12,7 +12,6 @@ ghost use Rattle.derivation.specs.Layout.{index_place, cursors_place, set_end};
 ghost use Rattle.derivation.specs.CheckedEntries.{DerivationAt, checked_entries};
 
 use crate::layout::{INDEX, SET};
-use crate::pending::some_pending;
 use crate::walk::walk;
 use answers::{Answer, counted, refusal};
 use files::flats::{FlatParts, FlatRead, read_flat};
@@ -44,8 +43,7 @@ pub fn check_entries(
     if stop.place < flat.len() {
         return refusal(27, 2, stop.place, 0);
     }
-    let pending = stop.pending;
-    if some_pending(pending) {
+    if stop.pending.has_goals() {
         return refusal(27, 2, flat.len(), 0);
     }
     let different = size_of(work, SET);

@@ -15,78 +15,74 @@ pub struct Pending {
     pub roots: usize,
 }
 
-// Whether a goal is pending.
-pub fn some_pending(pending: Pending) -> bool
-    ensures { result ≡ ltb 0 (pending.lists + pending.roots) }
-{
-    if 0 < pending.lists {
-        return true;
+impl Pending {
+    // Whether a goal is pending.
+    pub fn has_goals(self) -> bool
+        ensures { result ≡ ltb 0 (self.lists + self.roots) }
+    {
+        0 < self.lists || 0 < self.roots
     }
-    0 < pending.roots
-}
 
-// What comes of taking a goal off: the first pending goal is another, or there is none; or what is left without it.
-#[derive(Clone, Copy)]
-pub enum Taken {
-    Other,
-    Left(Pending),
-}
-
-// Takes a goal off, if it is the first pending one. The flat file has `roots` roots.
-pub fn take(
-    table: &[u8],
-    flat: &[u8],
-    roots: usize,
-    work: &mut [u8],
-    pending: Pending,
-    goal: Goal,
-) -> Taken
-    requires { Pends table.now flat.now roots work.old pending × (length table.now ≤ most_bytes) }
-    ensures { Takes table.now flat.now roots work.old work.new pending goal result }
-{
-    let mut others = pending;
-    if others.lists == 0 {
-        if others.roots == 0 {
-            return Taken::Other;
+    // Takes a goal off, if it is the first pending one. The flat file has `roots` roots.
+    pub fn take(
+        self,
+        table: &[u8],
+        flat: &[u8],
+        roots: usize,
+        work: &mut [u8],
+        goal: Goal,
+    ) -> Option<Pending>
+        requires { Pends table.now flat.now roots work.old self × (length table.now ≤ most_bytes) }
+        ensures { Takes table.now flat.now roots work.old work.new self goal result }
+    {
+        if self.lists == 0 {
+            if self.roots == 0 {
+                return None;
+            }
+            let root = goal_at(flat, 3 + (roots - self.roots) * 2);
+            if goal.0 != root.0 {
+                return None;
+            }
+            return Some(Pending {
+                roots: self.roots - 1,
+                ..self
+            });
         }
-        let root = goal_at(flat, 3 + (roots - others.roots) * 2);
-        if goal.0 != root.0 {
-            return Taken::Other;
+        let top = CURSORS + self.lists * 4 - 4;
+        let place = load16(work, top);
+        let first = goal_at(table, place as usize);
+        if goal.0 != first.0 {
+            return None;
         }
-        others.roots -= 1;
-        return Taken::Left(others);
+        let left = load16(work, top + 2);
+        if left == 1 {
+            return Some(Pending {
+                lists: self.lists - 1,
+                ..self
+            });
+        }
+        store16(work, top, place + 2);
+        store16(work, top + 2, left - 1);
+        Some(self)
     }
-    let top = CURSORS + others.lists * 4 - 4;
-    let place = load16(work, top);
-    let first = goal_at(table, place as usize);
-    if goal.0 != first.0 {
-        return Taken::Other;
-    }
-    let left = load16(work, top + 2);
-    if left == 1 {
-        others.lists -= 1;
-        return Taken::Left(others);
-    }
-    store16(work, top, place + 2);
-    store16(work, top + 2, left - 1);
-    Taken::Left(others)
-}
 
-// Puts the premises of the rule at a place in front of the pending goals.
-pub fn push(table: &[u8], rule: usize, work: &mut [u8], pending: Pending) -> Pending
-    requires { RuleInside table.now rule × (length table.now ≤ most_bytes) × (cursors_place + pending.lists * 4 + 4 ≤ length work.old) }
-    ensures { (flat : List ℕ) (roots : ℕ) → Pends table.now flat roots work.old pending → Pushes table.now flat roots work.old work.new rule pending result }
-{
-    let len = load16(table, rule + 1) as usize;
-    let count = len / 2 - 2;
-    if count == 0 {
-        return pending;
+    // Puts the premises of the rule at a place in front of the pending goals.
+    pub fn push(self, table: &[u8], rule: usize, work: &mut [u8]) -> Pending
+        requires { RuleInside table.now rule × (length table.now ≤ most_bytes) × (cursors_place + self.lists * 4 + 4 ≤ length work.old) }
+        ensures { (flat : List ℕ) (roots : ℕ) → Pends table.now flat roots work.old self → Pushes table.now flat roots work.old work.new rule self result }
+    {
+        let len = load16(table, rule + 1) as usize;
+        let count = len / 2 - 2;
+        if count == 0 {
+            return self;
+        }
+        let top = CURSORS + self.lists * 4;
+        let place = rule + 7;
+        store16(work, top, place as u16);
+        store16(work, top + 2, count as u16);
+        Pending {
+            lists: self.lists + 1,
+            ..self
+        }
     }
-    let mut all = pending;
-    let top = CURSORS + all.lists * 4;
-    let place = rule + 7;
-    store16(work, top, place as u16);
-    store16(work, top + 2, count as u16);
-    all.lists += 1;
-    all
 }

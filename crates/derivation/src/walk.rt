@@ -5,7 +5,7 @@ ghost use Rattle.index.specs.Keys.{is_key, digits};
 ghost use Rattle.derivation.specs.Walks.{EntryInside, carried_goal, Ready, Walks};
 
 use crate::layout::{INDEX, NODES, SET};
-use crate::pending::{Pending, Taken, push, take};
+use crate::pending::Pending;
 use format::tags::USE_TAG;
 use format::values::{Goal, goal_at, rule_name_at};
 use index::layout::HEADS;
@@ -63,7 +63,7 @@ pub fn walk(table: &[u8], rules: usize, flat: &[u8], roots: usize, work: &mut [u
             break 'walk at;
         }
         let goal = carried_goal(flat, at);
-        let Taken::Left(others) = take(table, flat, roots, work, pending, goal) else {
+        let Some(others) = pending.take(table, flat, roots, work, goal) else {
             break 'walk at;
         };
         pending = others;
@@ -90,7 +90,7 @@ pub fn walk(table: &[u8], rules: usize, flat: &[u8], roots: usize, work: &mut [u
             rest = rest / 2;
         };
         put(work, SET, node);
-        pending = push(table, rule, work, pending);
+        pending = pending.push(table, rule, work);
         at += 7;
     };
     Stop { place, pending }

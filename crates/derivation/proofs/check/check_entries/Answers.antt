@@ -35,20 +35,20 @@ returns-then-stop-flat c =
     let kept : Kept c.args.work.now c.walk-stop.new.work cursors_place set_end = kept_both _ _ _ set_place set_end cursors_place set_end cursors_place set_end c.make_empty.ensures.kept c.walk-stop.ensures.kept (omega arith) (omega arith) (omega arith) (omega arith) in
     record { value = (λ T d ts at. c.refusal.ensures ∙ wrong_entry flat parts d at _ _ T ts _ _ _ c.walk-stop.ensures c.if-stop-flat.true); kept = kept }
 
-pub refusal-requires-then-some_pending : goal.refusal-requires-then-some_pending
-refusal-requires-then-some_pending c =
+pub refusal-requires-then-has_goals : goal.refusal-requires-then-has_goals
+refusal-requires-then-has_goals c =
     let flat : List ℕ = c.args.flat.now in
     let parts : FlatParts = c.args.parts in
     let held : PartsHold flat parts c.requires.derivation_at.0 = parts_hold flat parts c.requires.derivation_at.0 c.requires.derivation_at.1 in
     (held.short, omega arith)
 
-pub returns-then-some_pending : goal.returns-then-some_pending
-returns-then-some_pending c =
+pub returns-then-has_goals : goal.returns-then-has_goals
+returns-then-has_goals c =
     let flat : List ℕ = c.args.flat.now in
     let parts : FlatParts = c.args.parts in
     let kept : Kept c.args.work.now c.walk-stop.new.work cursors_place set_end = kept_both _ _ _ set_place set_end cursors_place set_end cursors_place set_end c.make_empty.ensures.kept c.walk-stop.ensures.kept (omega arith) (omega arith) (omega arith) (omega arith) in
-    let some = ltb-true _ _ (sym c.some_pending.ensures ∙ c.if-some_pending.true) in
-    record { value = (λ T d ts at. c.refusal-then-some_pending.ensures ∙ goals_left flat parts d at _ _ T ts _ _ _ c.walk-stop.ensures c.if-stop-flat.false some); kept = kept }
+    let some = ltb-true _ _ (sym c.has_goals.ensures ∙ c.if-has_goals.true) in
+    record { value = (λ T d ts at. c.refusal-then-has_goals.ensures ∙ goals_left flat parts d at _ _ T ts _ _ _ c.walk-stop.ensures c.if-stop-flat.false some); kept = kept }
 
 pub size_of-different-requires : goal.size_of-different-requires
 size_of-different-requires c =
@@ -71,7 +71,7 @@ returns c =
     let kept : Kept c.args.work.now c.walk-stop.new.work cursors_place set_end = kept_both _ _ _ set_place set_end cursors_place set_end cursors_place set_end c.make_empty.ensures.kept c.walk-stop.ensures.kept (omega arith) (omega arith) (omega arith) (omega arith) in
     let p = c.walk-stop.result.pending in
     let end = c.if-stop-flat.false in
-    let none = ltb-false 0 (p.lists + p.roots) (sym c.some_pending.ensures ∙ c.if-some_pending.false) in record {
+    let none = ltb-false 0 (p.lists + p.roots) (sym c.has_goals.ensures ∙ c.if-has_goals.false) in record {
       value = (λ T d ts at.
           c.counted.ensures
           ∙ all_right flat parts d at _ _ T ts _ _ _ c.walk-stop.ensures end (omega (arith, none)) _ (c.size_of-different.ensures.size _ (used_rules flat parts d at _ _ T ts _ _ _ c.walk-stop.ensures end)));

@@ -20,7 +20,7 @@ use Rattle.derivation.proofs.PendingLaws.{pending-kept}
 use Rattle.derivation.proofs.RuleLaws.{indexed_still, at_first, none_headed, AtNode, node_few, node_inside, rule_here, rule_inside, rule_found_lem, none_found, goes_down, higher}
 use Rattle.derivation.proofs.UsedLaws.{Used, used-kept}
 use Rattle.derivation.proofs.WalkLaws.{other_told, left_told, Keeps, keeps_first, keeps_passed, keeps_pushed, keeps_put, Reached, reached_first, here_inside, lists_few, at_end, all_used, entry_inside, not_first, goes_open, no_rule, room_for, goes_use}
-use Rattle.derivation.proofs.walk.walk.Goals.{At-walk, Else-flat-at, In-Left, At-loop-place, Else-is_rule_of, Then-is_rule_of}
+use Rattle.derivation.proofs.walk.walk.Goals.{At-walk, Else-flat-at, In-Some, At-loop-place, Else-is_rule_of, Then-is_rule_of}
 use Rattle.derivation.proofs.walk.walk.Goals as goal
 
 pub overflow_mul-at : goal.overflow_mul-at
@@ -52,28 +52,28 @@ pub take-requires : goal.take-requires
 take-requires c = (c.walk.invariant.0.pends, c.requires.short)
 
 -- the entry carries the first pending goal, which was taken off
-told : (c : In-Left) → (carries_first (carried_goal c.args.flat.now c.walk.at) (pending_in c.args.table.now c.args.flat.now c.args.roots c.walk.work c.walk.pending) ≡ true)
-    × Passes c.args.table.now c.args.flat.now c.args.roots c.walk.work c.take.new.work c.walk.pending c.in-Left.others
+told : (c : In-Some) → (carries_first (carried_goal c.args.flat.now c.walk.at) (pending_in c.args.table.now c.args.flat.now c.args.roots c.walk.work c.walk.pending) ≡ true)
+    × Passes c.args.table.now c.args.flat.now c.args.roots c.walk.work c.take.new.work c.walk.pending c.in-Some.others
 told c =
     left_told _ _ _ _ _ _ _ _
     (subst (λ (γ : Goal). Takes c.args.table.now c.args.flat.now c.args.roots c.walk.work c.take.new.work c.walk.pending γ c.take.result) c.carried_goal-goal.ensures c.take.ensures)
-    _ c.in-Left.is
+    _ c.in-Some.is
 
-few_lists : (c : In-Left) → c.walk.pending.lists ≤ most_uses
+few_lists : (c : In-Some) → c.walk.pending.lists ≤ most_uses
 few_lists c = lists_few _ _ _ _ _ _ _ _ (c.walk.invariant.1 c.requires.the_table c.requires.the_entries c.requires.given)
 
-keeps : (c : In-Left) → Keeps c.args.table.now c.args.flat.now c.args.roots c.args.work.now c.take.new.work c.in-Left.others
+keeps : (c : In-Some) → Keeps c.args.table.now c.args.flat.now c.args.roots c.args.work.now c.take.new.work c.in-Some.others
 keeps c = let t = told c in keeps_passed _ _ _ _ _ _ _ c.walk.invariant.0 c.take.auto.work _ (few_lists c) t.1
 
-indexed : (c : In-Left) → RulesIndexed c.args.table.now c.args.rules c.take.new.work index_place
+indexed : (c : In-Some) → RulesIndexed c.args.table.now c.args.rules c.take.new.work index_place
 indexed c = let k = keeps c in indexed_still _ _ _ _ k.size k.kept c.requires.indexed
 
-used : (c : In-Left) → (T : Table) (es : List Entry) (g : Given c.args.table.now c.args.rules c.args.flat.now c.args.roots T es) → Used T c.take.new.work es (c.walk.invariant.1 T es g).rest
+used : (c : In-Some) → (T : Table) (es : List Entry) (g : Given c.args.table.now c.args.rules c.args.flat.now c.args.roots T es) → Used T c.take.new.work es (c.walk.invariant.1 T es g).rest
 used c T es g = let t = told c in used-kept _ _ _ _ _ _ _ c.take.auto.work t.1.kept (omega (arith, few_lists c)) (c.walk.invariant.1 T es g).so_far
 
 pub walk-preserved-then-flat-at-ne-USE_TAG : goal.walk-preserved-then-flat-at-ne-USE_TAG
 walk-preserved-then-flat-at-ne-USE_TAG c =
-    let p : In-Left = (goal.at.walk-preserved-then-flat-at-ne-USE_TAG c).In-Left in
+    let p : In-Some = (goal.at.walk-preserved-then-flat-at-ne-USE_TAG c).In-Some in
     let t = told p in
     (keeps p, λ T es g. goes_open _ _ _ _ _ _ _ _ (c.walk.invariant.1 T es g) c.if-flat-at.false t.0 c.if-flat-at-ne-USE_TAG.true _ _ _ t.1.few t.1.others (used p T es g))
 
@@ -86,7 +86,7 @@ loop-place-init c = at_first _ _ _ _ _ _ c.digits_at-digits.ensures c.head_of-he
 -- a node on the way down to the rule of the use
 at_node : (c : At-loop-place) → AtNode c.args.table.now c.args.rules c.take.new.work (word c.args.flat.now (c.walk.at + 3)) (word c.args.flat.now (c.walk.at + 5)) c.loop-place.rest c.loop-place.node
 at_node c = record {
-  indexed = indexed (goal.at.overflow_mul-node c).In-Left;
+  indexed = indexed (goal.at.overflow_mul-node c).In-Some;
   the_table = c.requires.the_table;
   stands = c.requires.given.rules_stand;
   way = c.loop-place.invariant;
@@ -135,7 +135,7 @@ is-key : (c : Then-is_rule_of) → is_key 6 c.args.table.now (word c.args.flat.n
 is-key c = sym c.is_rule_of.ensures ∙ c.if-is_rule_of.true
 
 -- before a use there is room for one list more
-one_more : (p : In-Left) → get_or p.args.flat.now p.walk.at 0 ≡ 32 → p.in-Left.others.lists < most_uses
+one_more : (p : In-Some) → get_or p.args.flat.now p.walk.at 0 ≡ 32 → p.in-Some.others.lists < most_uses
 one_more p t =
     let s = told p in
     omega (arith, s.1.few, room_for _ _ _ _ _ _ _ _ (p.walk.invariant.1 p.requires.the_table p.requires.the_entries p.requires.given) p.if-flat-at.false s.0 t)
@@ -143,28 +143,28 @@ one_more p t =
 pub put-requires : goal.put-requires
 put-requires c =
     let m = goal.at.put-requires c in
-    let u = used m.In-Left c.requires.the_table c.requires.the_entries c.requires.given in
+    let u = used m.In-Some c.requires.the_table c.requires.the_entries c.requires.given in
     ((u.numbers, u.in_set), omega (arith, node_few (at_node m.At-loop-place)))
 
 -- its number was put into the set
-still : (p : In-Left) → get_or p.args.flat.now p.walk.at 0 ≡ 32 → (w : List ℕ) → length w ≡ length p.take.new.work → Kept p.take.new.work w set_place set_end
-    → Keeps p.args.table.now p.args.flat.now p.args.roots p.args.work.now w p.in-Left.others
+still : (p : In-Some) → get_or p.args.flat.now p.walk.at 0 ≡ 32 → (w : List ℕ) → length w ≡ length p.take.new.work → Kept p.take.new.work w set_place set_end
+    → Keeps p.args.table.now p.args.flat.now p.args.roots p.args.work.now w p.in-Some.others
 still p t w size k = keeps_put _ _ _ _ _ _ _ (keeps p) size (omega (arith, one_more p t)) k
 
 pub push-pending-requires : goal.push-pending-requires
 push-pending-requires c =
     let m = goal.at.push-pending-requires c in
     let t = c.if-flat-at-ne-USE_TAG.false in
-    let s = still m.In-Left t _ c.put.auto.w c.put.ensures.kept in (
+    let s = still m.In-Some t _ c.put.auto.w c.put.ensures.kept in (
       rule_inside (at_node m.At-loop-place) c.load16-place.result c.load16-place.ensures (is-key m.Then-is_rule_of),
       c.requires.short,
-      omega (arith, one_more m.In-Left t, c.requires.none_used.room, s.size),
+      omega (arith, one_more m.In-Some t, c.requires.none_used.room, s.size),
     )
 
 pub walk-preserved : goal.walk-preserved
 walk-preserved c =
     let m = goal.at.walk-preserved c in
-    let p : In-Left = m.In-Left in
+    let p : In-Some = m.In-Some in
     let n : At-loop-place = m.At-loop-place in
     let t = told p in
     let is_use = c.if-flat-at-ne-USE_TAG.false in
@@ -207,7 +207,7 @@ returns-in_default c =
 pub returns-then-head-eq0 : goal.returns-then-head-eq0
 returns-then-head-eq0 c =
     let m = goal.at.returns-then-head-eq0 c in
-    let p : In-Left = m.In-Left in
+    let p : In-Some = m.In-Some in
     let k = keeps p in
     let t = told p in
     record {
@@ -222,7 +222,7 @@ returns-then-head-eq0 c =
 pub returns-then-node-eq0 : goal.returns-then-node-eq0
 returns-then-node-eq0 c =
     let m = goal.at.returns-then-node-eq0 c in
-    let p : In-Left = m.In-Left in
+    let p : In-Some = m.In-Some in
     let n : At-loop-place = m.At-loop-place in
     let k = keeps p in
     let t = told p in
