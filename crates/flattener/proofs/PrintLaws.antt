@@ -4,18 +4,19 @@ use mathlib.Core.Path.{◌≡◌, refl, sym, ap, ap₂, ◌∙◌}
 use mathlib.Core.List.{List, [], ◌∷◌, ◌++◌}
 use Prim.Native.Nat.{ℕ, zero, suc, ◌+◌, ◌*◌, ◌-◌, ◌/◌, ◌%◌, ◌≤◌}
 use native.Mathlib.Omega.{arith}
-use lib.ListN.{length, set}
-use lib.Seq.{sets}
+use lib.ListN.{length, set, take, drop, length-set}
+use lib.Seq.{sets, sets-eq, paste, take_at}
 use Rattle.words.specs.Word.{word, put_word}
 use Rattle.words.specs.Kept.{Kept}
+use Rattle.words.proofs.WordLaws.{length-put_word}
 use Rattle.words.proofs.KeptLaws.{kept_same, kept_both}
 use Rattle.format.specs.declared.values.RuleName.{RuleName}
 use Rattle.format.specs.declared.values.Goal.{Goal}
 use Rattle.format.specs.Values.{rule_name, goal}
 use Rattle.format.specs.Goals.{goals_at}
-use Rattle.format.specs.Encoding.{word_bytes, goal_bytes, goal_list_bytes}
+use Rattle.format.specs.Encoding.{Bytes, word_bytes, goal_bytes, goal_list_bytes}
 use Rattle.format.proofs.GoalsLaws.{length-goals_at}
-use Rattle.format.proofs.GoalBytes.{length-goal_bytes}
+use Rattle.format.proofs.GoalBytes.{length-goal_bytes, goals_bytes}
 use Rattle.files.specs.Derivations.{use_entry, open_entry, entry_bytes}
 use Rattle.hitac.proofs.Nodes.{Cell, open_cell, use_cell, premise_nodes, range}
 use Rattle.input_arities.specs.Layout.{stack_end}
@@ -39,26 +40,22 @@ sets_word l at v = let e : at + 1 ≡ suc at = omega arith in ap (λ (k : ℕ). 
 pub then : (l l₁ l₂ a b : List ℕ) (i j : ℕ) → l₁ ≡ sets l i a → l₂ ≡ sets l₁ j b → j ≡ i + length a → l₂ ≡ sets l i (a ++ b)
 then l l₁ l₂ a b i j p q e = q ∙ ap₂ (λ (m : List ℕ) (k : ℕ). sets m k b) p e ∙ sym (sets_append a b l i)
 
--- a turn of the loop over goals
-pub goals_moved : (l file : List ℕ) (at place k at' place' k' : ℕ) → at ≡ at' → place ≡ place' → k ≡ k' → sets l at (goal_bytes (goals_at file place k)) ≡ sets l at' (goal_bytes (goals_at file place' k'))
-goals_moved l file at place k at' place' k' p q r = λ i. sets l (p i) (goal_bytes (goals_at file (q i) (r i)))
-
-pub goals_turn : (l l' file : List ℕ) (at place k v at' place' k' : ℕ) → v ≡ word file place → l' ≡ put_word l at v → at + 2 ≡ at' → place + 2 ≡ place' → k ≡ suc k'
-    → sets l at (goal_bytes (goals_at file place k)) ≡ sets l' at' (goal_bytes (goals_at file place' k'))
-unfolding goal_bytes goals_at
-goals_turn l l' file at place k v at' place' k' e f p q r =
-    let s : suc (suc at) ≡ at' = omega arith in
-    rw (r, f, sets_word l at v, e, ← q) (ap (λ (i : ℕ). sets (sets l at (word_bytes (word file place))) i (goal_bytes (goals_at file (place + 2) k'))) s)
-
-pub goals_end_lem : (l file : List ℕ) (at place k : ℕ) → k ≡ 0 → sets l at (goal_bytes (goals_at file place k)) ≡ l
-unfolding goal_bytes goals_at
-goals_end_lem l file at place k e = rw e
+-- goals that stand in a file, copied as they are
+goals_copied : (l file : List ℕ) (at place k : ℕ) → Bytes file → place + k * 2 ≤ length file → at + k * 2 ≤ length l → paste l at (drop place file) (k * 2) ≡ sets l at (goal_bytes (goals_at file place k))
+goals_copied l file at place k bytes inside room =
+    let z = goal_bytes (goals_at file place k) in
+    let n : length z ≡ k * 2 = length-goal_bytes (goals_at file place k) ∙ ap (λ (j : ℕ). j * 2) (length-goals_at k file place) in
+    let stands : take (k * 2) (drop place file) ≡ z = ap (take (k * 2)) (goals_bytes file bytes k place inside) ∙ take_at z (drop (place + k * 2) file) (k * 2) n in
+    ap₂ (λ (y : List ℕ) (j : ℕ). take at l ++ y ++ drop (at + j) l) stands (sym n) ∙ sym (sets-eq z l at (omega (arith, n)))
 
 -- the list of the roots
-pub roots_stored : (o o₁ o₂ o₃ file : List ℕ) (place count : ℕ) → o₁ ≡ set o 0 3 → o₂ ≡ put_word o₁ 1 (count * 2) → o₃ ≡ sets o₂ 3 (goal_bytes (goals_at file place count)) → o₃ ≡ sets o 0 (goal_list_bytes (goals_at file place count))
-roots_stored o o₁ o₂ o₃ file place count p q r =
+pub roots_stored : (o o₁ o₂ o₃ file : List ℕ) (place count : ℕ) → Bytes file → place + count * 2 ≤ length file → 3 + count * 2 ≤ length o
+    → o₁ ≡ set o 0 3 → o₂ ≡ put_word o₁ 1 (count * 2) → o₃ ≡ paste o₂ 3 (drop place file) (count * 2) → o₃ ≡ sets o 0 (goal_list_bytes (goals_at file place count))
+roots_stored o o₁ o₂ o₃ file place count bytes inside room p q r =
     let n : count * 2 ≡ length (goal_bytes (goals_at file place count)) = sym (length-goal_bytes (goals_at file place count) ∙ ap (λ (k : ℕ). k * 2) (length-goals_at count file place)) in
-    r ∙ ap (λ (l : List ℕ). sets l 3 (goal_bytes (goals_at file place count))) (q ∙ ap₂ (λ (l : List ℕ) (k : ℕ). put_word l 1 k) p n ∙ sets_word (set o 0 3) 1 (length (goal_bytes (goals_at file place count))))
+    let kept : length o₂ ≡ length o = ap length q ∙ length-put_word o₁ 1 (count * 2) ∙ ap length p ∙ length-set o 0 3 in
+    r ∙ goals_copied o₂ file 3 place count bytes inside (omega (arith, kept))
+    ∙ ap (λ (l : List ℕ). sets l 3 (goal_bytes (goals_at file place count))) (q ∙ ap₂ (λ (l : List ℕ) (k : ℕ). put_word l 1 k) p n ∙ sets_word (set o 0 3) 1 (length (goal_bytes (goals_at file place count))))
 
 -- an open leaf and a use
 pub open_stored : (o o₁ o₂ o₃ : List ℕ) (at : ℕ) (γ : Goal) → o₁ ≡ set o at 33 → o₂ ≡ put_word o₁ (at + 1) 2 → o₃ ≡ put_word o₂ (at + 3) γ.0 → o₃ ≡ sets o at (entry_bytes (open_entry γ))

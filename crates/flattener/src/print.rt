@@ -2,14 +2,14 @@
 ghost use Rattle.std.specs.Prelude.{◌≡◌, ◌+◌, ◌*◌, ◌≤◌, ◌<◌, length};
 ghost use Rattle.std.proofs.lemmas.List.Edits.{sets};
 ghost use Rattle.format.specs.Goals.{goals_at};
-ghost use Rattle.format.specs.Encoding.{goal_bytes, goal_list_bytes};
+ghost use Rattle.format.specs.Encoding.{goal_list_bytes};
 ghost use Rattle.files.specs.Derivations.{use_entry, open_entry, entry_bytes, entries_bytes};
 ghost use Rattle.flattener.specs.Prints.{PrintReady, NodePrinted, forest_entries, Printable};
 
 use format::values::{Goal, RuleName, goal_at, rule_name_at};
 use input_arities::layout::STACK_END;
 use nodes::cells::{CELLS, put_range};
-use words::{load16, store16};
+use words::{copy_in, load16, store16};
 
 // The place of the next node on the stack, and that of the next entry.
 #[derive(Clone, Copy)]
@@ -18,27 +18,14 @@ pub struct Printed {
     pub at: usize,
 }
 
-// So many goals of a file.
-fn write_goals(out: &mut [u8], at: usize, file: &[u8], place: usize, count: usize)
-    requires { (at + count * 2 ≤ length out.old) × (place + count * 2 ≤ length file.now) }
-    ensures { out.new ≡ sets out.old at (goal_bytes (goals_at file.now place count)) }
-{
-    let mut i: usize = 0;
-    while i < count {
-        let goal = load16(file, place + i * 2);
-        store16(out, at + i * 2, goal);
-        i += 1;
-    }
-}
-
-// The list of the roots.
+// The list of the roots: goals that stand in a file are copied as they are.
 pub fn write_roots(out: &mut [u8], file: &[u8], place: usize, count: usize)
     requires { (3 + count * 2 ≤ length out.old) × (place + count * 2 ≤ length file.now) × (count ≤ 256) }
     ensures { out.new ≡ sets out.old 0 (goal_list_bytes (goals_at file.now place count)) }
 {
     out[0] = 3;
     store16(out, 1, (count * 2) as u16);
-    write_goals(out, 3, file, place, count);
+    copy_in(out, 3, file, place, count * 2);
 }
 
 // An open leaf.
@@ -63,30 +50,30 @@ fn write_use(out: &mut [u8], at: usize, name: RuleName, goal: Goal)
 }
 
 // The entry of the node on top of the stack, in whose place its premises come.
-fn print_node(work: &mut [u8], top: usize, out: &mut [u8], at: usize) -> Printed
-    requires { PrintReady work.old top at (length out.old) }
-    ensures { NodePrinted work.old work.new top at out.old out.new result }
+fn print_node(work: &mut [u8], here: Printed, out: &mut [u8]) -> Printed
+    requires { PrintReady work.old here.top here.at (length out.old) }
+    ensures { NodePrinted work.old work.new here.top here.at out.old out.new result }
 {
-    let node = load16(work, top) as usize;
+    let node = load16(work, here.top) as usize;
     let cell = CELLS + node * 8;
     let goal = goal_at(work, cell);
     let mark = load16(work, cell + 6) as usize;
     if mark == 0 {
-        write_open(out, at, goal);
+        write_open(out, here.at, goal);
         return Printed {
-            top: top + 2,
-            at: at + 5,
+            top: here.top + 2,
+            at: here.at + 5,
         };
     }
     let name = rule_name_at(work, cell + 2);
     let first = load16(work, cell + 4) as usize;
-    write_use(out, at, name, goal);
+    write_use(out, here.at, name, goal);
     let count = mark - 1;
-    let above = top + 2 - count * 2;
+    let above = here.top + 2 - count * 2;
     put_range(work, above, first, count);
     Printed {
         top: above,
-        at: at + 7,
+        at: here.at + 7,
     }
 }
 
@@ -95,14 +82,10 @@ pub fn print_forest(work: &mut [u8], roots: usize, nodes: usize, out: &mut [u8],
     requires { Printable work.old roots nodes at (length out.old) }
     ensures { out.new ≡ sets out.old at (entries_bytes (forest_entries work.old roots nodes)) }
 {
-    let mut top = STACK_END - roots * 2;
+    let top = STACK_END - roots * 2;
     put_range(work, top, 0, roots);
-    let mut here = at;
-    let mut left = nodes;
-    while 0 < left {
-        let printed = print_node(work, top, out, here);
-        top = printed.top;
-        here = printed.at;
-        left -= 1;
+    let mut here = Printed { top, at };
+    for _ in 0..nodes {
+        here = print_node(work, here, out);
     }
 }

@@ -22,40 +22,36 @@ overflow_sub-top c = omega (arith, c.requires.roots_there, c.requires.few)
 pub put_range-requires : goal.put_range-requires
 put_range-requires c = (omega (arith, c.requires.roots_there, c.requires.few, c.requires.within), omega (arith, c.requires.roots_there, c.requires.few))
 
-pub loop-left-init : goal.loop-left-init
-loop-left-init c =
+pub loop-init : goal.loop-init
+loop-init c =
     let back : stack_end - c.args.roots * 2 + c.args.roots * 2 ≡ stack_end = omega (arith, c.requires.roots_there, c.requires.few) in
     let printable : Printable c.put_range.new.s c.args.roots c.args.nodes c.args.at (length c.args.out.now) = printable_still _ _ _ _ _ _ _ c.requires back c.put_range.ensures in
-    pass_begins _ _ _ _ _ printable _ back (pushed_roots _ _ _ _ _ _ _ c.requires back c.put_range.ensures)
+    let all : c.args.nodes - 0 ≡ c.args.nodes = omega arith in
+    rw all
+    (pass_begins _ _ _ _ _ printable _ back (pushed_roots _ _ _ _ _ _ _ c.requires back c.put_range.ensures))
 
-pub print_node-printed-requires : goal.print_node-printed-requires
-print_node-printed-requires c =
+pub print_node-here-requires : goal.print_node-here-requires
+print_node-here-requires c =
     let back : stack_end - c.args.roots * 2 + c.args.roots * 2 ≡ stack_end = omega (arith, c.requires.roots_there, c.requires.few) in
     let printable : Printable c.put_range.new.s c.args.roots c.args.nodes c.args.at (length c.args.out.now) = printable_still _ _ _ _ _ _ _ c.requires back c.put_range.ensures in
-    node_ready _ _ _ _ _ printable _ _ _ _ (c.loop-left.left - 1) _ (omega (arith, c.loop-left-test)) c.loop-left.invariant
+    node_ready _ _ _ _ _ printable _ _ _ _ (c.args.nodes - (c.loop.counter + 1)) _ (omega (arith, c.loop-test)) c.loop.invariant
 
-pub overflow_sub-left : goal.overflow_sub-left
-overflow_sub-left c = omega (arith, c.loop-left-test)
-
-pub loop-left-smaller : goal.loop-left-smaller
-loop-left-smaller c = omega (arith, c.loop-left-test)
-
-pub loop-left-preserved : goal.loop-left-preserved
-loop-left-preserved c =
+pub loop-preserved : goal.loop-preserved
+loop-preserved c =
     let back : stack_end - c.args.roots * 2 + c.args.roots * 2 ≡ stack_end = omega (arith, c.requires.roots_there, c.requires.few) in
     let printable : Printable c.put_range.new.s c.args.roots c.args.nodes c.args.at (length c.args.out.now) = printable_still _ _ _ _ _ _ _ c.requires back c.put_range.ensures in
-    pass_goes_on _ _ _ _ _ printable _ _ _ _ (c.loop-left.left - 1) _ (omega (arith, c.loop-left-test)) c.loop-left.invariant _ _ _ c.print_node-printed.auto.work c.print_node-printed.ensures
+    pass_goes_on _ _ _ _ _ printable _ _ _ _ (c.args.nodes - (c.loop.counter + 1)) _ (omega (arith, c.loop-test)) c.loop.invariant _ _ _ c.print_node-here.auto.work c.print_node-here.ensures
 
 pub shape_of-work : goal.shape_of-work
-shape_of-work c = c.loop-left.invariant.space ∙ c.put_range.auto.s
+shape_of-work c = c.loop.invariant.space ∙ c.put_range.auto.s
 
 pub shape_of-out : goal.shape_of-out
-shape_of-out c = ap length c.loop-left.invariant.out_is ∙ length-sets c.args.out.now c.args.at c.loop-left.invariant.written
+shape_of-out c = ap length c.loop.invariant.out_is ∙ length-sets c.args.out.now c.args.at c.loop.invariant.written
 
 pub returns : goal.returns
 returns c =
     let back : stack_end - c.args.roots * 2 + c.args.roots * 2 ≡ stack_end = omega (arith, c.requires.roots_there, c.requires.few) in
     let printable : Printable c.put_range.new.s c.args.roots c.args.nodes c.args.at (length c.args.out.now) = printable_still _ _ _ _ _ _ _ c.requires back c.put_range.ensures in
     let e = pushed_cells _ _ _ _ _ _ _ c.requires back c.put_range.ensures in
-    pass_ends _ _ _ _ _ printable _ _ _ _ _ (omega (arith, c.loop-left-test)) c.loop-left.invariant
+    pass_ends _ _ _ _ _ printable _ _ _ _ _ (omega (arith, c.loop-test)) c.loop.invariant
     ∙ ap (λ (A : List Cell). sets c.args.out.now c.args.at (entries_bytes (node_entries c.args.nodes A (range 0 c.args.roots)))) e

@@ -16,13 +16,13 @@ use Rattle.flattener.proofs.print.print_node.Goals as goal
 pub write_open-requires : goal.write_open-requires
 unfolding entry_bytes
 write_open-requires c =
-    let leaf : top_cell c.args.work.now c.args.top ≡ open_cell (goal (word c.args.work.now (cell_place c.load16-node.result))) = open_there _ _ _ _ c.load16-node.ensures c.load16-mark.ensures c.if-mark-eq0.true in
-    let leaf_room : c.args.at + 5 ≤ length c.args.out.now = omega (arith, c.requires.entry_fits, ap (λ (x : Cell). length (cell_entry x)) leaf) in
+    let leaf : top_cell c.args.work.now c.args.here.top ≡ open_cell (goal (word c.args.work.now (cell_place c.load16-node.result))) = open_there _ _ _ _ c.load16-node.ensures c.load16-mark.ensures c.if-mark-eq0.true in
+    let leaf_room : c.args.here.at + 5 ≤ length c.args.out.now = omega (arith, c.requires.entry_fits, ap (λ (x : Cell). length (cell_entry x)) leaf) in
     leaf_room
 
 pub returns-then-mark-eq0 : goal.returns-then-mark-eq0
 returns-then-mark-eq0 c =
-    let leaf : top_cell c.args.work.now c.args.top ≡ open_cell (goal (word c.args.work.now (cell_place c.load16-node.result))) = open_there _ _ _ _ c.load16-node.ensures c.load16-mark.ensures c.if-mark-eq0.true in
+    let leaf : top_cell c.args.work.now c.args.here.top ≡ open_cell (goal (word c.args.work.now (cell_place c.load16-node.result))) = open_there _ _ _ _ c.load16-node.ensures c.load16-mark.ensures c.if-mark-eq0.true in
     printed_open _ _ _ _ _ _ _ c.goal_at-goal.ensures leaf c.write_open.ensures
 
 pub write_use-requires : goal.write_use-requires
@@ -30,9 +30,9 @@ unfolding entry_bytes
 write_use-requires c =
     let mark : ℕ = c.load16-mark.result in
     let cell : ℕ = cell_place c.load16-node.result in
-    let use_here : top_cell c.args.work.now c.args.top ≡ use_cell (rule_name (word c.args.work.now (cell + 2))) (goal (word c.args.work.now cell)) (word c.args.work.now (cell + 4)) (mark - 1) = use_there _ _ _ _ c.load16-node.ensures c.load16-mark.ensures c.if-mark-eq0.false in
-    let use_room : (c.args.at + 7 ≤ length c.args.out.now) × ((mark - 1) * 2 ≤ c.args.top + 2) × (word c.args.work.now (cell + 4) + (mark - 1) ≤ 65535) = (let e = use_here in
-    let n : length (premise_nodes (top_cell c.args.work.now c.args.top)) ≡ mark - 1 = ap (λ (x : Cell). length (premise_nodes x)) e ∙ range_length _ _ in (
+    let use_here : top_cell c.args.work.now c.args.here.top ≡ use_cell (rule_name (word c.args.work.now (cell + 2))) (goal (word c.args.work.now cell)) (word c.args.work.now (cell + 4)) (mark - 1) = use_there _ _ _ _ c.load16-node.ensures c.load16-mark.ensures c.if-mark-eq0.false in
+    let use_room : (c.args.here.at + 7 ≤ length c.args.out.now) × ((mark - 1) * 2 ≤ c.args.here.top + 2) × (word c.args.work.now (cell + 4) + (mark - 1) ≤ 65535) = (let e = use_here in
+    let n : length (premise_nodes (top_cell c.args.work.now c.args.here.top)) ≡ mark - 1 = ap (λ (x : Cell). length (premise_nodes x)) e ∙ range_length _ _ in (
       omega (arith, c.requires.entry_fits, ap (λ (x : Cell). length (cell_entry x)) e),
       omega (arith, c.requires.premises_fit, n),
       omega (arith, c.requires.premises_there, n, ap first_premise e),
@@ -44,9 +44,9 @@ unfolding entry_bytes
 overflow_sub-above c =
     let mark : ℕ = c.load16-mark.result in
     let cell : ℕ = cell_place c.load16-node.result in
-    let use_here : top_cell c.args.work.now c.args.top ≡ use_cell (rule_name (word c.args.work.now (cell + 2))) (goal (word c.args.work.now cell)) (word c.args.work.now (cell + 4)) (mark - 1) = use_there _ _ _ _ c.load16-node.ensures c.load16-mark.ensures c.if-mark-eq0.false in
-    let use_room : (c.args.at + 7 ≤ length c.args.out.now) × ((mark - 1) * 2 ≤ c.args.top + 2) × (word c.args.work.now (cell + 4) + (mark - 1) ≤ 65535) = (let e = use_here in
-    let n : length (premise_nodes (top_cell c.args.work.now c.args.top)) ≡ mark - 1 = ap (λ (x : Cell). length (premise_nodes x)) e ∙ range_length _ _ in (
+    let use_here : top_cell c.args.work.now c.args.here.top ≡ use_cell (rule_name (word c.args.work.now (cell + 2))) (goal (word c.args.work.now cell)) (word c.args.work.now (cell + 4)) (mark - 1) = use_there _ _ _ _ c.load16-node.ensures c.load16-mark.ensures c.if-mark-eq0.false in
+    let use_room : (c.args.here.at + 7 ≤ length c.args.out.now) × ((mark - 1) * 2 ≤ c.args.here.top + 2) × (word c.args.work.now (cell + 4) + (mark - 1) ≤ 65535) = (let e = use_here in
+    let n : length (premise_nodes (top_cell c.args.work.now c.args.here.top)) ≡ mark - 1 = ap (λ (x : Cell). length (premise_nodes x)) e ∙ range_length _ _ in (
       omega (arith, c.requires.entry_fits, ap (λ (x : Cell). length (cell_entry x)) e),
       omega (arith, c.requires.premises_fit, n),
       omega (arith, c.requires.premises_there, n, ap first_premise e),
@@ -58,9 +58,9 @@ unfolding entry_bytes
 put_range-requires c =
     let mark : ℕ = c.load16-mark.result in
     let cell : ℕ = cell_place c.load16-node.result in
-    let use_here : top_cell c.args.work.now c.args.top ≡ use_cell (rule_name (word c.args.work.now (cell + 2))) (goal (word c.args.work.now cell)) (word c.args.work.now (cell + 4)) (mark - 1) = use_there _ _ _ _ c.load16-node.ensures c.load16-mark.ensures c.if-mark-eq0.false in
-    let use_room : (c.args.at + 7 ≤ length c.args.out.now) × ((mark - 1) * 2 ≤ c.args.top + 2) × (word c.args.work.now (cell + 4) + (mark - 1) ≤ 65535) = (let e = use_here in
-    let n : length (premise_nodes (top_cell c.args.work.now c.args.top)) ≡ mark - 1 = ap (λ (x : Cell). length (premise_nodes x)) e ∙ range_length _ _ in (
+    let use_here : top_cell c.args.work.now c.args.here.top ≡ use_cell (rule_name (word c.args.work.now (cell + 2))) (goal (word c.args.work.now cell)) (word c.args.work.now (cell + 4)) (mark - 1) = use_there _ _ _ _ c.load16-node.ensures c.load16-mark.ensures c.if-mark-eq0.false in
+    let use_room : (c.args.here.at + 7 ≤ length c.args.out.now) × ((mark - 1) * 2 ≤ c.args.here.top + 2) × (word c.args.work.now (cell + 4) + (mark - 1) ≤ 65535) = (let e = use_here in
+    let n : length (premise_nodes (top_cell c.args.work.now c.args.here.top)) ≡ mark - 1 = ap (λ (x : Cell). length (premise_nodes x)) e ∙ range_length _ _ in (
       omega (arith, c.requires.entry_fits, ap (λ (x : Cell). length (cell_entry x)) e),
       omega (arith, c.requires.premises_fit, n),
       omega (arith, c.requires.premises_there, n, ap first_premise e),
@@ -72,9 +72,9 @@ unfolding entry_bytes
 returns c =
     let mark : ℕ = c.load16-mark.result in
     let cell : ℕ = cell_place c.load16-node.result in
-    let use_here : top_cell c.args.work.now c.args.top ≡ use_cell (rule_name (word c.args.work.now (cell + 2))) (goal (word c.args.work.now cell)) (word c.args.work.now (cell + 4)) (mark - 1) = use_there _ _ _ _ c.load16-node.ensures c.load16-mark.ensures c.if-mark-eq0.false in
-    let use_room : (c.args.at + 7 ≤ length c.args.out.now) × ((mark - 1) * 2 ≤ c.args.top + 2) × (word c.args.work.now (cell + 4) + (mark - 1) ≤ 65535) = (let e = use_here in
-    let n : length (premise_nodes (top_cell c.args.work.now c.args.top)) ≡ mark - 1 = ap (λ (x : Cell). length (premise_nodes x)) e ∙ range_length _ _ in (
+    let use_here : top_cell c.args.work.now c.args.here.top ≡ use_cell (rule_name (word c.args.work.now (cell + 2))) (goal (word c.args.work.now cell)) (word c.args.work.now (cell + 4)) (mark - 1) = use_there _ _ _ _ c.load16-node.ensures c.load16-mark.ensures c.if-mark-eq0.false in
+    let use_room : (c.args.here.at + 7 ≤ length c.args.out.now) × ((mark - 1) * 2 ≤ c.args.here.top + 2) × (word c.args.work.now (cell + 4) + (mark - 1) ≤ 65535) = (let e = use_here in
+    let n : length (premise_nodes (top_cell c.args.work.now c.args.here.top)) ≡ mark - 1 = ap (λ (x : Cell). length (premise_nodes x)) e ∙ range_length _ _ in (
       omega (arith, c.requires.entry_fits, ap (λ (x : Cell). length (cell_entry x)) e),
       omega (arith, c.requires.premises_fit, n),
       omega (arith, c.requires.premises_there, n, ap first_premise e),
