@@ -1,7 +1,9 @@
 -- The answer of the flat-derivation checker: one law for each way that it ends, by where the walk stopped and by what the two files read as.
 -- Assumes nothing.
-use mathlib.Core.Path.{◌≡◌, sym, subst, ap, ap₂, ◌∙◌}
-use mathlib.Core.List.{List, []}
+use Rattle.std.specs.Prelude.{Ok, Err}
+use Rattle.std.specs.Prelude as std
+use mathlib.Core.Path.{◌≡◌, refl, sym, subst, ap, ap₂, ◌∙◌}
+use mathlib.Core.List.{List, [], ◌∷◌}
 use Prim.Native.Nat.{ℕ, ◌+◌, ◌≤◌, ◌<◌}
 use native.Mathlib.Omega.{arith}
 use lib.ListN.{length}
@@ -9,8 +11,11 @@ use borrow.Author.Tests.{lt-ltb, le-ltb}
 use Rattle.words.specs.Kept.{Kept}
 use Rattle.format.specs.declared.values.Goal.{Goal}
 use Rattle.format.specs.Limits.{most_bytes, most_goals, most_uses, most_opens}
-use Rattle.format.specs.Refusals.{Cause, number}
-use Rattle.format.specs.Results.{gives, refused, and_then}
+use Rattle.format.specs.declared.refusals.Cause.TheVariants.{EntryWrong, GoalsPending, WorkTooShort}
+use Rattle.format.specs.declared.refusals.Refusal.{Refusal}
+use Rattle.format.specs.Refusals.{number}
+use Rattle.format.specs.Results.{Result, gives, refused, and_then, told, refused_at}
+use Rattle.format.proofs.ResultLaws.{same_refusal}
 use Rattle.format.specs.Goals.{goals_at}
 use Rattle.rule_set.specs.Different.{different}
 use Rattle.rule_set.specs.Sets.{RuleSet}
@@ -31,14 +36,15 @@ use Rattle.hitac.specs.UsedRules.{flat_rules}
 use Rattle.hitac.proofs.EntryCounts.{uses-counted, opens_counted}
 use Rattle.answers.specs.declared.Answer.{Answer}
 use Rattle.answers.specs.Answers.{refusal, counted}
-use Rattle.entries.specs.Outcomes.{table_file, other_file, no_file}
+use Rattle.entries.specs.Outcomes.{in_file, done, table_file, other_file, no_file}
 use Rattle.entries.specs.LentSpace.{counted_answer, check_in, cleared}
 use Rattle.entries.specs.CheckFlat.{none_pending, right, flat_counts, check_flat_outcome, check_flat_work, check_flat}
+use Rattle.derivation.specs.declared.check.Counted.{Counted}
 use Rattle.derivation.specs.declared.walk.Stop.{Stop}
 use Rattle.derivation.specs.Layout.{index_place, set_place, set_end}
 use Rattle.derivation.specs.Pending.{first_entry, pending_in}
 use Rattle.derivation.specs.Walks.{walked, Given, Ready, Walks}
-use Rattle.derivation.specs.CheckedEntries.{DerivationAt, checked_entries}
+use Rattle.derivation.specs.CheckedEntries.{DerivationAt, counted_of, checked_entries}
 use Rattle.derivation.proofs.PendingLaws.{none_pending_lem, some_first}
 use Rattle.derivation.proofs.RuleLaws.{indexed_still}
 
@@ -104,17 +110,17 @@ module _ (flat : List ℕ) (parts : FlatParts) (d : Derivation) (at : Derivation
       ap₂ (λ (k : ℕ) (g : List Goal). flat_walk T k g d.entries) p.place_is (at.stands.roots_stand.goals_are ∙ ap (goals_at flat 3) p.roots_are)
       ∙ walks.result T d.entries (given_entries flat parts d at table rules T ts)
 
-  abbrev answer : Answer
+  abbrev answer : std.Result Counted Refusal
   answer = checked_entries T d (length flat)
 
   -- an entry does not apply
-  pub wrong_entry : stop.place < length flat → refusal 27 other_file stop.place 0 ≡ answer
-  unfolding checked_entries right and_then walked number
+  pub wrong_entry : stop.place < length flat → Err (record { cause = EntryWrong; place = stop.place }) ≡ answer
+  unfolding checked_entries right and_then walked told
   wrong_entry l = rw (result, lt-ltb stop.place (length flat) l)
 
   -- goals are pending at the end
-  pub goals_left : length flat ≤ stop.place → 0 < stop.pending.lists + stop.pending.roots → refusal 27 other_file (length flat) 0 ≡ answer
-  unfolding checked_entries right and_then none_pending walked number
+  pub goals_left : length flat ≤ stop.place → 0 < stop.pending.lists + stop.pending.roots → Err (record { cause = GoalsPending; place = length flat }) ≡ answer
+  unfolding checked_entries right and_then none_pending walked told
   goals_left l h = rw (result, le-ltb stop.place (length flat) l, (some_first table flat _ w' stop.pending walks.pends h).2)
 
   -- at the file's end the set has the rule of every use
@@ -122,31 +128,62 @@ module _ (flat : List ℕ) (parts : FlatParts) (d : Derivation) (at : Derivation
   used_rules = walks.rules_used T d.entries (given_entries flat parts d at table rules T ts)
 
   -- the file is right; `used` is the size of that set
-  pub all_right : length flat ≤ stop.place → stop.pending.lists + stop.pending.roots ≡ 0 → (used : ℕ) → used ≡ different (flat_rules T d.entries) → counted 0 parts.uses parts.opens used ≡ answer
-  unfolding checked_entries right and_then none_pending walked flat_counts
+  pub all_right : length flat ≤ stop.place → stop.pending.lists + stop.pending.roots ≡ 0 → (used : ℕ) → used ≡ different (flat_rules T d.entries) → Ok (record { uses = parts.uses; opens = parts.opens; rules = used }) ≡ answer
+  unfolding checked_entries right and_then none_pending walked flat_counts told
   all_right l z used e =
       let p = parts_hold flat parts d at in
       rw (result, le-ltb stop.place (length flat) l, none_pending_lem table flat parts.roots w' stop.pending z, p.uses_are, p.opens_are, e)
+
+-- the answer for entries that were checked, by what the check gave
+module _ (T : Table) (d : Derivation) (end : ℕ) where
+  abbrev outcome : Result (List Goal) → Answer
+  outcome w = counted_answer (in_file other_file (and_then w (none_pending end (flat_counts T d))) done)
+
+  wrong_entries : (f : Refusal) → checked_entries T d end ≡ Err f → refusal (number f.cause) other_file f.place 0 ≡ outcome (flat_walk T (entries_place d) d.roots d.entries)
+  unfolding checked_entries right told and_then none_pending
+  wrong_entries f e = go (flat_walk T (entries_place d) d.roots d.entries) e
+    where
+      go : (w : Result (List Goal)) → told refused_at (λ c. Ok (counted_of c)) (and_then w (none_pending end (flat_counts T d))) ≡ Err f → refusal (number f.cause) other_file f.place 0 ≡ outcome w
+      go (gives []) e = absurd (let z : ◌≡◌ {A = ℕ} 0 1 = cc in omega arith)
+      go (gives (γ ∷ g)) e = ap (λ (x : Refusal). refusal (number x.cause) other_file x.place 0) (sym (same_refusal e))
+      go (refused c p) e = ap (λ (x : Refusal). refusal (number x.cause) other_file x.place 0) (sym (same_refusal e))
+
+  right_entries : (c : Counted) → checked_entries T d end ≡ Ok c → counted 0 c.uses c.opens c.rules ≡ outcome (flat_walk T (entries_place d) d.roots d.entries)
+  unfolding checked_entries right told and_then none_pending flat_counts
+  right_entries c e = go (flat_walk T (entries_place d) d.roots d.entries) e
+    where
+      same : {x y : Counted} → ◌≡◌ {A = std.Result Counted Refusal} (Ok x) (Ok y) → x ≡ y
+      same e = cc
+
+      go : (w : Result (List Goal)) → told refused_at (λ c. Ok (counted_of c)) (and_then w (none_pending end (flat_counts T d))) ≡ Ok c → counted 0 c.uses c.opens c.rules ≡ outcome w
+      go (gives []) e = ap (λ (x : Counted). counted 0 x.uses x.opens x.rules) (sym (same e))
+      go (gives (γ ∷ g)) e = absurd (let z : ◌≡◌ {A = ℕ} 0 1 = cc in omega arith)
+      go (refused k p) e = absurd (let z : ◌≡◌ {A = ℕ} 0 1 = cc in omega arith)
 
 module _ (table flat : List ℕ) where
   abbrev within : Answer
   within = counted_answer (check_flat_outcome table flat)
 
-  pub refused_table : (c : Cause) (k p : ℕ) → read_table table ≡ refused c p → number c ≡ k → refusal k table_file p 0 ≡ within
+  pub refused_table : (f : Refusal) → read_table table ≡ refused f.cause f.place → refusal (number f.cause) table_file f.place 0 ≡ within
   unfolding check_flat_outcome
-  refused_table c k p e n = rw (e, n)
+  refused_table f e = rw e
 
   module _ (T : Table) (reads : read_table table ≡ gives T) where
-    pub refused_flat : (c : Cause) (k p : ℕ) → read_flat flat ≡ refused c p → number c ≡ k → refusal k other_file p 0 ≡ within
+    pub refused_flat : (f : Refusal) → read_flat flat ≡ refused f.cause f.place → refusal (number f.cause) other_file f.place 0 ≡ within
     unfolding check_flat_outcome
-    refused_flat c k p e n = rw (reads, e, n)
+    refused_flat f e = rw (reads, e)
 
-    pub both_read : (d : Derivation) → read_flat flat ≡ gives d → checked_entries T d (length flat) ≡ within
-    unfolding check_flat_outcome checked_entries
-    both_read d e = rw (reads, e)
+    module _ (d : Derivation) (read : read_flat flat ≡ gives d) where
+      pub refused_entries : (f : Refusal) → checked_entries T d (length flat) ≡ Err f → refusal (number f.cause) other_file f.place 0 ≡ within
+      unfolding check_flat_outcome right
+      refused_entries f e = wrong_entries T d (length flat) f e ∙ rw (reads, read)
 
-  pub too_short : (work : List ℕ) → length work < check_flat_work → check_flat table flat work ≡ record { answer = refusal 29 no_file 0 0; work = work }
-  unfolding check_flat check_in number
+      pub all_counted : (c : Counted) → checked_entries T d (length flat) ≡ Ok c → counted 0 c.uses c.opens c.rules ≡ within
+      unfolding check_flat_outcome right
+      all_counted c e = right_entries T d (length flat) c e ∙ rw (reads, read)
+
+  pub too_short : (work : List ℕ) → length work < check_flat_work → check_flat table flat work ≡ record { answer = refusal (number WorkTooShort) no_file 0 0; work = work }
+  unfolding check_flat check_in
   too_short work l = rw (lt-ltb (length work) check_flat_work l)
 
   pub long_enough : (work : List ℕ) → check_flat_work ≤ length work → check_flat table flat work ≡ record { answer = within; work = cleared work }
@@ -160,3 +197,8 @@ read_at flat parts d e q = record { stands = flat_stands flat d e; parts_are = q
 -- bytes that are unchanged hold the same index
 pub still_indexed : (table : List ℕ) (rules : ℕ) (w w' : List ℕ) → w' ≡ w → RulesIndexed table rules w index_place → RulesIndexed table rules w' index_place
 still_indexed table rules w w' e = subst (λ (v : List ℕ). RulesIndexed table rules v index_place) (sym e)
+
+-- the two cases of what the code answers
+pub either : {A E : Type 0} (x : std.Result A E) {G : Type 0} → ((a : A) → x ≡ Ok a → G) → ((e : E) → x ≡ Err e → G) → G
+either (Ok a) ok err = ok a refl
+either (Err e) ok err = err e refl

@@ -11,7 +11,7 @@ use borrow.Author.Tests.{eq-eqb, ne_eqb}
 use Rattle.words.specs.Word.{word}
 use Rattle.format.specs.declared.values.RuleName.{RuleName}
 use Rattle.format.specs.declared.values.Goal.{Goal}
-use Rattle.format.specs.Refusals.{EntryWrong}
+use Rattle.format.specs.declared.refusals.Cause.TheVariants.{EntryWrong}
 use Rattle.format.specs.Results.{refused, and_then}
 use Rattle.format.specs.Values.{goal}
 use Rattle.tables.specs.Tables.{Table}

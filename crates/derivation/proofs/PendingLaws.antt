@@ -1,15 +1,15 @@
 -- The pending goals: the first of them, what is left without it, and the premises of a rule put in front. One law for each way that the code goes.
 -- Assumes nothing.
 use mathlib.Core.Path.{◌≡◌, refl, sym, subst, ap, ap₂, ◌∙◌}
-use mathlib.Core.Bool.{Bool, true, false}
+use mathlib.Core.Bool.{Bool, true, false, not}
 use mathlib.Core.Logic.{◌⊎◌, inl, inr}
 use mathlib.Core.List.{List, [], ◌∷◌, ◌++◌, append_assoc}
 use Prim.Native.Nat.{ℕ, zero, suc, ◌+◌, ◌*◌, ◌-◌, ◌/◌, ◌≤◌, ◌<◌}
 use native.Mathlib.Numerals.{add-one}
 use native.Mathlib.Omega.{arith}
-use lib.Dec.{ltb}
+use lib.Dec.{ltb, eqb}
 use lib.ListN.{length, drop}
-use borrow.Author.Tests.{ltb-true, ltb-false, eq-eqb, ne_eqb}
+use borrow.Author.Tests.{ltb-true, ltb-false, eqb-true, eqb-false, not-true, not-false, eq-eqb, ne_eqb}
 use Rattle.words.specs.Word.{word, put_word}
 use Rattle.words.specs.Kept.{Kept}
 use Rattle.words.proofs.WordLaws.{length-put_word, word_same, word_other}
@@ -106,6 +106,13 @@ module _ (table w w₁ w₂ : List ℕ) (d place left : ℕ) (first : w₁ ≡ p
       go (inr m) =
           let e : d ≡ i = omega arith in
           subst (λ (j : ℕ). Cursor table (place_in w₂ j) (left_in w₂ j)) e (record { some_left = omega (arith, stored_left, c.some_left); inside = omega (arith, stored_place, stored_left, c.inside) })
+
+-- a goal is compared with another by `!=`
+pub others_told : (a b : ℕ) (r : Bool) → r ≡ not (eqb a b) → r ≡ true → a ≡ b → ⊥
+others_told a b r e t = eqb-false a b (not-true (eqb a b) (sym e ∙ t))
+
+pub same_told : (a b : ℕ) (r : Bool) → r ≡ not (eqb a b) → r ≡ false → a ≡ b
+same_told a b r e t = eqb-true a b (not-false (eqb a b) (sym e ∙ t))
 
 -- the first pending goal is compared with another
 other_first : (γ : Goal) (v : ℕ) (g others : List Goal) → g ≡ goal v ∷ others → (r : ℕ) → r ≡ v → (γ.0 ≡ r → ⊥) → carries_first γ g ≡ false

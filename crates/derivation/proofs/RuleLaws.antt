@@ -1,5 +1,6 @@
 -- The rule of a use, by the way down the index: one law for each way that the code goes at a head and at a node.
 -- Assumes nothing.
+use Rattle.std.specs.Prelude.{Ok, Err}
 use mathlib.Core.Path.{◌≡◌, refl}
 use mathlib.Core.Bool.{true, false}
 use mathlib.Core.Option.{none, some}
@@ -17,7 +18,7 @@ use Rattle.tables.specs.Lookup.{found_rule, find_rule}
 use Rattle.tables.specs.Standing.{TableStands}
 use Rattle.tables.specs.Found.{rule_found}
 use Rattle.tables.proofs.SearchLaws.{goal_inside}
-use Rattle.index.specs.declared.seek.Sought.TheVariants as S
+use Rattle.index.specs.declared.seek.Vacant.TheVariants.{Side, Head}
 use Rattle.index.specs.Layout.{heads}
 use Rattle.index.specs.Nodes.{link_at, head_of}
 use Rattle.index.specs.Keys.{is_key, digits}
@@ -25,7 +26,7 @@ use Rattle.index.specs.Index.{Sound}
 use Rattle.index.specs.Build.{RulesIndexed}
 use Rattle.index.proofs.SeekLaws as seek
 use Rattle.index.proofs.SeekLaws.{Way}
-use Rattle.index.proofs.AnswerLaws.{Nowhere, Only, at_head, at_slot, at_node}
+use Rattle.index.proofs.AnswerLaws.{Nowhere, Only, at_vacant, at_node}
 use Rattle.index.proofs.FindLaws as find
 use Rattle.index.proofs.IndexKept.{indexed_before}
 use Rattle.derivation.specs.Layout.{cursors_place, set_end, index_place, nodes_place}
@@ -54,7 +55,7 @@ module _ (table work : List ℕ) (name on d head : ℕ) (digits_are : d ≡ digi
 
   pub none_headed : (rules : ℕ) → RulesIndexed table rules work index_place → head ≡ 0 → Missing table rules name on
   none_headed rules ix z =
-      missing table rules work ix name on (at_head 6 table ix.0 work index_place ix.2.0 ix.2.1 name on S.NoHead (λ n so. seek.no_head 6 table work index_place n name on d head digits_are told z) refl)
+      missing table rules work ix name on (at_vacant 6 table ix.0 work index_place ix.2.0 ix.2.1 name on (Err Head) (λ n so. seek.no_head 6 table work index_place n name on d head digits_are told z) Head refl)
 
 -- at a node on that way
 pub record AtNode (table : List ℕ) (rules : ℕ) (work : List ℕ) (name on rest node : ℕ) : Type 0 where
@@ -86,7 +87,7 @@ module _ {table : List ℕ} {rules : ℕ} {work : List ℕ} {name on rest node :
     -- the rule was found, and the node has its number
     module _ (k : is_key 6 table name on place ≡ true) where
       only : Only 6 table a.indexed.0 work index_place n a.indexed.2.1 name on node place
-      only = at_node 6 table a.indexed.0 work index_place n a.indexed.2.1 name on (S.Node node place) (λ m so. seek.node_found 6 table work index_place m name on so rest node (a.way m so) place told k) node place refl
+      only = at_node 6 table a.indexed.0 work index_place n a.indexed.2.1 name on (Ok (record { node = node; place = place })) (λ m so. seek.node_found 6 table work index_place m name on so rest node (a.way m so) place told k) (record { node = node; place = place }) refl
 
       pub rule_inside : RuleInside table place
       rule_inside =
@@ -102,7 +103,7 @@ module _ {table : List ℕ} {rules : ℕ} {work : List ℕ} {name on rest node :
       pub none_found : next ≡ 0 → Missing table rules name on
       none_found z =
           missing table rules work a.indexed name on
-          (at_slot 6 table a.indexed.0 work index_place n a.indexed.2.1 name on (S.Slot node (rest % 2)) (λ m so. seek.none_follows 6 table work index_place m name on so rest node (a.way m so) place told k next link-is z) node (rest % 2) refl)
+          (at_vacant 6 table a.indexed.0 work index_place n a.indexed.2.1 name on (Err (Side node (rest % 2))) (λ m so. seek.none_follows 6 table work index_place m name on so rest node (a.way m so) place told k next link-is z) (Side node (rest % 2)) refl)
 
       pub goes_down : (next ≡ 0 → ⊥) → Descends table work name on (rest / 2) next
       goes_down z = λ m so. (seek.goes_down 6 table work index_place m name on so rest node (a.way m so) place told k next link-is z).0

@@ -14,7 +14,7 @@ use Rattle.words.proofs.KeptLaws.{kept_same, kept_both}
 use Rattle.format.specs.declared.values.RuleName.{RuleName}
 use Rattle.format.specs.declared.values.Goal.{Goal}
 use Rattle.format.specs.Limits.{most_uses}
-use Rattle.format.specs.Refusals.{EntryWrong}
+use Rattle.format.specs.declared.refusals.Cause.TheVariants.{EntryWrong}
 use Rattle.format.specs.Results.{Result, refused}
 use Rattle.format.specs.Values.{rule_name, goal}
 use Rattle.format.specs.Goals.{goals_at}

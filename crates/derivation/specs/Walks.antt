@@ -4,7 +4,7 @@ use Rattle.words.specs.Word.{word}
 use Rattle.words.specs.Kept.{Kept}
 use Rattle.format.specs.declared.values.Goal.{Goal}
 use Rattle.format.specs.Limits.{most_bytes, most_uses}
-use Rattle.format.specs.Refusals.{EntryWrong}
+use Rattle.format.specs.declared.refusals.Cause.TheVariants.{EntryWrong}
 use Rattle.format.specs.Results.{Result, gives, refused}
 use Rattle.format.specs.Values.{goal}
 use Rattle.format.specs.Goals.{goals_at}

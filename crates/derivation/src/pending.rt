@@ -5,7 +5,7 @@ ghost use Rattle.derivation.specs.Layout.{cursors_place};
 ghost use Rattle.derivation.specs.Pending.{Pends, Takes, RuleInside, Pushes};
 
 use crate::layout::CURSORS;
-use format::values::{Goal, goal_at};
+use format::values::{Goal, value_at};
 use words::{load16, store16};
 
 // How many lists have goals left, and how many of the last roots are left.
@@ -39,8 +39,8 @@ impl Pending {
             if self.roots == 0 {
                 return None;
             }
-            let root = goal_at(flat, 3 + (roots - self.roots) * 2);
-            if goal.0 != root.0 {
+            let root: Goal = value_at(flat, 3 + (roots - self.roots) * 2);
+            if goal != root {
                 return None;
             }
             return Some(Pending {
@@ -50,8 +50,8 @@ impl Pending {
         }
         let top = CURSORS + self.lists * 4 - 4;
         let place = load16(work, top);
-        let first = goal_at(table, place as usize);
-        if goal.0 != first.0 {
+        let first: Goal = value_at(table, place as usize);
+        if goal != first {
             return None;
         }
         let left = load16(work, top + 2);

@@ -7,7 +7,7 @@ ghost use Rattle.derivation.specs.Walks.{EntryInside, carried_goal, Ready, Walks
 use crate::layout::{INDEX, NODES, SET};
 use crate::pending::Pending;
 use format::tags::USE_TAG;
-use format::values::{Goal, goal_at, rule_name_at};
+use format::values::{Goal, value_at};
 use index::layout::HEADS;
 use index::node::{head_of, link};
 use index::seek::digits_of;
@@ -28,9 +28,10 @@ fn carried_goal(flat: &[u8], at: usize) -> Goal
     ensures { result ≡ carried_goal flat.now at }
 {
     if flat[at] == USE_TAG {
-        return goal_at(flat, at + 5);
+        value_at(flat, at + 5)
+    } else {
+        value_at(flat, at + 3)
     }
-    goal_at(flat, at + 3)
 }
 
 // The digits that lead down the index to the rule of the use at a place.
@@ -46,8 +47,8 @@ fn is_rule_of(table: &[u8], rule: usize, flat: &[u8], at: usize) -> bool
     requires { (rule + 7 ≤ length table.now) × (at + 7 ≤ length flat.now) }
     ensures { result ≡ is_key 6 table.now (word flat.now (at + 3)) (word flat.now (at + 5)) rule }
 {
-    let name = rule_name_at(flat, at + 3);
-    let on = goal_at(flat, at + 5);
+    let name = value_at(flat, at + 3);
+    let on = value_at(flat, at + 5);
     carries(table, rule, name, on)
 }
 

@@ -8,7 +8,8 @@ use lib.ListN.{length}
 use borrow.Author.Tests.{lt-ltb, le-ltb}
 use Rattle.format.specs.declared.values.Goal.{Goal}
 use Rattle.format.specs.Limits.{most_entries}
-use Rattle.format.specs.Refusals.{Cause, number}
+use Rattle.format.specs.declared.refusals.Cause.{Cause}
+use Rattle.format.specs.Refusals.{number}
 use Rattle.format.specs.Results.{Result, gives, refused, and_then}
 use Rattle.format.proofs.ResultLaws.{number_positive}
 use Rattle.tables.specs.Tables.{Table}

@@ -5,11 +5,11 @@ use native.Mathlib.Omega.{arith}
 use Rattle.derivation.proofs.EntryLaws.{use_goal, open_goal, as_told}
 use Rattle.derivation.proofs.walk.carried_goal.Goals as goal
 
-pub goal_at-requires : goal.goal_at-requires
-goal_at-requires c = omega (arith, c.requires.some_use c.if-flat-at-eq-USE_TAG.true)
+pub value_at-requires : goal.value_at-requires
+value_at-requires c = omega (arith, c.requires.some_use c.if-flat-at-eq-USE_TAG.true)
 
 pub returns-then-flat-at-eq-USE_TAG : goal.returns-then-flat-at-eq-USE_TAG
-returns-then-flat-at-eq-USE_TAG c = as_told _ _ c.goal_at.ensures ∙ sym (use_goal _ _ c.if-flat-at-eq-USE_TAG.true)
+returns-then-flat-at-eq-USE_TAG c = as_told _ _ c.value_at.ensures ∙ sym (use_goal _ _ c.if-flat-at-eq-USE_TAG.true)
 
-pub returns : goal.returns
-returns c = as_told _ _ c.goal_at-2.ensures ∙ sym (open_goal _ _ c.if-flat-at-eq-USE_TAG.false)
+pub returns-else-flat-at-eq-USE_TAG : goal.returns-else-flat-at-eq-USE_TAG
+returns-else-flat-at-eq-USE_TAG c = as_told _ _ c.value_at-else-flat-at-eq-USE_TAG.ensures ∙ sym (open_goal _ _ c.if-flat-at-eq-USE_TAG.false)

@@ -10,6 +10,6 @@ pub returns : goal.returns
 unfolding is_carried is_key second_of
 returns c =
     let a = c.args in
-    let n = c.rule_name_at-name.ensures in
-    let g = c.goal_at-on.ensures in
+    let n = c.value_at-name.ensures in
+    let g = c.value_at-on.ensures in
     c.carries.ensures ∙ (λ i. is_carried a.table.now a.rule (rule_name (n i)) (goal (g i)))

@@ -2,7 +2,8 @@
 -- Assumes nothing.
 use mathlib.Core.Path.{◌≡◌, sym, ap, ◌∙◌}
 use native.Mathlib.Omega.{arith}
-use Rattle.format.specs.Refusals.{Cause, number}
+use Rattle.format.specs.declared.refusals.Cause.{Cause}
+use Rattle.format.specs.Refusals.{number}
 use Rattle.format.specs.Results.{gives, refused}
 use Rattle.tables.proofs.ToldTable.{ToldRefused, told_refuses}
 use Rattle.whole_table.proofs.ReadLaws.{Told, told_indexed}
