@@ -12,7 +12,7 @@ use Rattle.files.specs.Derivations.{Derivation, read_flat}
 use Rattle.whole_table.proofs.ReadLaws.{Told, told_indexed}
 use Rattle.derivation.specs.Layout.{index_place}
 use Rattle.derivation.specs.CheckedEntries.{DerivationAt}
-use Rattle.tables.proofs.ToldTable.{ToldRefused, told_refuses}
+use Rattle.tables.proofs.ToldTable.{told_refuses}
 use Rattle.files.proofs.Answers.{flat_read, flat_refused}
 use Rattle.files.proofs.RefusedFiles.{Flat-refused}
 use Rattle.answers.specs.Answers.{refusal}
