@@ -4,9 +4,8 @@
 
 pub mod state;
 
-ghost use Rattle.std.specs.Prelude.{◌≡◌, ◌+◌, ◌≤◌, ◌<◌, length};
+ghost use Rattle.std.specs.Prelude.{◌≡◌, ◌+◌, ◌≤◌, ◌<◌, cond, eqb, leb, get_or, length};
 ghost use Rattle.format.specs.Kinds.{kind_number};
-ghost use Rattle.format.specs.Next.{full_table, full_flat};
 ghost use Rattle.parts.specs.declared.state.Part.TheVariants.{Entries, Fields, Body};
 ghost use Rattle.parts.specs.Reader.{Encloses};
 ghost use Rattle.parts.specs.States.{low_of, high_of, full_of, next_of, table_field, entry_taken, remaining_taken, list_taken, taken, behind_body, behind_job, behind_term, blank_state, begun_file, begun_table};
@@ -28,32 +27,6 @@ const MOST_USES: usize = 4096;
 const MOST_OPENS: usize = 256;
 
 const MOST_GOALS: usize = 256;
-
-// Whether no more fields of a table with the tag at this place may come.
-#[tactic(auto, unfolding(format::specs::Next::full_table))]
-fn is_full_table(s: &[u8], at: usize, rules: usize, definitions: usize) -> bool
-    requires { at < length s.now }
-    ensures { result ≡ full_table s.now at rules definitions }
-{
-    if s[at] == RULE_TAG {
-        MOST_RULES <= rules
-    } else {
-        MOST_DEFINITIONS <= definitions
-    }
-}
-
-// Whether no more entries with the tag at this place may come.
-#[tactic(auto, unfolding(format::specs::Next::full_flat))]
-fn is_full_flat(s: &[u8], at: usize, uses: usize, opens: usize) -> bool
-    requires { at < length s.now }
-    ensures { result ≡ full_flat s.now at uses opens }
-{
-    if s[at] == USE_TAG {
-        MOST_USES <= uses
-    } else {
-        MOST_OPENS <= opens
-    }
-}
 
 // In what may stand where a state is, terms are told from other parts by one test in front of the match: a match on all parts costs a fifth more instructions for every field of a term.
 impl State {
@@ -95,8 +68,20 @@ impl State {
         }
     }
 
+    // Of fields of two kinds, whether those of the kind that begins there are as many as may be: the first kind is that of a tag.
+    fn is_at_most(self, s: &[u8], tag: u8, first: usize, second: usize) -> bool
+        requires { self.at < length s.now }
+        ensures { result ≡ cond (eqb (get_or s.now self.at 0) tag) (leb first self.first) (leb second self.second) }
+    {
+        if s[self.at] == tag {
+            first <= self.first
+        } else {
+            second <= self.second
+        }
+    }
+
     // Whether no more fields of the kind that begins there may come.
-    #[tactic(auto, using(crate::proofs::PartLaws::term_chosen, crate::proofs::PartLaws::list_chosen, crate::proofs::PartLaws::else_list), unfolding(crate::specs::States::full_of))]
+    #[tactic(auto, using(crate::proofs::PartLaws::term_chosen, crate::proofs::PartLaws::list_chosen, crate::proofs::PartLaws::else_list), unfolding(crate::specs::States::full_of, format::specs::Next::full_table, format::specs::Next::full_flat))]
     pub fn is_full(self, s: &[u8]) -> bool
         requires { (self.part ≡ Entries → self.at < length s.now) × (self.part ≡ Fields → self.at < length s.now) }
         ensures { result ≡ full_of s.now self }
@@ -105,8 +90,8 @@ impl State {
             return MOST_TERM_FIELDS <= self.fields;
         }
         match self.part {
-            Part::Fields => is_full_table(s, self.at, self.first, self.second),
-            Part::Entries => is_full_flat(s, self.at, self.first, self.second),
+            Part::Fields => self.is_at_most(s, RULE_TAG, MOST_RULES, MOST_DEFINITIONS),
+            Part::Entries => self.is_at_most(s, USE_TAG, MOST_USES, MOST_OPENS),
             _ => false,
         }
     }

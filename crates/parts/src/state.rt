@@ -1,6 +1,6 @@
 // How far a file has been read.
 ghost use Rattle.std.specs.Prelude.{◌≡◌};
-ghost use Rattle.parts.specs.States.{is_term, refusing, stepped, asking, Told};
+ghost use Rattle.parts.specs.States.{is_term, refusing, asking, Told};
 
 use format::refusals::{Cause, Refusal};
 
@@ -70,29 +70,6 @@ impl State {
         State {
             mode: Mode::Refused,
             refusal: Refusal { cause, place },
-            ..self
-        }
-    }
-
-    // Within a term: the place, the end of what encloses it, the term fields and the fields that wait.
-    pub fn stepped(
-        self,
-        mode: Mode,
-        at: usize,
-        end: usize,
-        fields: usize,
-        depth: usize,
-        top: usize,
-    ) -> State
-        ensures { result ≡ stepped self mode at end fields depth top }
-    {
-        State {
-            mode,
-            at,
-            end,
-            fields,
-            depth,
-            top,
             ..self
         }
     }

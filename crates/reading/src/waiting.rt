@@ -31,12 +31,24 @@ fn enter(x: State, header: Result<Header, Refusal>, work: &mut [u8], base: usize
             let fields = x.fields + 1;
             let row = row_of(tag);
             if row.inner == 0 {
-                return x.stepped(Mode::Gave, close, close, fields, x.depth, x.top);
+                return State {
+                    mode: Mode::Gave,
+                    at: close,
+                    end: close,
+                    fields,
+                    ..x
+                };
             }
             let low = base + x.depth * 4;
             push(work, low, (at - x.top) as u16, (row.inner - 1) as u16);
-            let next = at + 3 + row.least as usize;
-            x.stepped(x.mode, next, close, fields, x.depth + 1, at)
+            State {
+                at: at + 3 + row.least as usize,
+                end: close,
+                fields,
+                depth: x.depth + 1,
+                top: at,
+                ..x
+            }
         }
     }
 }
@@ -54,12 +66,21 @@ fn leave(x: State, s: &[u8], work: &mut [u8], base: usize) -> State
     let end = top + 3 + load16(s, top + 1) as usize;
     if left == 0 {
         if x.at == end {
-            return x.stepped(x.mode, x.at, end, x.fields, below, around);
+            return State {
+                end,
+                depth: below,
+                top: around,
+                ..x
+            };
         }
         return x.refused(Cause::LengthWrong, top);
     }
     store16(work, low + 2, 0);
-    x.stepped(Mode::Reads, x.at, end, x.fields, x.depth, top)
+    State {
+        mode: Mode::Reads,
+        end,
+        ..x
+    }
 }
 
 // From the header of a term's field to the next place where a term is to be read, if there is one: behind a term that was read, all fields that end there are left.
@@ -74,10 +95,7 @@ pub fn turn_within(
     ensures { (high : ℕ) → Enters s.now work.old high base x header → Turned s.now work.old high base x work.new result }
 {
     let mut r = enter(x, header, work, base);
-    while r.mode == Mode::Gave {
-        if r.depth == 0 {
-            return r;
-        }
+    while r.mode == Mode::Gave && r.depth != 0 {
         r = leave(r, s, work, base);
     }
     r

@@ -67,22 +67,22 @@ overflow_cast-at c = omega (arith, fits _ _ _ _ _ _ _ _ c.requires.2 c.in-Ok.is)
 pub push-requires : goal.push-requires
 push-requires c = omega (arith, fits _ _ _ _ _ _ _ _ c.requires.2 c.in-Ok.is)
 
-pub overflow_add-next : goal.overflow_add-next
-overflow_add-next c = omega (arith, fits _ _ _ _ _ _ _ _ c.requires.2 c.in-Ok.is)
+pub overflow_add-result : goal.overflow_add-result
+overflow_add-result c = omega (arith, fits _ _ _ _ _ _ _ _ c.requires.2 c.in-Ok.is)
 
-pub overflow_add-next-in-Ok : goal.overflow_add-next-in-Ok
-overflow_add-next-in-Ok c = omega (arith, fits _ _ _ _ _ _ _ _ c.requires.2 c.in-Ok.is, c.row_of-row.ensures.least)
+pub overflow_add-result-in-Ok : goal.overflow_add-result-in-Ok
+overflow_add-result-in-Ok c = omega (arith, fits _ _ _ _ _ _ _ _ c.requires.2 c.in-Ok.is, c.row_of-row.ensures.least)
 
-pub overflow_add-x : goal.overflow_add-x
-overflow_add-x c = omega (arith, fits _ _ _ _ _ _ _ _ c.requires.2 c.in-Ok.is)
+pub overflow_add-result-in-Ok-2 : goal.overflow_add-result-in-Ok-2
+overflow_add-result-in-Ok-2 c = omega (arith, fits _ _ _ _ _ _ _ _ c.requires.2 c.in-Ok.is)
 
 pub returns-in-Err : goal.returns-in-Err
 returns-in-Err c = λ s high b. rw c.refused.ensures (enter_refused _ _ _ _ _ b.going b.reading _ _ (sym b.header_is ∙ c.in-Err.is))
 
 pub returns-then-row-eq0 : goal.returns-then-row-eq0
-returns-then-row-eq0 c = λ s high b. rw c.stepped.ensures (enter-leaf _ _ _ _ _ b.going b.reading _ _ _ _ (header_is _ _ _ _ _ _ _ _ b c.in-Ok.is) refl c.row_of-row.ensures.inner c.if-row-eq0.true)
+returns-then-row-eq0 c = λ s high b. (enter-leaf _ _ _ _ _ b.going b.reading _ _ _ _ (header_is _ _ _ _ _ _ _ _ b c.in-Ok.is) refl c.row_of-row.ensures.inner c.if-row-eq0.true)
 
 pub returns-else-row-eq0 : goal.returns-else-row-eq0
 returns-else-row-eq0 c =
     let r = c.row_of-row.ensures in
-    λ s high b. rw c.stepped-in-Ok.ensures (enter_inner _ _ _ _ _ b.going b.reading _ _ _ _ (header_is _ _ _ _ _ _ _ _ b c.in-Ok.is) refl r.inner _ r.least c.if-row-eq0.false _ c.push.ensures)
+    λ s high b. (enter_inner _ _ _ _ _ b.going b.reading _ _ _ _ (header_is _ _ _ _ _ _ _ _ b c.in-Ok.is) refl r.inner _ r.least c.if-row-eq0.false _ c.push.ensures)
