@@ -12,7 +12,7 @@ use Rattle.format.specs.declared.values.Goal.{Goal}
 use Rattle.format.specs.Encoding.{Bytes, GoalValues, TermValues}
 use Rattle.format.specs.Limits.{least_height, most_height, most_search_steps}
 use Rattle.format.specs.declared.refusals.Cause.{Cause}
-use Rattle.format.specs.declared.refusals.Cause.TheVariants.{BudgetSpent, BudgetTooLarge, NoEvaluation, HeightOutside}
+use Rattle.format.specs.declared.refusals.Cause.TheVariants.{BudgetSpent, BudgetTooLarge, NoEvaluation as none_found, HeightOutside}
 use Rattle.format.specs.Refusals.{number}
 use Rattle.format.specs.Results.{Result, gives, refused}
 use Rattle.format.specs.Terms.{Term}
@@ -104,7 +104,7 @@ module _ (t f : List ℕ) (T : Table) (j : Job) (e : read_table t ≡ gives T) (
       module _ (never : NoneFound (events_of T h j)) where
         none_known : length (events_of T h j) ≤ b → call.answer ≡ answer.refusal 41 0 0 (length (events_of T h j))
         unfolding search_end number
-        none_known m = refuses NoEvaluation _ (outcome ∙ ap (search_end j) (search_none T h j.term j.goals b never m))
+        none_known m = refuses none_found _ (outcome ∙ ap (search_end j) (search_none T h j.term j.goals b never m))
 
         none_unknown : b < length (events_of T h j) → call.answer ≡ answer.refusal 24 0 0 b
         unfolding search_end number
