@@ -5,7 +5,8 @@ use mathlib.Core.Path.{◌≡◌, refl, sym, ap, ◌∙◌}
 use mathlib.Core.List.{List}
 use borrow.Author.Tests.{lt-ltb, le-ltb}
 use Rattle.format.specs.Limits.{most_steps}
-use Rattle.format.specs.Refusals.{number, BudgetTooLarge}
+use Rattle.format.specs.declared.refusals.Cause.TheVariants.{BudgetTooLarge}
+use Rattle.format.specs.Refusals.{number}
 use Rattle.tables.specs.Tables.{Table}
 use Rattle.files.specs.Jobs.{Job}
 use Rattle.evaluation.specs.Machine as M
@@ -32,9 +33,8 @@ module _ (t s : List ℕ) (b : ℕ) where
   unfolding run_outcome
   too_large h = rw (lt-ltb most_steps b h)
 
-  pub too_large_end : (o : List ℕ) (r : Answer) → most_steps < b → r ≡ said.refusal 25 0 0 0 → kept r o ≡ left_in o (run_outcome t s b)
-  unfolding number
-  too_large_end o r h q = refuses BudgetTooLarge 25 no_file 0 0 r o refl q ∙ ap (left_in o) (sym (too_large h))
+  pub too_large_end : (o : List ℕ) (r : Answer) → most_steps < b → r ≡ said.refusal (number BudgetTooLarge) 0 0 0 → kept r o ≡ left_in o (run_outcome t s b)
+  too_large_end o r h q = refuses BudgetTooLarge (number BudgetTooLarge) no_file 0 0 r o refl q ∙ ap (left_in o) (sym (too_large h))
 
   module _ (fits : b ≤ most_steps) where
     small_enough : run_outcome t s b ≡ on_job t s (runs b)

@@ -8,7 +8,9 @@ use lib.ListN.{length, drop}
 use lib.Seq.{paste}
 use Rattle.format.specs.declared.values.Goal.{Goal}
 use Rattle.format.specs.Limits.{most_held}
-use Rattle.format.specs.Refusals.{Cause, number, TacticFailed, BudgetSpent}
+use Rattle.format.specs.declared.refusals.Cause.{Cause}
+use Rattle.format.specs.declared.refusals.Cause.TheVariants.{JoinedTooLong, TacticFailed, BudgetSpent, FieldsTooMany}
+use Rattle.format.specs.Refusals.{number}
 use Rattle.format.specs.Terms.{Term, size}
 use Rattle.format.specs.Standing.{Stands}
 use Rattle.tables.specs.Tables.{Table, UniqueDefinitions}
@@ -35,6 +37,8 @@ use Rattle.tactics.specs.File.{file_size, FileGiven, FileWritten}
 use Rattle.tactics.proofs.MemoryLaws.{only_copy}
 use Rattle.tactics.proofs.JobLaws.{same_place, place_small, goals_few, goals_inside, term_place_lem, term_stands, goals_copied}
 use Rattle.tactics.proofs.EntryLaws as entry
+use Rattle.machine.specs.declared.state.Mode.{Mode}
+use Rattle.machine.specs.declared.state.Mode.TheVariants as is
 use Rattle.machine.specs.declared.state.State.{State}
 use Rattle.machine.specs.Shows.{FramesAt, Proved, LimitMode, overflows, exceeds}
 use Rattle.machine.proofs.WaitingLaws.{if_proved, if_failed, if_ended}
@@ -44,7 +48,7 @@ use Rattle.runner.proofs.RunLaws.{known_same, if_running, if_stopped}
 
 -- the first state
 abbrev start_state : JobParts → State
-start_state parts = record { mode = 0; file = 1; at = parts.term; start = output_end; count = parts.goals; top = frames_end; arena = output_end + parts.goals * 2; out = 0; held = 0; steps = 0 }
+start_state parts = record { mode = is.Running; file = 1; at = parts.term; start = output_end; count = parts.goals; top = frames_end; arena = output_end + parts.goals * 2; out = 0; held = 0; steps = 0 }
 
 pub start_few : (job : List ℕ) (parts : JobParts) (w : List ℕ) → StartGiven job parts w → (parts.goals ≤ 256) × (3 + parts.goals * 2 ≤ length job)
 start_few job parts w q = (goals_few job q.the_job q.job_stands parts q.parts_are, goals_inside job q.the_job q.job_stands parts q.parts_are)
@@ -70,41 +74,41 @@ start_end job parts w v q e =
       };
     }
 
--- the number of the limit that ended a run, by its mode
-limit_number : {mode : ℕ} {c : Cause} → LimitMode mode c → (mode ≡ 3 → number c ≡ 22) × ((mode ≡ 3 → ⊥) → number c ≡ 40)
-unfolding number
-limit_number overflows = (λ e. refl, λ n. absurd (n refl))
-limit_number exceeds = (λ e. absurd (omega (arith, e)), λ n. refl)
+-- the cause of the limit that ended a run, by its mode
+limit_cause : {mode : Mode} {c : Cause} → LimitMode mode c → (mode ≡ is.Overflowed → c ≡ JoinedTooLong) × (mode ≡ is.Exceeded → c ≡ FieldsTooMany)
+limit_cause overflows = (λ e. refl, λ e. cc)
+limit_cause exceeds = (λ e. cc, λ e. refl)
 
 -- the end of a run, by the last state's mode
 module _ (job w : List ℕ) (s : State) (o : List ℕ) (r : Answer) where
-  pub spent_end : s.mode ≡ 0 → r ≡ said.refusal 24 0 0 s.steps → Finishes job w s o r o
-  unfolding run_end number
-  spent_end m q table j κ st h = if_running table job w s (λ x. kept r o ≡ left_in o (run_end j s.steps x)) m (λ π t g k i. refuses BudgetSpent 24 0 0 s.steps r o refl q) κ h
-
-  pub failed_end : (s.mode ≡ 0 → ⊥) → s.mode ≡ 2 → r ≡ said.refusal 23 0 0 s.steps → Finishes job w s o r o
-  unfolding run_end number
-  failed_end n m q table j κ st h =
-      if_stopped table job w s (λ x. kept r o ≡ left_in o (run_end j s.steps x)) n
-      (λ e i. if_failed table job w s [] (λ y. kept r o ≡ left_in o (run_end j s.steps (stopped y))) m (λ l. refuses TacticFailed 23 0 0 s.steps r o refl q) e i) κ h
-
-  -- by a limit, whose number is the answer's
-  limit_end : (n : ℕ) → ((c : Cause) → LimitMode s.mode c → number c ≡ n) → (s.mode ≡ 0 → ⊥) → (s.mode ≡ 1 → ⊥) → (s.mode ≡ 2 → ⊥) → r ≡ said.refusal n 0 0 s.steps → Finishes job w s o r o
+  pub spent_end : s.mode ≡ is.Running → r ≡ said.refusal (number BudgetSpent) 0 0 s.steps → Finishes job w s o r o
   unfolding run_end
-  limit_end i f n a b q table j κ st h =
+  spent_end m q table j κ st h = if_running table job w s (λ x. kept r o ≡ left_in o (run_end j s.steps x)) m (λ π t g k i. refuses BudgetSpent (number BudgetSpent) 0 0 s.steps r o refl q) κ h
+
+  pub failed_end : s.mode ≡ is.Failed → r ≡ said.refusal (number TacticFailed) 0 0 s.steps → Finishes job w s o r o
+  unfolding run_end
+  failed_end m q table j κ st h =
+      if_stopped table job w s (λ x. kept r o ≡ left_in o (run_end j s.steps x)) (λ z. cc)
+      (λ e i. if_failed table job w s [] (λ y. kept r o ≡ left_in o (run_end j s.steps (stopped y))) m (λ l. refuses TacticFailed (number TacticFailed) 0 0 s.steps r o refl q) e i) κ h
+
+  -- by a limit, whose cause is the answer's
+  limit_end : (d : Cause) → ((c : Cause) → LimitMode s.mode c → c ≡ d) → (s.mode ≡ is.Running → ⊥) → (s.mode ≡ is.Proved → ⊥) → (s.mode ≡ is.Failed → ⊥) → r ≡ said.refusal (number d) 0 0 s.steps
+      → Finishes job w s o r o
+  unfolding run_end
+  limit_end d f n a b q table j κ st h =
       if_stopped table job w s (λ x. kept r o ≡ left_in o (run_end j s.steps x)) n
-      (λ e x. if_ended table job w s [] (λ y. kept r o ≡ left_in o (run_end j s.steps (stopped y))) a b (λ c l. refuses c i 0 0 s.steps r o (f c l.limit) q) e x) κ h
+      (λ e x. if_ended table job w s [] (λ y. kept r o ≡ left_in o (run_end j s.steps (stopped y))) a b (λ c l. refuses c (number d) 0 0 s.steps r o (ap number (f c l.limit)) q) e x) κ h
 
-  pub overflow_end : (s.mode ≡ 0 → ⊥) → (s.mode ≡ 1 → ⊥) → (s.mode ≡ 2 → ⊥) → s.mode ≡ 3 → r ≡ said.refusal 22 0 0 s.steps → Finishes job w s o r o
-  overflow_end n a b m = limit_end 22 (λ c l. (limit_number l).0 m) n a b
+  pub overflow_end : s.mode ≡ is.Overflowed → r ≡ said.refusal (number JoinedTooLong) 0 0 s.steps → Finishes job w s o r o
+  overflow_end m = limit_end JoinedTooLong (λ c l. (limit_cause l).0 m) (λ z. cc) (λ z. cc) (λ z. cc)
 
-  pub exceed_end : (s.mode ≡ 0 → ⊥) → (s.mode ≡ 1 → ⊥) → (s.mode ≡ 2 → ⊥) → (s.mode ≡ 3 → ⊥) → r ≡ said.refusal 40 0 0 s.steps → Finishes job w s o r o
-  exceed_end n a b m = limit_end 40 (λ c l. (limit_number l).1 m) n a b
+  pub exceed_end : s.mode ≡ is.Exceeded → r ≡ said.refusal (number FieldsTooMany) 0 0 s.steps → Finishes job w s o r o
+  exceed_end m = limit_end FieldsTooMany (λ c l. (limit_cause l).1 m) (λ z. cc) (λ z. cc) (λ z. cc)
 
 -- the end of a run that succeeded
-module _ (job : List ℕ) (term : ℕ) (w : List ℕ) (s : State) (m : s.mode ≡ 1) (q : FinishGiven job term w s) where
-  not_running : s.mode ≡ 0 → ⊥
-  not_running z = omega (arith, m, z)
+module _ (job : List ℕ) (term : ℕ) (w : List ℕ) (s : State) (m : s.mode ≡ is.Proved) (q : FinishGiven job term w s) where
+  not_running : s.mode ≡ is.Running → ⊥
+  not_running z = cc
 
   -- the hiproof is all that is held
   hiproof_small : (table : List ℕ) (p : Term) (g : List Goal) → Proved table job w s p g [] → s.out ≤ 5 * most_held

@@ -1,10 +1,11 @@
 -- The last state of a job in the files that were read: what the code was told of them makes it one, and it says which of the entry's outcomes the run comes to.
 -- Assumes nothing.
 use Prim.Native.Nat.{ℕ, ◌≤◌}
-use mathlib.Core.Path.{◌≡◌, subst}
+use mathlib.Core.Path.{◌≡◌, refl, sym, subst}
 use mathlib.Core.List.{List}
 use native.Mathlib.Omega.{arith}
 use lib.ListN.{length}
+use Rattle.std.specs.Prelude.{Result, Ok, Err}
 use Rattle.format.specs.Limits.{most_steps}
 use Rattle.files.specs.declared.jobs.JobParts.{JobParts}
 use Rattle.evaluation.specs.Machine as M
@@ -17,11 +18,11 @@ use Rattle.tactics.specs.Memory.{Same}
 use Rattle.tactics.specs.Entry.{FilesRefused}
 use Rattle.tactics.proofs.JobLaws.{term_place_lem}
 use Rattle.tactics.proofs.EntryLaws.{BothRead}
+use Rattle.machine.specs.declared.state.Mode.TheVariants as is
 use Rattle.machine.specs.declared.state.State.{State}
 use Rattle.machine.specs.Shows.{Shows}
 use Rattle.machine.proofs.KeepLaws.{runs_kept}
-use Rattle.runner.specs.declared.last.LastState.{LastState}
-use Rattle.runner.specs.declared.last.LastState.TheVariants as L
+use Rattle.runner.specs.declared.last.Reached as told
 use Rattle.runner.specs.Jobs.{FinishGiven, Finishes, JobGiven, JobRan}
 use Rattle.runner.specs.LastState.{Reached, Reaches}
 use Rattle.runner.proofs.RunLaws.{known_same, if_running}
@@ -57,15 +58,30 @@ module _ (t s : List ℕ) (b : ℕ) (fits : b ≤ most_steps) (definitions first
     shows = h.shows q.table q.the_job q.table_stands q.unique q.count_is q.job_stands q.parts_are;
   }
 
--- from what the code tells
-module _ (t s : List ℕ) (b : ℕ) (w : List ℕ) (r : LastState) (h : Reaches t s b w r) where
-  pub is_refused : (a : Answer) → r ≡ L.Refused a → FilesRefused t s a
-  unfolding Reaches
-  is_refused a e = subst (λ (x : LastState). Reaches t s b w x) e h
+-- by how a reader answered
+pub by_result : {A B : Type 0} (r : Result A B) (P : Type 0) → ((a : A) → r ≡ Ok a → P) → ((b : B) → r ≡ Err b → P) → P
+by_result (Ok a) P f g = f a refl
+by_result (Err b) P f g = g b refl
 
-  pub is_reached : (x : State) (first term : ℕ) → r ≡ L.Reached x first term → Reached t s b w x first term
+-- what the code tells
+module _ (t s : List ℕ) (b : ℕ) (w : List ℕ) where
+  pub refused_reaches : (r : Result told.Reached Answer) (a : Answer) → r ≡ Err a → FilesRefused t s a → Reaches t s b w r
   unfolding Reaches
-  is_reached x first term e = subst (λ (y : LastState). Reaches t s b w y) e h
+  refused_reaches r a e f = subst (λ (x : Result told.Reached Answer). Reaches t s b w x) (sym e) f
+
+  pub reached_reaches : (x : told.Reached) → Reached t s b w x.state x.first x.term → Reaches t s b w (Ok x)
+  unfolding Reaches
+  reached_reaches x q = q
+
+-- from what the code tells
+module _ (t s : List ℕ) (b : ℕ) (w : List ℕ) (r : Result told.Reached Answer) (h : Reaches t s b w r) where
+  pub is_refused : (a : Answer) → r ≡ Err a → FilesRefused t s a
+  unfolding Reaches
+  is_refused a e = subst (λ (x : Result told.Reached Answer). Reaches t s b w x) e h
+
+  pub is_reached : (x : told.Reached) → r ≡ Ok x → Reached t s b w x.state x.first x.term
+  unfolding Reaches
+  is_reached x e = subst (λ (y : Result told.Reached Answer). Reaches t s b w y) e h
 
 -- the end of the run
 module _ (t s : List ℕ) (b : ℕ) (w : List ℕ) (x : State) (first term : ℕ) (q : Reached t s b w x first term) where
@@ -88,7 +104,7 @@ module _ (t s : List ℕ) (b : ℕ) (w : List ℕ) (x : State) (first term : ℕ
       subst (λ (n : ℕ). kept r v ≡ left_in o (run_end q.job n σ.control)) q.shows.steps_are (h t q.job σ.control q.job_stands q.shows.shows)
 
 -- a run that halted stands as before after a write behind all that a run uses
-unfoldable pub reached_kept : (t s : List ℕ) (b : ℕ) (w v : List ℕ) (x : State) (first term : ℕ) → Reached t s b w x first term → x.mode ≡ 0 → b ≤ most_steps → length v ≡ length w → Same 0 space_end w v
+unfoldable pub reached_kept : (t s : List ℕ) (b : ℕ) (w v : List ℕ) (x : State) (first term : ℕ) → Reached t s b w x first term → x.mode ≡ is.Running → b ≤ most_steps → length v ≡ length w → Same 0 space_end w v
     → Reached t s b v x first term
 unfolding Shows
 reached_kept t s b w v x first term q m h len same = record {

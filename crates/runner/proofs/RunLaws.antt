@@ -21,6 +21,7 @@ use Rattle.tactics.specs.Memory.{Same}
 use Rattle.tactics.specs.Source.{source}
 use Rattle.tactics.proofs.MemoryLaws.{same_word}
 use Rattle.tactics.proofs.SourceLaws.{source_small}
+use Rattle.machine.specs.declared.state.Mode.TheVariants as is
 use Rattle.machine.specs.declared.state.State.{State}
 use Rattle.machine.specs.Shows.{Runs, Ends, Shows}
 use Rattle.machine.specs.Step.{Grown, Given, Stepped}
@@ -63,13 +64,13 @@ run_none T zero σ h = refl
 run_none T (suc left) σ h = absurd (omega arith)
 
 -- a state in which a term is to begin, and one in which none is
-pub if_running : (bytes job w : List ℕ) (s : State) (P : Control → Type 0) → s.mode ≡ 0 → ((π : M.Place) (t : Term) (g : List Goal) (k : List M.Frame) → Runs bytes job w s π t g k → P (running π t g k))
+pub if_running : (bytes job w : List ℕ) (s : State) (P : Control → Type 0) → s.mode ≡ is.Running → ((π : M.Place) (t : Term) (g : List Goal) (k : List M.Frame) → Runs bytes job w s π t g k → P (running π t g k))
     → (κ : Control) → Shows bytes job w s κ → P κ
 unfolding Shows
 if_running bytes job w s P m f (running π t g k) h = f π t g k h
 if_running bytes job w s P m f (stopped e) h = absurd (not_running w s bytes job e _ h m)
 
-pub if_stopped : (bytes job w : List ℕ) (s : State) (P : Control → Type 0) → (s.mode ≡ 0 → ⊥) → ((e : Ending) → Ends bytes job w s e [] → P (stopped e)) → (κ : Control) → Shows bytes job w s κ → P κ
+pub if_stopped : (bytes job w : List ℕ) (s : State) (P : Control → Type 0) → (s.mode ≡ is.Running → ⊥) → ((e : Ending) → Ends bytes job w s e [] → P (stopped e)) → (κ : Control) → Shows bytes job w s κ → P κ
 unfolding Shows
 if_stopped bytes job w s P n f (running π t g k) h = absurd (n h.mode_is)
 if_stopped bytes job w s P n f (stopped e) h = f e h
@@ -85,7 +86,7 @@ way_start bytes first job w s budget = record {
 
 module _ (bytes : List ℕ) (first : ℕ) (job w₀ : List ℕ) (s₀ : State) (budget : ℕ) (w : List ℕ) (s : State) (left : ℕ) (way : Way bytes first job w₀ s₀ budget w s left) where
   -- the run has ended
-  pub ran_end : (s.mode ≡ 0 → ⊥) → Ran bytes first job w₀ s₀ budget w s
+  pub ran_end : (s.mode ≡ is.Running → ⊥) → Ran bytes first job w₀ s₀ budget w s
   ran_end n = record {
     same_length = way.same_length;
     beyond = way.far;
@@ -108,7 +109,7 @@ module _ (bytes : List ℕ) (first : ℕ) (job w₀ : List ℕ) (s₀ : State) (
         subst (λ (σ : M.State). ShowsState bytes job w s σ) (sym (run_none T left (after s.steps o.control) z) ∙ o.same) (record { steps_are = refl; shows = o.shows });
   }
 
-  module _ (more : 0 < left) (m : s.mode ≡ 0) where
+  module _ (more : 0 < left) (m : s.mode ≡ is.Running) where
     pub given : Started bytes first job w₀ s₀ budget → Given bytes first (source bytes job s.file) w s
     given q =
         let o = way.onward q.table q.place q.term q.goals q.frames q.table_stands q.known q.runs in

@@ -5,9 +5,10 @@ ghost use Rattle.entries.specs.Left.{kept, left_in};
 ghost use Rattle.arities.specs.Layout.{space_end};
 
 use crate::job::finish;
-use crate::last::{LastState, run_files};
-use answers::{Answer, refusal};
+use crate::last::run_files;
+use answers::{Answer, File};
 use arities::layout::SPACE_END;
+use format::refusals::Cause;
 use words::clear;
 
 // 25 before any reading.
@@ -16,12 +17,11 @@ fn run_budget(table: &[u8], job: &[u8], budget: u32, work: &mut [u8], out: &mut 
     ensures { kept result out.new ≡ left_in out.old (run_outcome table.now job.now budget) }
 {
     if 16384 < budget {
-        return refusal(25, 0, 0, 0);
+        return Answer::refused(Cause::BudgetTooLarge, File::Neither, 0, 0);
     }
-    let last = run_files(table, job, budget as usize, work);
-    match last {
-        LastState::Refused(answer) => answer,
-        LastState::Reached(s, _, term) => finish(s, job, term, work, out),
+    match run_files(table, job, budget as usize, work) {
+        Ok(last) => finish(last.state, job, last.term, work, out),
+        Err(answer) => answer,
     }
 }
 
@@ -32,7 +32,7 @@ pub fn run(table: &[u8], job: &[u8], budget: u32, work: &mut [u8], out: &mut [u8
     ensures out_after { out.new ≡ (run_tactic table.now job.now budget work.old out.old).out }
 {
     if work.len() < SPACE_END {
-        return refusal(29, 0, 0, 0);
+        return Answer::refused(Cause::WorkTooShort, File::Neither, 0, 0);
     }
     let answer = run_budget(table, job, budget, work, out);
     clear(work);

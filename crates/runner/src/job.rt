@@ -1,13 +1,15 @@
 // A job run in a table that stands: its first state, its steps, and what its last state leaves in the output space.
 ghost use Rattle.std.specs.Prelude.{◌≡◌, ◌+◌, ◌*◌};
+ghost use Rattle.machine.specs.declared.state.Mode.TheVariants as is;
 ghost use Rattle.runner.specs.Jobs.{StartGiven, Starts, FinishGiven, Finishes, JobGiven, JobRan};
 
 use crate::run::run_steps;
-use answers::{Answer, refusal, wrote};
+use answers::{Answer, File};
 use arities::layout::{FRAMES_END, OUTPUT_END};
 use arities::rounds::fill_arities;
 use files::jobs::JobParts;
-use machine::state::{FAILED, OVERFLOWED, PROVED, RUNNING, State};
+use format::refusals::Cause;
+use machine::state::{Mode, State};
 use tactics::file::write_file;
 use words::copy_in;
 
@@ -18,7 +20,7 @@ fn start(job: &[u8], parts: JobParts, work: &mut [u8]) -> State
 {
     copy_in(work, OUTPUT_END, job, 3, parts.goals * 2);
     State {
-        mode: RUNNING,
+        mode: Mode::Running,
         file: 1,
         at: parts.term,
         start: OUTPUT_END,
@@ -33,15 +35,15 @@ fn start(job: &[u8], parts: JobParts, work: &mut [u8]) -> State
 
 // The answer of a run that succeeded: 26, or the proof file written.
 fn finish_proved(s: State, job: &[u8], term: usize, work: &[u8], out: &mut [u8]) -> Answer
-    requires { (s.mode ≡ 1) × FinishGiven job.now term work.now s }
+    requires { (s.mode ≡ is.Proved) × FinishGiven job.now term work.now s }
     ensures { Finishes job.now work.now s out.old result out.new }
 {
     let size = term + s.out + 3 + s.count * 2;
     if out.len() < size {
-        return refusal(26, 0, 0, s.steps);
+        return Answer::refused(Cause::OutputTooShort, File::Neither, 0, s.steps);
     }
     write_file(job, term, work, 0, s.out, s.start, s.count, out);
-    wrote(size, s.steps)
+    Answer::wrote(size, s.steps)
 }
 
 // The answer of a run, by its last state.
@@ -49,19 +51,13 @@ pub fn finish(s: State, job: &[u8], term: usize, work: &[u8], out: &mut [u8]) ->
     requires { FinishGiven job.now term work.now s }
     ensures { Finishes job.now work.now s out.old result out.new }
 {
-    if s.mode == PROVED {
-        return finish_proved(s, job, term, work, out);
+    match s.mode {
+        Mode::Proved => finish_proved(s, job, term, work, out),
+        Mode::Running => Answer::refused(Cause::BudgetSpent, File::Neither, 0, s.steps),
+        Mode::Failed => Answer::refused(Cause::TacticFailed, File::Neither, 0, s.steps),
+        Mode::Overflowed => Answer::refused(Cause::JoinedTooLong, File::Neither, 0, s.steps),
+        Mode::Exceeded => Answer::refused(Cause::FieldsTooMany, File::Neither, 0, s.steps),
     }
-    if s.mode == RUNNING {
-        return refusal(24, 0, 0, s.steps);
-    }
-    if s.mode == FAILED {
-        return refusal(23, 0, 0, s.steps);
-    }
-    if s.mode == OVERFLOWED {
-        return refusal(22, 0, 0, s.steps);
-    }
-    refusal(40, 0, 0, s.steps)
 }
 
 // A job that was read, in a table that was read: its last state.

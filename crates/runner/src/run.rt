@@ -2,7 +2,7 @@
 ghost use Rattle.std.specs.Prelude.{◌≡◌, ◌+◌};
 ghost use Rattle.runner.specs.Run.{Started, Ran};
 
-use machine::state::{RUNNING, State};
+use machine::state::{Mode, State};
 
 // At most so many steps; a term that is still to begin afterwards says that the budget is spent.
 pub fn run_steps(
@@ -17,13 +17,11 @@ pub fn run_steps(
     ensures { Ran table.now first job.now work.old from budget work.new result }
 {
     let mut s = from;
-    let mut left = budget;
-    while 0 < left {
-        if s.mode != RUNNING {
+    for _ in 0..budget {
+        if s.mode != Mode::Running {
             return s;
         }
         s = s.step(table, first, job, work);
-        left -= 1;
     }
     s
 }

@@ -3,22 +3,14 @@
 use Rattle.runner.proofs.JobLaws.{spent_end, failed_end, overflow_end, exceed_end}
 use Rattle.runner.proofs.job.finish.Goals as goal
 
-pub returns-then-s-eq-RUNNING : goal.returns-then-s-eq-RUNNING
-returns-then-s-eq-RUNNING c =
-    let a = c.args in
-    spent_end a.job.now a.work.now a.s a.out.now _ c.if-s-eq-RUNNING.true c.refusal.ensures
+pub returns-in-Running : goal.returns-in-Running
+returns-in-Running c = spent_end _ _ _ _ _ c.in-Running.is c.refused.ensures
 
-pub returns-then-s-eq-FAILED : goal.returns-then-s-eq-FAILED
-returns-then-s-eq-FAILED c =
-    let a = c.args in
-    failed_end a.job.now a.work.now a.s a.out.now _ c.if-s-eq-RUNNING.false c.if-s-eq-FAILED.true c.refusal-then-s-eq-FAILED.ensures
+pub returns-in-Failed : goal.returns-in-Failed
+returns-in-Failed c = failed_end _ _ _ _ _ c.in-Failed.is c.refused-in-Failed.ensures
 
-pub returns-then-s-eq-OVERFLOWED : goal.returns-then-s-eq-OVERFLOWED
-returns-then-s-eq-OVERFLOWED c =
-    let a = c.args in
-    overflow_end a.job.now a.work.now a.s a.out.now _ c.if-s-eq-RUNNING.false c.if-s-eq-PROVED.false c.if-s-eq-FAILED.false c.if-s-eq-OVERFLOWED.true c.refusal-then-s-eq-OVERFLOWED.ensures
+pub returns-in-Overflowed : goal.returns-in-Overflowed
+returns-in-Overflowed c = overflow_end _ _ _ _ _ c.in-Overflowed.is c.refused-in-Overflowed.ensures
 
-pub returns : goal.returns
-returns c =
-    let a = c.args in
-    exceed_end a.job.now a.work.now a.s a.out.now _ c.if-s-eq-RUNNING.false c.if-s-eq-PROVED.false c.if-s-eq-FAILED.false c.if-s-eq-OVERFLOWED.false c.refusal-2.ensures
+pub returns-in-Exceeded : goal.returns-in-Exceeded
+returns-in-Exceeded c = exceed_end _ _ _ _ _ c.in-Exceeded.is c.refused-in-Exceeded.ensures

@@ -1,6 +1,7 @@
 -- `job::finish_proved` meets its contract: by the length of the output space.
 -- Assumes nothing.
 use native.Mathlib.Omega.{arith}
+use Rattle.format.specs.Refusals.{number}
 use Rattle.runner.proofs.JobLaws.{finish_small, file_given, short_end, success_end}
 use Rattle.runner.proofs.job.finish_proved.Goals as goal
 
@@ -32,16 +33,17 @@ overflow_add-size-3 c =
     let z = finish_small a.job.now a.term a.work.now a.s p.0 p.1 in
     omega (arith, z)
 
-pub refusal-requires : goal.refusal-requires
-refusal-requires c =
+pub refused-requires : goal.refused-requires
+refused-requires c =
     let p = c.requires in
     (omega arith, omega (arith, p.1.few_steps))
 
 pub returns-then-out-size : goal.returns-then-out-size
+unfolding number
 returns-then-out-size c =
     let a = c.args in
     let p = c.requires in
-    short_end a.job.now a.term a.work.now a.s p.0 p.1 a.out.now _ (omega (arith, c.if-out-size.true)) c.refusal.ensures
+    short_end a.job.now a.term a.work.now a.s p.0 p.1 a.out.now _ (omega (arith, c.if-out-size.true)) c.refused.ensures
 
 pub write_file-requires : goal.write_file-requires
 write_file-requires c =
