@@ -12,7 +12,7 @@ use Rattle.words.proofs.WordLaws.{word_same}
 use Rattle.format.specs.declared.values.Goal.{Goal}
 use Rattle.format.specs.declared.values.Label.{Label}
 use Rattle.format.specs.Goals.{goals_at}
-use Rattle.format.specs.Limits.{most_held}
+use Rattle.format.specs.Limits.{most_steps, most_held}
 use Rattle.format.specs.Refusals.{FieldsTooMany}
 use Rattle.format.specs.Terms.{Term, id, label, sequence, empty, alternation, assert, size, fields}
 use Rattle.format.specs.Standing.{Head, Stands}
@@ -35,7 +35,7 @@ use Rattle.machine.specs.declared.state.Mode.{Mode}
 use Rattle.machine.specs.declared.state.Mode.TheVariants as is
 use Rattle.machine.specs.declared.state.State.{State}
 use Rattle.machine.specs.Shows.{here, GoalsIs, FrameIs, Began, FramesAt, Sizes, Runs, Lost, exceeds, Ends, Config, next, done, Holds}
-use Rattle.machine.specs.Begun.{enter, Room, Begins, lost, failed, exceeded, kept, entered, id_next, empty_next, assert_next, sequence_next, alternation_next, label_next, sequence_frame, alternation_frame, label_frame}
+use Rattle.machine.specs.Begun.{enter, Room, Ready, Begins, lost, failed, exceeded, kept, entered, id_next, empty_next, assert_next, sequence_next, alternation_next, label_next, sequence_frame, alternation_frame, label_frame}
 use Rattle.machine.specs.Step.{Grown}
 use Rattle.machine.proofs.HeldLaws.{within-fits, within_over}
 use Rattle.machine.proofs.KeepLaws.{kept_output, kept-behind, goals_kept_lem, frames_kept}
@@ -43,6 +43,10 @@ use Rattle.machine.proofs.KeepLaws.{kept_output, kept-behind, goals_kept_lem, fr
 -- the place so many bytes on from the state's
 pub place_on : (s : State) (π : M.Place) (n m : ℕ) → here s ≡ π → m ≡ s.at + n → ◌≡◌ {A = M.Place} (record { file = s.file; at = m }) (past π n)
 place_on s π n m q e = (λ i. record { file = s.file; at = e i }) ∙ ap (λ (x : M.Place). past x n) q
+
+-- what entering an inner term asks
+pub may_enter : (w : List ℕ) (s : State) → Ready w s → (on : ℕ) → on ≤ 5 → (s.steps < most_steps) × (s.at < 65536) × (on ≤ 5) × (19 ≤ s.top)
+may_enter w s p on h = (p.room.steps_left, p.at_small, h, omega (arith, p.room.frames_low))
 
 -- a frame laid on the others
 pushed : (table job w : List ℕ) (arena top o o' : ℕ) (f : Frame) (x : M.Frame) (k : List M.Frame)

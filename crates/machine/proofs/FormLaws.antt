@@ -9,6 +9,8 @@ use native.Mathlib.Omega.{arith}
 use lib.ListN.{length, get_or, take, drop}
 use lib.Seq.{paste}
 use borrow.Author.Tests.{le-leb, lt-leb}
+use Rattle.std.specs.Prelude as std
+use Rattle.std.specs.Prelude.{Some, None}
 use Rattle.words.specs.Word.{word, put_word}
 use Rattle.words.proofs.WordLaws.{word_same}
 use Rattle.format.specs.declared.values.RuleName.{RuleName}
@@ -21,9 +23,6 @@ use Rattle.format.specs.Standing.{Head, Stands}
 use Rattle.format.proofs.GoalsLaws.{length-goals_at}
 use Rattle.format.proofs.GoalsAt.{take_goals, drop_goals, goals_paste}
 use Rattle.tables.specs.declared.lookup.RuleFound.{RuleFound}
-use Rattle.tables.specs.declared.lookup.RuleFound.TheVariants as R
-use Rattle.tables.specs.declared.lookup.BodyFound.{BodyFound}
-use Rattle.tables.specs.declared.lookup.BodyFound.TheVariants as B
 use Rattle.tables.specs.Tables.{Table}
 use Rattle.tables.specs.Standing.{TableStands}
 use Rattle.tables.specs.Found.{rule_found, FindsRule, BodyStands, BodyPlaced, FindsBody}
@@ -199,45 +198,45 @@ module _ (w : List ℕ) (s : State) (room : Room w s) where
       fail_grown w s room r q,
     )
 
-    module _ (goal : Goal) (o : RuleFound) (c : s.count ≡ 1) (e : goal.0 ≡ word w s.start) (f : FindsRule bytes first name goal o) where
-      pub rule_missing_lem : (r : State) → o ≡ R.Missing → r ≡ failed s → UsesRule w r
+    module _ (goal : Goal) (o : std.Option RuleFound) (c : s.count ≡ 1) (e : goal.0 ≡ word w s.start) (f : FindsRule bytes first name goal o) where
+      pub rule_missing_lem : (r : State) → o ≡ None → r ≡ failed s → UsesRule w r
       unfolding rule_found
       rule_missing_lem r m q = (
         λ T a st i. fail_begins w s room (atomic a) (rule_next T a)
-            (λ π g k h. ap (λ (x : Option (List Goal)). done (finished (held k) (atomic a) x) k) (rule_gives_lem bytes first name goal o f w s.start s.count c e T a g st i h.are ∙ ap (λ (x : RuleFound). found_premises (rule_found bytes x)) m)) r q,
+            (λ π g k h. ap (λ (x : Option (List Goal)). done (finished (held k) (atomic a) x) k) (rule_gives_lem bytes first name goal o f w s.start s.count c e T a g st i h.are ∙ ap (λ (x : std.Option RuleFound). found_premises (rule_found bytes x)) m)) r q,
         fail_grown w s room r q,
       )
 
-      module _ (number place n : ℕ) (m : o ≡ R.Rule number place n) where
-        pub rule_used : (v : List ℕ) (r : State) → ((a : RuleName) → name.0 ≡ a.0 → Begins w s v r (atomic a) (atomic_next a (some (goals_at bytes place n)))) → Grown w s v r → UsesRule v r
+      module _ (rule : RuleFound) (m : o ≡ Some rule) where
+        pub rule_used : (v : List ℕ) (r : State) → ((a : RuleName) → name.0 ≡ a.0 → Begins w s v r (atomic a) (atomic_next a (some (goals_at bytes rule.place rule.count)))) → Grown w s v r → UsesRule v r
         unfolding rule_found
         rule_used v r b gr = (
           λ T a st i table job π g k h. subst (λ (x : Option (List Goal)). Holds table job v r (done (finished (held k) (atomic a) x) k))
-              (sym (rule_gives_lem bytes first name goal o f w s.start s.count c e T a g st i h.goals.are ∙ ap (λ (x : RuleFound). found_premises (rule_found bytes x)) m)) (b a i table job π g k h),
+              (sym (rule_gives_lem bytes first name goal o f w s.start s.count c e T a g st i h.goals.are ∙ ap (λ (x : std.Option RuleFound). found_premises (rule_found bytes x)) m)) (b a i table job π g k h),
           gr,
         )
 
   -- a defined tactic
-  module _ (bytes : List ℕ) (first : ℕ) (number : TacticNo) (o : BodyFound) (f : FindsBody bytes first number o) where
+  module _ (bytes : List ℕ) (first : ℕ) (number : TacticNo) (o : std.Option ℕ) (f : FindsBody bytes first number o) where
     abbrev Unfolds : State → Type 0
     Unfolds r = ((T : Table) (d : TacticNo) (job : List ℕ) → TableStands bytes first T → number.0 ≡ d.0 → BeginsIn bytes job w s w r (defined d) (defined_next T d)) × Grown w s w r
 
-    pub body_missing : (r : State) → o ≡ B.Missing → r ≡ failed s → Unfolds r
+    pub body_missing : (r : State) → o ≡ None → r ≡ failed s → Unfolds r
     unfolding BodyStands BodyPlaced
     body_missing r m q = (
-      λ T d job st i π g k h. subst (λ (x : Option Term). Holds bytes job w r (enter x k (λ t. next (record { file = 0; at = body_place T d }) t g k))) (sym (body_stands bytes first number o f T d B.Missing st i m)) (fail_holds w s room bytes job π (defined d) g k r q h),
+      λ T d job st i π g k h. subst (λ (x : Option Term). Holds bytes job w r (enter x k (λ t. next (record { file = 0; at = body_place T d }) t g k))) (sym (body_stands bytes first number o f T d None st i m)) (fail_holds w s room bytes job π (defined d) g k r q h),
       fail_grown w s room r q,
     )
 
-    pub body_found : (place : ℕ) → o ≡ B.At place → Unfolds (unfolded s place)
+    pub body_found : (place : ℕ) → o ≡ Some place → Unfolds (unfolded s place)
     unfolding BodyStands BodyPlaced Holds
     body_found place m = (
       λ T d job st i π g k h.
-          let b = body_stands bytes first number o f T d (B.At place) st i m in
+          let b = body_stands bytes first number o f T d (Some place) st i m in
           subst (λ (x : Option Term). Holds bytes job w (unfolded s place) (enter x k (λ t. next (record { file = 0; at = body_place T d }) t g k))) (sym b.1)
           (record {
             mode_is = refl;
-            place_is = ap (λ (x : ℕ). record { file = 0; at = x }) (body_placed bytes first number o f T d (B.At place) st i m);
+            place_is = ap (λ (x : ℕ). record { file = 0; at = x }) (body_placed bytes first number o f T d (Some place) st i m);
             stands = b.2;
             goals = h.goals;
             frames = h.frames;

@@ -30,27 +30,15 @@ use Rattle.machine.specs.declared.state.Mode.{Mode}
 use Rattle.machine.specs.declared.state.Mode.TheVariants as is
 use Rattle.machine.specs.declared.state.State.{State}
 use Rattle.machine.specs.Shows.{GoalsIs, FrameIs, Began, FramesAt, Sizes, overflows, exceeds, Proved, Lost, Ends, Holds}
-use Rattle.machine.specs.Popping.{pop, Fits, Smaller, Waiting, Popped, joined, ended_by}
+use Rattle.machine.specs.Popping.{pop, Fits, Smaller, Loaded, Joins, Popped, joined, ended_by}
 use Rattle.machine.proofs.KeepLaws.{kept_output, kept-behind, frames_kept}
 use Rattle.machine.proofs.WaitingLaws.{by_kind, if_proved, under, waiting-fits, innermost}
 use Rattle.machine.proofs.HeldLaws.{within-fits, within_over}
 use Rattle.machine.proofs.PopLaws.{lost_under, leave_smaller}
 
--- what the code needs to know before it joins
-pub record Joins (w : List ℕ) (s : State) (f : Frame) : Type 0 where
-  pub left_few : f.count ≤ 256
-  pub right_few : s.count ≤ 256
-  pub left_high : f.start + f.count * 2 ≤ s.arena
-  pub right_high : s.start + s.count * 2 ≤ s.arena
-  pub closes : f.mark + 3 ≤ s.out
-  pub short : s.out < f.mark + 3 + 65536
-  pub low : output_end ≤ f.arena
-  pub before : f.arena ≤ s.arena
-  pub room : s.arena + 512 ≤ goals_end
-
-module _ (w : List ℕ) (s : State) (wait : Waiting w s) (m : s.mode ≡ is.Proved) (f : Frame) (e : f ≡ frame_at w s.top) (n : f.kind ≡ 5) where
-  pub fits : Fits w s
-  fits = waiting-fits w s wait
+module _ (w : List ℕ) (s : State) (f : Frame) (load : Loaded w s f) (n : f.kind ≡ 5) where
+  fits : Fits w s
+  fits = load.fits
 
   -- what a waiting tensor says
   pub record Beside (table job : List ℕ) (q : Term) (i : List Goal) (p : Term) (g : List Goal) (k : List M.Frame) : Type 0 where
@@ -74,8 +62,8 @@ module _ (w : List ℕ) (s : State) (wait : Waiting w s) (m : s.mode ≡ is.Prov
       → (z : Ending) (x : M.Frame) → Ends table job w s z (x ∷ k) → P z x
   unfolding FrameIs Ends held
   if_beside P table job k h z x ends =
-      if_proved table job w s (x ∷ k) (λ y. P y x) m
-      (λ p g a. let t = innermost table job w s f a.from x k e a.frames in
+      if_proved table job w s (x ∷ k) (λ y. P y x) load.mode_is
+      (λ p g a. let t = innermost table job w s f a.from x k load.frame_is a.frames in
       by_kind (λ y. Proved table job w s p g (y ∷ k) → FrameIs table job w s.arena f a.from y → P (proved p g) y) 5
       (λ π q i b o. h π q i p g (record {
         stands = subst (λ (y : ℕ). Stands w y p) o.1 a.stands;
@@ -93,18 +81,15 @@ module _ (w : List ℕ) (s : State) (wait : Waiting w s) (m : s.mode ≡ is.Prov
         lost = λ mode. lost_under w s mode table job x k (under table job w s (proved p g) (x ∷ k) a);
       })) x (sym n ∙ t.kind) a t.frame) z ends
 
-  pub joins : Joins w s f
-  joins = if_beside (λ z x. Joins w s f) wait.table wait.job wait.frames (λ π q i p g b. record {
+  pub joins : Joins s f
+  joins = if_beside (λ z x. Joins s f) load.waiting.table load.waiting.job load.waiting.frames (λ π q i p g b. record {
+    closes = record { room = omega (arith, b.out_is); short = omega (arith, b.out_is, size_most p, size_most q, b.held_is, b.sizes.held_fits) };
     left_few = b.gave.few;
-    right_few = b.goals.few;
     left_high = b.gave.high;
-    right_high = b.goals.high;
-    closes = omega (arith, b.out_is);
-    short = omega (arith, b.out_is, size_most p, size_most q, b.held_is, b.sizes.held_fits);
-    low = b.began.goals_low;
-    before = b.began.goals_before;
-    room = fits.goals_fit;
-  }) wait.ending wait.frame wait.ends
+  }) load.waiting.ending load.waiting.frame load.waiting.ends
+
+  room : f.mark + 3 ≤ s.out
+  room = joins.closes.room
 
   counted : (i g : List Goal) → GoalsIs w s.arena f.start f.count i → GoalsIs w s.arena s.start s.count g → length (i ++ g) ≡ f.count + s.count
   counted i g a b =
@@ -160,7 +145,7 @@ module _ (w : List ℕ) (s : State) (wait : Waiting w s) (m : s.mode ≡ is.Prov
     o₂ = only_word y (f.mark + 1) len
 
     behind : (i : ℕ) → f.mark + 3 ≤ i → i < s.out → get_or v i 0 ≡ get_or w i 0
-    behind i a b = o₂.kept.above i (omega arith) ∙ o₁.kept.below i (omega (arith, fits.output_fits, joins.low))
+    behind i a b = o₂.kept.above i (omega arith) ∙ o₁.kept.below i (omega (arith, fits.output_fits, load.arena_low))
 
     size_same : length v ≡ length w
     size_same = o₂.same_length ∙ o₁.same_length
@@ -172,27 +157,27 @@ module _ (w : List ℕ) (s : State) (wait : Waiting w s) (m : s.mode ≡ is.Prov
     head_there len' t o =
         let ly : length y ≡ length w = o₁.same_length in
         record {
-          tag_is = o₂.kept.below f.mark (omega arith) ∙ o₁.kept.below f.mark (omega (arith, joins.closes, fits.output_fits, joins.low)) ∙ t;
-          length_is = word_same y (f.mark + 1) len (omega (arith, ly, fits.space, fits.output_fits, joins.closes)) ∙ omega (arith, o);
+          tag_is = o₂.kept.below f.mark (omega arith) ∙ o₁.kept.below f.mark (omega (arith, room, fits.output_fits, load.arena_low)) ∙ t;
+          length_is = word_same y (f.mark + 1) len (omega (arith, ly, fits.space, fits.output_fits, room)) ∙ omega (arith, o);
           inside = omega (arith, size_same, o, fits.output_fits, fits.space);
         }
 
     goals_there : (i g : List Goal) → GoalsIs w s.arena f.start f.count i → GoalsIs w s.arena s.start s.count g → GoalsIs v arena' f.arena (f.count + s.count) (i ++ g)
     goals_there i g a b = record {
-      low = joins.low;
+      low = load.arena_low;
       high = omega arith;
       few = c;
-      are = same_goals y v (f.count + s.count) f.arena (λ j l r. o₂.kept.above j (omega (arith, joins.low, joins.closes, fits.output_fits)))
+      are = same_goals y v (f.count + s.count) f.arena (λ j l r. o₂.kept.above j (omega (arith, load.arena_low, room, fits.output_fits)))
           ∙ jo.goals ∙ ap₂ (λ (x z : List Goal). x ++ z) a.are b.are;
     }
 
     frames_there : (table job : List ℕ) (k : List M.Frame) → FramesAt table job w f.arena k (s.top + 19) f.mark → FramesAt table job v arena' k (s.top + 19) f.mark
     frames_there table job k h =
         frames_kept y v f.arena arena' (omega arith) table job k (s.top + 19) f.mark
-        (kept_output (f.mark + 1) (f.mark + 1 + 2) f.mark f.arena (s.top + 19) y v o₂ (omega arith) (omega (arith, joins.closes, fits.output_fits)) (omega (arith, fits.frames_low)))
+        (kept_output (f.mark + 1) (f.mark + 1 + 2) f.mark f.arena (s.top + 19) y v o₂ (omega arith) (omega (arith, room, fits.output_fits)) (omega (arith, fits.frames_low)))
         (frames_kept w y f.arena f.arena (omega arith) table job k (s.top + 19) f.mark
         (kept-behind f.arena (s.arena + (f.count + s.count) * 2) f.mark f.arena (s.top + 19) w y o₁
-        (omega (arith, joins.closes, fits.output_fits, joins.low)) (omega arith) (omega (arith, joins.room, c, fits.frames_low))) h)
+        (omega (arith, room, fits.output_fits, load.arena_low)) (omega arith) (omega (arith, fits.goals_fit, c, fits.frames_low))) h)
 
     join_popped : Popped w s v (joined s f)
     unfolding Ends Holds pop Stands size fields
@@ -217,7 +202,7 @@ module _ (w : List ℕ) (s : State) (wait : Waiting w s) (m : s.mode ≡ is.Prov
           sizes = record {
             output_fits = b.sizes.output_fits;
             held_fits = omega (arith, under-most);
-            goals_low = omega (arith, joins.low);
+            goals_low = omega (arith, load.arena_low);
             goals_fit = omega (arith, b.began.goals_fit, b.began.held_is, b.held_is, b.left_goals, b.right_goals);
             frames_fit = omega (arith, b.sizes.frames_fit);
           };
@@ -228,7 +213,7 @@ module _ (w : List ℕ) (s : State) (wait : Waiting w s) (m : s.mode ≡ is.Prov
         subst (λ (z : List ℕ). Popped w s z (joined s f) × Smaller w s z (joined s f)) (sym q) (
           join_popped,
           record {
-            beyond = λ i b. o₂.kept.above i (omega (arith, joins.closes, fits.output_fits)) ∙ o₁.kept.above i (omega (arith, joins.room, c));
+            beyond = λ i b. o₂.kept.above i (omega (arith, room, fits.output_fits)) ∙ o₁.kept.above i (omega (arith, fits.goals_fit, c));
             same_length = size_same;
             same_steps = refl;
             further = λ z. omega arith;

@@ -25,7 +25,7 @@ use Rattle.machine.specs.declared.state.Mode.{Mode}
 use Rattle.machine.specs.declared.state.Mode.TheVariants as is
 use Rattle.machine.specs.declared.state.State.{State}
 use Rattle.machine.specs.Shows.{GoalsIs, FrameIs, FramesAt, Sizes, exceeds, Proved, Lost, Ends, Config, done, Holds}
-use Rattle.machine.specs.Popping.{pop, settle, Fits, Smaller, Waiting, Popped, Closing, leave, alternative, closed, ended_by}
+use Rattle.machine.specs.Popping.{pop, settle, Fits, Smaller, Waiting, Loaded, Closes, Popped, Closing, leave, alternative, closed, ended_by}
 use Rattle.machine.proofs.KeepLaws.{kept_output, goals_kept_lem, frames_kept, frames_weaken, frame_mark}
 use Rattle.machine.proofs.HeldLaws.{within-fits, within_over}
 use Rattle.machine.proofs.WaitingLaws.{by_kind, kind_of, if_proved, if_failed, if_ended, Under, under, waiting-fits, innermost}
@@ -157,135 +157,130 @@ module _ (w : List ℕ) (s : State) where
           sizes = sizes-leave b.sizes;
         }) x (sym n ∙ i.kind) a i.frame) z h)
 
-    -- a label's or a sequence's field is closed: its length is stored, and it is held too
-    module _ (wait : Waiting w s) (m : s.mode ≡ is.Proved) (no : Closing f.kind) where
-      -- what is said of labels and of the right terms of sequences
-      if_closing : (P : M.Frame → Type 0) → ((π : M.Place) (l : _) → P (labelled π l)) → ((π : M.Place) (q : Term) → P (sequence_right π q)) → (x : M.Frame) → f.kind ≡ kind_of x → P x
-      unfolding kind_of
-      if_closing P a b (labelled π l) i = a π l
-      if_closing P a b (sequence_left π u) i = absurd (no.0 i)
-      if_closing P a b (sequence_right π q) i = b π q
-      if_closing P a b (tensor_left π u g) i = absurd (no.1 i)
-      if_closing P a b (tensor_right π q g) i = absurd (no.2 i)
-      if_closing P a b (alternation_left π u g) i = absurd (no.3 i)
+  -- a label's or a sequence's field is closed: its length is stored, and it is held too
+  module _ (f : Frame) (load : Loaded w s f) (no : Closing f.kind) where
+    -- what is said of labels and of the right terms of sequences
+    if_closing : (P : M.Frame → Type 0) → ((π : M.Place) (l : _) → P (labelled π l)) → ((π : M.Place) (q : Term) → P (sequence_right π q)) → (x : M.Frame) → f.kind ≡ kind_of x → P x
+    unfolding kind_of
+    if_closing P a b (labelled π l) i = a π l
+    if_closing P a b (sequence_left π u) i = absurd (no.0 i)
+    if_closing P a b (sequence_right π q) i = b π q
+    if_closing P a b (tensor_left π u g) i = absurd (no.1 i)
+    if_closing P a b (tensor_right π q g) i = absurd (no.2 i)
+    if_closing P a b (alternation_left π u g) i = absurd (no.3 i)
 
-      -- what is known of the field: it has its own three bytes, and so few fields that its length can be stored
-      pub record Closes : Type 0 where
-        pub room : f.mark + 3 ≤ s.out
-        pub short : s.out < f.mark + 3 + 65536
+    pub closes : Closes s f
+    unfolding FrameIs held
+    closes =
+        if_proved load.waiting.table load.waiting.job w s (load.waiting.frame ∷ load.waiting.frames) (λ z. Closes s f) load.mode_is
+        (λ p g a. let i = innermost load.waiting.table load.waiting.job w s f a.from load.waiting.frame load.waiting.frames load.frame_is a.frames in
+        if_closing (λ y. Proved load.waiting.table load.waiting.job w s p g (y ∷ load.waiting.frames) → FrameIs load.waiting.table load.waiting.job w s.arena f a.from y → Closes s f)
+        (λ π l b t. record { room = omega (arith, a.out_is, t.1); short = omega (arith, a.out_is, t.1, size_most p, b.held_is, b.sizes.held_fits) })
+        (λ π q b t. record { room = omega (arith, a.out_is, t.1); short = omega (arith, a.out_is, t.1, size_most p, size_most q, b.held_is, b.sizes.held_fits) })
+        load.waiting.frame i.kind a i.frame) load.waiting.ending load.waiting.ends
 
-      pub closes : Closes
-      unfolding FrameIs held
-      closes =
-          if_proved wait.table wait.job w s (wait.frame ∷ wait.frames) (λ z. Closes) m
-          (λ p g a. let i = innermost wait.table wait.job w s f a.from wait.frame wait.frames e a.frames in
-          if_closing (λ y. Proved wait.table wait.job w s p g (y ∷ wait.frames) → FrameIs wait.table wait.job w s.arena f a.from y → Closes)
-          (λ π l b t. record { room = omega (arith, a.out_is, t.1); short = omega (arith, a.out_is, t.1, size_most p, b.held_is, b.sizes.held_fits) })
-          (λ π q b t. record { room = omega (arith, a.out_is, t.1); short = omega (arith, a.out_is, t.1, size_most p, size_most q, b.held_is, b.sizes.held_fits) })
-          wait.frame i.kind a i.frame) wait.ending wait.ends
+    fits : Fits w s
+    fits = load.fits
 
-      fits : Fits w s
-      fits = waiting-fits w s wait
+    -- one field more than may be held
+    pub exceed_end : (r : State) → most_held ≤ s.held → r ≡ ended_by is.Exceeded s → Popped w s w r × Smaller w s w r
+    unfolding Ends Holds pop held fields
+    exceed_end r over q =
+        subst (λ (y : State). Popped w s w y × Smaller w s w y) (sym q) (
+          λ table job z x k h.
+              if_proved table job w s (x ∷ k) (λ y. Holds table job w (ended_by is.Exceeded s) (pop y x k)) load.mode_is
+              (λ p g a. let i = innermost table job w s f a.from x k load.frame_is a.frames in
+              let lost : Lost is.Exceeded table job w (ended_by is.Exceeded s) k = lost_under is.Exceeded table job x k (under table job w s (proved p g) (x ∷ k) a) in
+              if_closing (λ y. Proved table job w s p g (y ∷ k) → Holds table job w (ended_by is.Exceeded s) (pop (proved p g) y k))
+              (λ π l b. subst (λ (y : Ending). Ends table job w (ended_by is.Exceeded s) y k)
+              (sym (within_over (held k) (label l p) g (omega (arith, over, b.held_is)))) (record { limit = exceeds; lost = lost }))
+              (λ π t b. subst (λ (y : Ending). Ends table job w (ended_by is.Exceeded s) y k)
+              (sym (within_over (held k) (sequence t p) g (omega (arith, over, b.held_is)))) (record { limit = exceeds; lost = lost })) x i.kind a) z h,
+          leave_smaller is.Exceeded,
+        )
 
-      -- one field more than may be held
-      pub exceed_end : (r : State) → most_held ≤ s.held → r ≡ ended_by is.Exceeded s → Popped w s w r × Smaller w s w r
-      unfolding Ends Holds pop held fields
-      exceed_end r over q =
-          subst (λ (y : State). Popped w s w y × Smaller w s w y) (sym q) (
-            λ table job z x k h.
-                if_proved table job w s (x ∷ k) (λ y. Holds table job w (ended_by is.Exceeded s) (pop y x k)) m
-                (λ p g a. let i = innermost table job w s f a.from x k e a.frames in
-                let lost : Lost is.Exceeded table job w (ended_by is.Exceeded s) k = lost_under is.Exceeded table job x k (under table job w s (proved p g) (x ∷ k) a) in
-                if_closing (λ y. Proved table job w s p g (y ∷ k) → Holds table job w (ended_by is.Exceeded s) (pop (proved p g) y k))
-                (λ π l b. subst (λ (y : Ending). Ends table job w (ended_by is.Exceeded s) y k)
-                (sym (within_over (held k) (label l p) g (omega (arith, over, b.held_is)))) (record { limit = exceeds; lost = lost }))
-                (λ π t b. subst (λ (y : Ending). Ends table job w (ended_by is.Exceeded s) y k)
-                (sym (within_over (held k) (sequence t p) g (omega (arith, over, b.held_is)))) (record { limit = exceeds; lost = lost })) x i.kind a) z h,
-            leave_smaller is.Exceeded,
-          )
+    abbrev v : List ℕ
+    v = put_word w (f.mark + 1) (s.out - f.mark - 3)
 
-      abbrev v : List ℕ
-      v = put_word w (f.mark + 1) (s.out - f.mark - 3)
+    only : Only (f.mark + 1) (f.mark + 1 + 2) w v
+    only = only_word w (f.mark + 1) (s.out - f.mark - 3)
 
-      only : Only (f.mark + 1) (f.mark + 1 + 2) w v
-      only = only_word w (f.mark + 1) (s.out - f.mark - 3)
+    goals_stay : (g : List Goal) → GoalsIs w s.arena s.start s.count g → GoalsIs v s.arena s.start s.count g
+    goals_stay g h = goals_kept_lem w v s.arena s.arena (omega arith) s.start s.count g (λ i l r. only.kept.above i (omega (arith, closes.room, fits.output_fits))) h
 
-      goals_stay : (g : List Goal) → GoalsIs w s.arena s.start s.count g → GoalsIs v s.arena s.start s.count g
-      goals_stay g h = goals_kept_lem w v s.arena s.arena (omega arith) s.start s.count g (λ i l r. only.kept.above i (omega (arith, closes.room, fits.output_fits))) h
+    frames_stay : (table job : List ℕ) (k : List M.Frame) → f.arena ≤ s.arena → FramesAt table job w f.arena k (s.top + 19) f.mark
+        → FramesAt table job v s.arena k (s.top + 19) f.mark
+    frames_stay table job k b h =
+        frames_kept w v f.arena s.arena b table job k (s.top + 19) f.mark
+        (kept_output (f.mark + 1) (f.mark + 1 + 2) f.mark f.arena (s.top + 19) w v only (omega arith) (omega (arith, closes.room, fits.output_fits)) (omega (arith, fits.frames_low))) h
 
-      frames_stay : (table job : List ℕ) (k : List M.Frame) → f.arena ≤ s.arena → FramesAt table job w f.arena k (s.top + 19) f.mark
-          → FramesAt table job v s.arena k (s.top + 19) f.mark
-      frames_stay table job k b h =
-          frames_kept w v f.arena s.arena b table job k (s.top + 19) f.mark
-          (kept_output (f.mark + 1) (f.mark + 1 + 2) f.mark f.arena (s.top + 19) w v only (omega arith) (omega (arith, closes.room, fits.output_fits)) (omega (arith, fits.frames_low))) h
-
-      head_stays : (tag len : ℕ) → get_or w f.mark 0 ≡ tag → f.mark + 3 + len ≡ s.out → Head v f.mark tag len
-      head_stays tag len t o =
-          let l : length v ≡ length w = only.same_length in
-          record {
-            tag_is = only.kept.below f.mark (omega arith) ∙ t;
-            length_is = word_same w (f.mark + 1) (s.out - f.mark - 3) (omega (arith, fits.space, closes.room, fits.output_fits)) ∙ omega (arith, o);
-            inside = omega (arith, l, o, fits.output_fits, fits.space);
-          }
-
-      behind : (y : ℕ) → Same (f.mark + 3) y w v
-      behind y = λ i l r. only.kept.above i (omega arith)
-
-      term_stays : (t : Term) (at : ℕ) → f.mark + 3 ≤ at → Stands w at t → Stands v at t
-      term_stays t at h st = same_term w v only.same_length t (f.mark + 3) (at + size t) at (behind (at + size t)) h (omega arith) st
-
-      module _ (under-most : s.held < most_held) where
-        sizes-closed : Sizes s → Sizes (closed s)
-        sizes-closed z = record {
-          output_fits = z.output_fits;
-          held_fits = omega (arith, under-most);
-          goals_low = z.goals_low;
-          goals_fit = omega (arith, z.goals_fit);
-          frames_fit = omega (arith, z.frames_fit);
+    head_stays : (tag len : ℕ) → get_or w f.mark 0 ≡ tag → f.mark + 3 + len ≡ s.out → Head v f.mark tag len
+    head_stays tag len t o =
+        let l : length v ≡ length w = only.same_length in
+        record {
+          tag_is = only.kept.below f.mark (omega arith) ∙ t;
+          length_is = word_same w (f.mark + 1) (s.out - f.mark - 3) (omega (arith, fits.space, closes.room, fits.output_fits)) ∙ omega (arith, o);
+          inside = omega (arith, l, o, fits.output_fits, fits.space);
         }
 
-        close_popped : Popped w s v (closed s)
-        unfolding Ends Holds pop FrameIs Stands size fields held
-        close_popped table job z x k h =
-            if_proved table job w s (x ∷ k) (λ y. Holds table job v (closed s) (pop y x k)) m
-            (λ p g a. let i = innermost table job w s f a.from x k e a.frames in
-            if_closing (λ y. Proved table job w s p g (y ∷ k) → FrameIs table job w s.arena f a.from y → Holds table job v (closed s) (pop (proved p g) y k))
-            (λ π l b t. subst (λ (y : Ending). Ends table job v (closed s) y k) (sym (within-fits (held k) (label l p) g (omega (arith, under-most, b.held_is))))
-            (record {
-              mode_is = refl;
-              from = f.mark;
-              stands = (
-                head_stays 18 (2 + size p) t.2 (omega (arith, t.1, a.out_is)),
-                same_word w v (f.mark + 3) (f.mark + 5) (f.mark + 3) (behind (f.mark + 5)) (omega arith) (omega arith) ∙ t.3,
-                term_stays p (f.mark + 5) (omega arith) (subst (λ (o : ℕ). Stands w o p) t.1 a.stands),
-              );
-              out_is = omega (arith, t.1, a.out_is);
-              goals = goals_stay g b.goals;
-              few_goals = omega (arith, a.few_goals);
-              frames = frames_stay table job k i.began.goals_before i.rest;
-              held_is = omega (arith, b.held_is);
-              sizes = sizes-closed b.sizes;
-            }))
-            (λ π q b t. subst (λ (y : Ending). Ends table job v (closed s) y k) (sym (within-fits (held k) (sequence q p) g (omega (arith, under-most, b.held_is))))
-            (record {
-              mode_is = refl;
-              from = f.mark;
-              stands = (
-                head_stays 19 (size q + size p) t.2 (omega (arith, t.1, a.out_is)),
-                term_stays q (f.mark + 3) (omega arith) t.3,
-                term_stays p (f.mark + 3 + size q) (omega arith) (subst (λ (o : ℕ). Stands w o p) t.1 a.stands),
-              );
-              out_is = omega (arith, t.1, a.out_is);
-              goals = goals_stay g b.goals;
-              few_goals = omega (arith, a.few_goals);
-              frames = frames_stay table job k i.began.goals_before i.rest;
-              held_is = omega (arith, b.held_is);
-              sizes = sizes-closed b.sizes;
-            })) x i.kind a i.frame) z h
+    behind : (y : ℕ) → Same (f.mark + 3) y w v
+    behind y = λ i l r. only.kept.above i (omega arith)
 
-        pub close_end : (y : List ℕ) → y ≡ v → Popped w s y (closed s) × Smaller w s y (closed s)
-        close_end y q =
-            subst (λ (z : List ℕ). Popped w s z (closed s) × Smaller w s z (closed s)) (sym q) (
-              close_popped,
-              record { beyond = λ i b. only.kept.above i (omega (arith, closes.room, fits.output_fits)); same_length = only.same_length; same_steps = refl; further = λ n. omega arith },
-            )
+    term_stays : (t : Term) (at : ℕ) → f.mark + 3 ≤ at → Stands w at t → Stands v at t
+    term_stays t at h st = same_term w v only.same_length t (f.mark + 3) (at + size t) at (behind (at + size t)) h (omega arith) st
+
+    module _ (under-most : s.held < most_held) where
+      sizes-closed : Sizes s → Sizes (closed s)
+      sizes-closed z = record {
+        output_fits = z.output_fits;
+        held_fits = omega (arith, under-most);
+        goals_low = z.goals_low;
+        goals_fit = omega (arith, z.goals_fit);
+        frames_fit = omega (arith, z.frames_fit);
+      }
+
+      close_popped : Popped w s v (closed s)
+      unfolding Ends Holds pop FrameIs Stands size fields held
+      close_popped table job z x k h =
+          if_proved table job w s (x ∷ k) (λ y. Holds table job v (closed s) (pop y x k)) load.mode_is
+          (λ p g a. let i = innermost table job w s f a.from x k load.frame_is a.frames in
+          if_closing (λ y. Proved table job w s p g (y ∷ k) → FrameIs table job w s.arena f a.from y → Holds table job v (closed s) (pop (proved p g) y k))
+          (λ π l b t. subst (λ (y : Ending). Ends table job v (closed s) y k) (sym (within-fits (held k) (label l p) g (omega (arith, under-most, b.held_is))))
+          (record {
+            mode_is = refl;
+            from = f.mark;
+            stands = (
+              head_stays 18 (2 + size p) t.2 (omega (arith, t.1, a.out_is)),
+              same_word w v (f.mark + 3) (f.mark + 5) (f.mark + 3) (behind (f.mark + 5)) (omega arith) (omega arith) ∙ t.3,
+              term_stays p (f.mark + 5) (omega arith) (subst (λ (o : ℕ). Stands w o p) t.1 a.stands),
+            );
+            out_is = omega (arith, t.1, a.out_is);
+            goals = goals_stay g b.goals;
+            few_goals = omega (arith, a.few_goals);
+            frames = frames_stay table job k i.began.goals_before i.rest;
+            held_is = omega (arith, b.held_is);
+            sizes = sizes-closed b.sizes;
+          }))
+          (λ π q b t. subst (λ (y : Ending). Ends table job v (closed s) y k) (sym (within-fits (held k) (sequence q p) g (omega (arith, under-most, b.held_is))))
+          (record {
+            mode_is = refl;
+            from = f.mark;
+            stands = (
+              head_stays 19 (size q + size p) t.2 (omega (arith, t.1, a.out_is)),
+              term_stays q (f.mark + 3) (omega arith) t.3,
+              term_stays p (f.mark + 3 + size q) (omega arith) (subst (λ (o : ℕ). Stands w o p) t.1 a.stands),
+            );
+            out_is = omega (arith, t.1, a.out_is);
+            goals = goals_stay g b.goals;
+            few_goals = omega (arith, a.few_goals);
+            frames = frames_stay table job k i.began.goals_before i.rest;
+            held_is = omega (arith, b.held_is);
+            sizes = sizes-closed b.sizes;
+          })) x i.kind a i.frame) z h
+
+      pub close_end : (y : List ℕ) → y ≡ v → Popped w s y (closed s) × Smaller w s y (closed s)
+      close_end y q =
+          subst (λ (z : List ℕ). Popped w s z (closed s) × Smaller w s z (closed s)) (sym q) (
+            close_popped,
+            record { beyond = λ i b. only.kept.above i (omega (arith, closes.room, fits.output_fits)); same_length = only.same_length; same_steps = refl; further = λ n. omega arith },
+          )

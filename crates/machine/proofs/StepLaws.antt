@@ -25,12 +25,12 @@ use Rattle.evaluation.specs.Machine.{enter_or_fail}
 use Rattle.arities.specs.Arities.{arity_code, ArityTable, arities, Pair}
 use Rattle.arities.proofs.ArityLaws.{Inner, pair_of}
 use Rattle.tactics.specs.Source.{source}
-use Rattle.tactics.proofs.SourceLaws.{in_file_lem, by_pair}
+use Rattle.tactics.proofs.SourceLaws.{in_file_lem, by_pair, value_room}
 use Rattle.machine.specs.declared.state.Mode.TheVariants as is
 use Rattle.machine.specs.declared.state.State.{State}
 use Rattle.machine.specs.Shows.{GoalsIs, Runs, Config, Holds, Shows}
 use Rattle.machine.specs.Popping.{settle, Fewer, Unwinding, Unwound}
-use Rattle.machine.specs.Begun.{enter, begun, Room, Begins, BeginsIn, id_next, empty_next, assert_next, sequence_next, alternation_next, label_next, tensor_next, rule_next, defined_next}
+use Rattle.machine.specs.Begun.{enter, begun, Room, Ready, Begins, BeginsIn, id_next, empty_next, assert_next, sequence_next, alternation_next, label_next, tensor_next, rule_next, defined_next}
 use Rattle.machine.specs.Step.{Grown, Given, BeginsAny, PairStands, BeginsPair, Stepped}
 use Rattle.machine.proofs.KeepLaws.{frames_top}
 use Rattle.machine.proofs.UnwindLaws.{after-done, after_next}
@@ -56,13 +56,13 @@ settle-begun T π (defined d) g k = settle-enter (find_body T d) k _
 module _ (bytes : List ℕ) (first : ℕ) (src w : List ℕ) (s : State) where
   -- what is given
   module _ (q : Given bytes first src w s) where
-    pub given_stands : Stands src s.at q.term
+    given_stands : Stands src s.at q.term
     given_stands = in_file_lem bytes q.job src s.file s.at q.term q.so q.runs.stands
 
     pub given_at : s.at + 3 ≤ length src
     given_at = let k = known src s.at q.term given_stands in omega (arith, k.inside, k.three)
 
-    pub given_room : Room w s
+    given_room : Room w s
     given_room =
         let z = q.runs.sizes in
         record {
@@ -76,12 +76,16 @@ module _ (bytes : List ℕ) (first : ℕ) (src w : List ℕ) (s : State) where
           space = q.space;
         }
 
-    pub given_goals_lem : (g : List Goal) × GoalsIs w s.arena s.start s.count g
-    given_goals_lem = (q.goals, q.runs.goals)
+    pub given_ready : Ready w s
+    given_ready = record { room = given_room; at_small = omega (arith, given_at, q.src_small); goals = q.goals; goals_are = q.runs.goals }
+
+    -- a term with a tag that says so begins with a value
+    pub given_value : (tag : ℕ) → get_or src s.at 0 ≡ tag → (tag ≡ 17 → ⊥) → (tag ≡ 21 → ⊥) → s.at + 5 ≤ length src
+    given_value tag e a b = value_room src s.at q.term given_stands (λ i. a (sym e ∙ i)) (λ i. b (sym e ∙ i))
 
     pub given_pair : (tag : ℕ) → get_or src s.at 0 ≡ tag → (tag ≡ 17 → ⊥) → (tag ≡ 21 → ⊥) → (tag ≡ 16 → ⊥) → (tag ≡ 18 → ⊥) → (tag ≡ 23 → ⊥) → (tag ≡ 24 → ⊥) → PairStands src w s tag
     given_pair tag e a b c d f g = record {
-      room = given_room;
+      ready = given_ready;
       src_small = q.src_small;
       tag_is = e;
       pair = (a, b, c, d, f, g);
@@ -190,12 +194,6 @@ module _ (src w : List ℕ) (s : State) (tag : ℕ) (q : PairStands src w s tag)
 
   pub pair_inner : Inner src s.at
   pair_inner = by_inner (λ t. Inner src s.at) (λ e t u i. (t, u, i)) (λ e t u i. (t, u, i)) (λ t u i. (t, u, i)) q.term pair_stands
-
-  pub pair_at : s.at < 65536
-  pair_at = let k = known src s.at q.term pair_stands in omega (arith, k.inside, k.three, q.src_small)
-
-  pub pair_goals : (g : List Goal) × GoalsIs w s.arena s.start s.count g
-  pair_goals = (q.goals, q.runs.goals)
 
   pub pair_left : (t : Term) × Stands src (s.at + 3) t
   pair_left = let i = pair_inner in (i.0, i.2.0)

@@ -20,46 +20,30 @@ use Rattle.frames.proofs.FrameLaws.{only_frame, frame_same}
 use Rattle.machine.specs.declared.state.Mode.TheVariants as is
 use Rattle.machine.specs.declared.state.State.{State}
 use Rattle.machine.specs.Shows.{GoalsIs, FrameIs, Began, FramesAt, Sizes, Proved, Ends, Holds}
-use Rattle.machine.specs.Popping.{pop, Fits, Smaller, Waiting, Popped, turn, turned, beside}
+use Rattle.machine.specs.Popping.{pop, Fits, Smaller, Loaded, Popped, turn, turned, beside}
 use Rattle.machine.proofs.KeepLaws.{kept-behind, goals_kept_lem, frames_kept}
 use Rattle.machine.proofs.WaitingLaws.{by_kind, if_proved, waiting-fits, waiting_top, waiting_mark, waiting-began, innermost}
 
-module _ (w : List ℕ) (s : State) (wait : Waiting w s) (m : s.mode ≡ is.Proved) where
+module _ (w : List ℕ) (s : State) (f : Frame) (load : Loaded w s f) where
   fits : Fits w s
-  fits = waiting-fits w s wait
-
-  -- the goals given are few, and their place is small
-  pub given_small : (s.count ≤ 256) × (s.start ≤ goals_end)
-  given_small =
-      if_proved wait.table wait.job w s (wait.frame ∷ wait.frames) (λ z. (s.count ≤ 256) × (s.start ≤ goals_end)) m
-      (λ p g a. (a.goals.few, omega (arith, a.goals.high, fits.goals_fit))) wait.ending wait.ends
-
-  -- what is stored with the frame is small
-  pub stored_small : (f : Frame) → f ≡ frame_at w s.top → (s.start < 16777216) × (f.mark < 16777216) × (f.arena < 16777216)
-  stored_small f e =
-      let small : ((frame_at w s.top).mark < 16777216) × ((frame_at w s.top).arena < 16777216) = (
-        omega (arith, waiting_mark w s wait, fits.output_fits),
-        omega (arith, (waiting-began w s wait).goals_before, fits.goals_fit),
-      ) in
-      let both = subst (λ (y : Frame). (y.mark < 16777216) × (y.arena < 16777216)) (sym e) small in
-      (omega (arith, given_small), both.0, both.1)
+  fits = load.fits
 
   -- the numbers stay
-  sizes-turn : (f : Frame) → Sizes s → Sizes (turn s f)
-  sizes-turn f z = record { output_fits = z.output_fits; held_fits = z.held_fits; goals_low = z.goals_low; goals_fit = z.goals_fit; frames_fit = z.frames_fit }
+  sizes-turn : Sizes s → Sizes (turn s f)
+  sizes-turn z = record { output_fits = z.output_fits; held_fits = z.held_fits; goals_low = z.goals_low; goals_fit = z.goals_fit; frames_fit = z.frames_fit }
 
-  sizes-beside : (f : Frame) → Sizes s → Sizes (beside s f)
-  sizes-beside f z = record { output_fits = z.output_fits; held_fits = z.held_fits; goals_low = z.goals_low; goals_fit = z.goals_fit; frames_fit = z.frames_fit }
+  sizes-beside : Sizes s → Sizes (beside s f)
+  sizes-beside z = record { output_fits = z.output_fits; held_fits = z.held_fits; goals_low = z.goals_low; goals_fit = z.goals_fit; frames_fit = z.frames_fit }
 
-  module _ (f : Frame) (e : f ≡ frame_at w s.top) (kind : ℕ) where
+  module _ (kind : ℕ) where
     abbrev v : List ℕ
     v = put_frame w s.top (turned kind s f)
 
     only : Only s.top (s.top + 19) w v
-    only = only_frame w s.top (turned kind s f) (omega (arith, waiting_top w s wait, fits.space))
+    only = only_frame w s.top (turned kind s f) (omega (arith, load.top_inside, fits.space))
 
     back : frame_at v s.top ≡ turned kind s f
-    back = frame_same w s.top (turned kind s f) (omega (arith, waiting_top w s wait, fits.space))
+    back = frame_same w s.top (turned kind s f) (omega (arith, load.top_inside, fits.space))
 
     goals_stay : (start count : ℕ) (g : List Goal) → GoalsIs w s.arena start count g → GoalsIs v s.arena start count g
     goals_stay start count g h = goals_kept_lem w v s.arena s.arena (omega arith) start count g (λ i l r. only.kept.below i (omega (arith, fits.goals_fit, fits.frames_low))) h
@@ -93,14 +77,14 @@ module _ (w : List ℕ) (s : State) (wait : Waiting w s) (m : s.mode ≡ is.Prov
         )
 
     smaller : (r : State) → r.steps ≡ s.steps → r.mode ≡ is.Running → Smaller w s v r
-    smaller r q z = record { beyond = λ i b. only.kept.above i (omega (arith, waiting_top w s wait)); same_length = only.same_length; same_steps = q; further = λ n. absurd (n z) }
+    smaller r q z = record { beyond = λ i b. only.kept.above i (omega (arith, load.top_inside)); same_length = only.same_length; same_steps = q; further = λ n. absurd (n z) }
 
     -- the right term of a sequence, on the goals that its left gave
     turns : f.kind ≡ 2 → kind ≡ 3 → Popped w s v (turn s f)
     unfolding Ends Holds pop FrameIs held
     turns n y table job z x k h =
-        if_proved table job w s (x ∷ k) (λ j. Holds table job v (turn s f) (pop j x k)) m
-        (λ p g a. let i = innermost table job w s f a.from x k e a.frames in
+        if_proved table job w s (x ∷ k) (λ j. Holds table job v (turn s f) (pop j x k)) load.mode_is
+        (λ p g a. let i = innermost table job w s f a.from x k load.frame_is a.frames in
         by_kind (λ j. Proved table job w s p g (j ∷ k) → FrameIs table job w s.arena f a.from j → Holds table job v (turn s f) (pop (proved p g) j k)) 2
         (λ π u b t. record {
           mode_is = refl;
@@ -115,15 +99,15 @@ module _ (w : List ℕ) (s : State) (wait : Waiting w s) (m : s.mode ≡ is.Prov
             t.4,
           );
           held_is = omega (arith, b.held_is);
-          sizes = sizes-turn f b.sizes;
+          sizes = sizes-turn b.sizes;
         }) x (sym n ∙ i.kind) a i.frame) z h
 
     -- the right term of a tensor, on its own goals
     besides : f.kind ≡ 4 → kind ≡ 5 → Popped w s v (beside s f)
     unfolding Ends Holds pop FrameIs held
     besides n y table job z x k h =
-        if_proved table job w s (x ∷ k) (λ j. Holds table job v (beside s f) (pop j x k)) m
-        (λ p g a. let i = innermost table job w s f a.from x k e a.frames in
+        if_proved table job w s (x ∷ k) (λ j. Holds table job v (beside s f) (pop j x k)) load.mode_is
+        (λ p g a. let i = innermost table job w s f a.from x k load.frame_is a.frames in
         by_kind (λ j. Proved table job w s p g (j ∷ k) → FrameIs table job w s.arena f a.from j → Holds table job v (beside s f) (pop (proved p g) j k)) 4
         (λ π u j b t. record {
           mode_is = refl;
@@ -140,12 +124,11 @@ module _ (w : List ℕ) (s : State) (wait : Waiting w s) (m : s.mode ≡ is.Prov
             a.few_goals,
           );
           held_is = omega (arith, b.held_is);
-          sizes = sizes-beside f b.sizes;
+          sizes = sizes-beside b.sizes;
         }) x (sym n ∙ i.kind) a i.frame) z h
 
-  module _ (f : Frame) (e : f ≡ frame_at w s.top) (y : List ℕ) where
-    pub turn_end : f.kind ≡ 2 → y ≡ put_frame w s.top (turned 3 s f) → Popped w s y (turn s f) × Smaller w s y (turn s f)
-    turn_end n q = subst (λ (z : List ℕ). Popped w s z (turn s f) × Smaller w s z (turn s f)) (sym q) (turns f e 3 n refl, smaller f e 3 (turn s f) refl refl)
+  pub turn_end : (y : List ℕ) → f.kind ≡ 2 → y ≡ put_frame w s.top (turned 3 s f) → Popped w s y (turn s f) × Smaller w s y (turn s f)
+  turn_end y n q = subst (λ (z : List ℕ). Popped w s z (turn s f) × Smaller w s z (turn s f)) (sym q) (turns 3 n refl, smaller 3 (turn s f) refl refl)
 
-    pub beside_end : f.kind ≡ 4 → y ≡ put_frame w s.top (turned 5 s f) → Popped w s y (beside s f) × Smaller w s y (beside s f)
-    beside_end n q = subst (λ (z : List ℕ). Popped w s z (beside s f) × Smaller w s z (beside s f)) (sym q) (besides f e 5 n refl, smaller f e 5 (beside s f) refl refl)
+  pub beside_end : (y : List ℕ) → f.kind ≡ 4 → y ≡ put_frame w s.top (turned 5 s f) → Popped w s y (beside s f) × Smaller w s y (beside s f)
+  beside_end y n q = subst (λ (z : List ℕ). Popped w s z (beside s f) × Smaller w s z (beside s f)) (sym q) (besides 5 n refl, smaller 5 (beside s f) refl refl)

@@ -1,7 +1,7 @@
 -- What is known of a term that ended while others wait: which ending it is by the state's mode, which term waits by the kind of its frame, and the
 -- numbers of the state by the steps taken. Each by cases.
 -- Assumes nothing.
-use Prim.Native.Nat.{ℕ, ◌+◌, ◌≤◌}
+use Prim.Native.Nat.{ℕ, ◌+◌, ◌*◌, ◌≤◌}
 use mathlib.Core.Path.{◌≡◌, sym, subst}
 use mathlib.Core.Bool.{cond}
 use mathlib.Core.List.{List, ◌∷◌}
@@ -23,7 +23,7 @@ use Rattle.machine.specs.declared.state.Mode.{Mode}
 use Rattle.machine.specs.declared.state.Mode.TheVariants as is
 use Rattle.machine.specs.declared.state.State.{State}
 use Rattle.machine.specs.Shows.{FrameIs, FramesAt, Began, Sizes, LimitMode, overflows, exceeds, Proved, Lost, Limited, Ends}
-use Rattle.machine.specs.Popping.{Fits, Waiting, Unwinding}
+use Rattle.machine.specs.Popping.{Fits, Waiting, Loaded, Unwinding}
 use Rattle.machine.proofs.KeepLaws.{frames_top, frame_top, frame_mark}
 
 -- the kind of the frame of a waiting term
@@ -142,6 +142,26 @@ module _ (w : List ℕ) (s : State) (h : Waiting w s) where
 
   pub waiting_mark : (frame_at w s.top).mark ≤ s.out
   waiting_mark = let u = waiting_under in omega (arith, frame_mark h.table h.job w s.arena h.frame h.frames s.top u.from u.frames, u.below)
+
+  -- what is known once its frame was loaded
+  pub loaded : (f : Frame) → s.mode ≡ is.Proved → f ≡ frame_at w s.top → Loaded w s f
+  loaded f m e =
+      let few : (s.count ≤ 256) × (s.start + s.count * 2 ≤ s.arena) =
+      if_proved h.table h.job w s (h.frame ∷ h.frames) (λ z. (s.count ≤ 256) × (s.start + s.count * 2 ≤ s.arena)) m (λ p g a. (a.goals.few, a.goals.high)) h.ending h.ends in
+      let began = subst (λ (y : Frame). Began y s.arena h.frames) (sym e) waiting-began in
+      record {
+        mode_is = m;
+        frame_is = e;
+        waiting = h;
+        fits = waiting-fits;
+        top_inside = waiting_top;
+        held_fits = waiting-held;
+        few_goals = few.0;
+        goals_high = few.1;
+        mark_before = subst (λ (y : Frame). y.mark ≤ s.out) (sym e) waiting_mark;
+        arena_low = began.goals_low;
+        arena_before = began.goals_before;
+      }
 
 -- the innermost waiting term, and the others, by the frame that the code loaded
 pub record Innermost (table job w : List ℕ) (s : State) (f : Frame) (o : ℕ) (x : M.Frame) (k : List M.Frame) : Type 0 where

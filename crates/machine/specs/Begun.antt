@@ -20,7 +20,7 @@ use Rattle.frames.specs.declared.Frame.{Frame}
 use Rattle.machine.specs.declared.state.Mode.{Mode}
 use Rattle.machine.specs.declared.state.Mode.TheVariants as is
 use Rattle.machine.specs.declared.state.State.{State}
-use Rattle.machine.specs.Shows.{Config, next, done, Runs, Holds}
+use Rattle.machine.specs.Shows.{GoalsIs, Config, next, done, Runs, Holds}
 
 -- fail, or go on
 abbrev pub enter : {A : Type 0} → Option A → List M.Frame → (A → Config) → Config
@@ -80,6 +80,13 @@ pub record Room (w : List ℕ) (s : State) : Type 0 where
   pub frames_low : goals_end + 19 ≤ s.top
   pub frames_high : s.top ≤ frames_end
   pub space : space_end ≤ length w
+
+-- what beginning a term is given: room, and the goals that lie in the work space
+pub record Ready (w : List ℕ) (s : State) : Type 0 where
+  pub room : Room w s
+  pub at_small : s.at < 65536
+  pub goals : List Goal
+  pub goals_are : GoalsIs w s.arena s.start s.count goals
 
 -- what beginning a term does
 abbrev pub BeginsIn : (table job : List ℕ) → List ℕ → State → List ℕ → State → Term → (M.Place → List Goal → List M.Frame → Config) → Type 0

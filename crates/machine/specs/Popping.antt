@@ -1,11 +1,12 @@
 -- One frame taken off, and frames taken off until a term is to begin or none waits: what evaluation's machine does, and what the code does.
 use Rattle.std.specs.Prelude.{ℕ, ◌+◌, ◌*◌, ◌≤◌, ◌<◌, ◌≡◌, List, ◌∷◌, length, get_or}
-use Rattle.format.specs.Limits.{most_steps}
+use Rattle.format.specs.Limits.{most_steps, most_held}
 use Rattle.evaluation.specs.Outcomes.{Ending, proved, failed, ended, in_label, after_left, beside_left}
 use Rattle.evaluation.specs.Machine as M
 use Rattle.evaluation.specs.Machine.{labelled, sequence_left, sequence_right, tensor_left, tensor_right, alternation_left, held, running, unwind}
 use Rattle.arities.specs.Layout.{output_end, goals_end, frames_end, space_end}
 use Rattle.frames.specs.declared.Frame.{Frame}
+use Rattle.frames.specs.Frames.{frame_at}
 use Rattle.machine.specs.declared.state.Mode.{Mode}
 use Rattle.machine.specs.declared.state.Mode.TheVariants as is
 use Rattle.machine.specs.declared.state.State.{State}
@@ -70,6 +71,32 @@ Popped w s v r = (table job : List ℕ) (e : Ending) (x : M.Frame) (k : List M.F
 -- the kinds of frame whose field is closed when their inner term ends: of a label, and of a sequence that waits for its right term
 abbrev pub Closing : (kind : ℕ) → Type 0
 Closing kind = (kind ≡ 2 → ⊥) × (kind ≡ 4 → ⊥) × (kind ≡ 5 → ⊥) × (kind ≡ 6 → ⊥)
+
+-- What a function is given that goes on with the frame that was loaded, after a term that proved its goals: the frame is the first of those that wait, and the
+-- numbers of the state and of the frame are small.
+pub record Loaded (w : List ℕ) (s : State) (f : Frame) : Type 0 where
+  pub mode_is : s.mode ≡ is.Proved
+  pub frame_is : f ≡ frame_at w s.top
+  pub waiting : Waiting w s
+  pub fits : Fits w s
+  pub top_inside : s.top + 19 ≤ frames_end
+  pub held_fits : s.held ≤ most_held
+  pub few_goals : s.count ≤ 256
+  pub goals_high : s.start + s.count * 2 ≤ s.arena
+  pub mark_before : f.mark ≤ s.out
+  pub arena_low : output_end ≤ f.arena
+  pub arena_before : f.arena ≤ s.arena
+
+-- the field that a frame closes has its own three bytes, and so few fields that its length can be stored
+pub record Closes (s : State) (f : Frame) : Type 0 where
+  pub room : f.mark + 3 ≤ s.out
+  pub short : s.out < f.mark + 3 + 65536
+
+-- the goals that a tensor's left term gave are few, and lie below the end of all goals
+pub record Joins (s : State) (f : Frame) : Type 0 where
+  pub closes : Closes s f
+  pub left_few : f.count ≤ 256
+  pub left_high : f.start + f.count * 2 ≤ s.arena
 
 -- what the unwinding function is given and what it does
 pub record Unwinding (w : List ℕ) (s : State) : Type 0 where

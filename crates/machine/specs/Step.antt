@@ -11,7 +11,7 @@ use Rattle.arities.specs.Arities.{ArityTable, arities}
 use Rattle.tactics.specs.Source.{source}
 use Rattle.machine.specs.declared.state.State.{State}
 use Rattle.machine.specs.Shows.{Runs, Holds, Shows}
-use Rattle.machine.specs.Begun.{begun, Room}
+use Rattle.machine.specs.Begun.{begun, Ready}
 
 -- after a term was begun: the arities are the same, and one step was counted
 pub record Grown (w : List ℕ) (s : State) (v : List ℕ) (r : State) : Type 0 where
@@ -51,7 +51,7 @@ Stepped bytes first src w s v r = ForAny bytes first src w s (λ job T π t g k.
 
 -- what beginning a term with two inner terms is given and does
 pub record PairStands (src w : List ℕ) (s : State) (tag : ℕ) : Type 0 where
-  pub room : Room w s
+  pub ready : Ready w s
   pub src_small : length src < 65536
   pub tag_is : get_or src s.at 0 ≡ tag
   pub pair : (tag ≡ 17 → ⊥) × (tag ≡ 21 → ⊥) × (tag ≡ 16 → ⊥) × (tag ≡ 18 → ⊥) × (tag ≡ 23 → ⊥) × (tag ≡ 24 → ⊥)

@@ -12,8 +12,7 @@ ghost use Rattle.tables.specs.Tables.{Table};
 ghost use Rattle.tables.specs.Standing.{TableStands};
 ghost use Rattle.arities.specs.Arities.{arity_code};
 ghost use Rattle.tactics.specs.Numbers.{put_header};
-ghost use Rattle.machine.specs.Shows.{GoalsIs};
-ghost use Rattle.machine.specs.Begun.{Room, Begins, BeginsIn, id_next, empty_next, assert_next, sequence_next, alternation_next, label_next, tensor_next, atomic_next, rule_next, defined_next, lost, kept, entered, frame_of};
+ghost use Rattle.machine.specs.Begun.{Room, Ready, Begins, BeginsIn, id_next, empty_next, assert_next, sequence_next, alternation_next, label_next, tensor_next, atomic_next, rule_next, defined_next, lost, kept, entered, frame_of};
 ghost use Rattle.machine.specs.Step.{Given, BeginsAny, BeginsPair, Grown, PairStands};
 
 use crate::state::{MOST_HELD, Mode, State};
@@ -21,7 +20,7 @@ use arities::arity::{arity_of, right_of};
 use format::tags::{ASSERTION, ATOMIC, DEFINED, EMPTY, ID, LABEL, SEQUENCE, TENSOR};
 use format::values::{Goal, Label, RuleName, TacticNo, value_at};
 use frames::{ALTERNATION_LEFT, Frame, LABELLED, SEQUENCE_LEFT, TENSOR_LEFT, store_frame};
-use tables::lookup::{BodyFound, RuleFound, find_body, find_rule};
+use tables::lookup::{RuleFound, find_body, find_rule};
 use tactics::numbers::put_header;
 use words::{copy_in, store16};
 
@@ -76,7 +75,7 @@ impl State {
 
     // The inner term so many bytes on is next, on the first of the goals, under one frame more.
     fn enter(self, on: usize, count: usize, out: usize) -> State
-        requires { (self.steps < most_steps) × (self.at + on < 65536) × (19 ≤ self.top) }
+        requires { (self.steps < most_steps) × (self.at < 65536) × (on ≤ 5) × (19 ≤ self.top) }
         ensures { result ≡ entered self on count out }
     {
         State {
@@ -91,7 +90,7 @@ impl State {
     }
 
     fn begin_id(self, work: &mut [u8]) -> State
-        requires { Room work.old self }
+        requires { Ready work.old self }
         ensures begun { Begins work.old self work.new result id id_next }
         ensures grown { Grown work.old self work.new result }
     {
@@ -105,7 +104,7 @@ impl State {
     }
 
     fn begin_empty(self, work: &mut [u8]) -> State
-        requires { Room work.old self }
+        requires { Ready work.old self }
         ensures begun { Begins work.old self work.new result empty empty_next }
         ensures grown { Grown work.old self work.new result }
     {
@@ -120,15 +119,11 @@ impl State {
 
     // An assertion leaves id on one goal equal to its own.
     fn begin_assert(self, goal: Goal, work: &mut [u8]) -> State
-        requires { Room work.old self × ((g : List Goal) × GoalsIs work.old self.arena self.start self.count g) }
+        requires { Ready work.old self }
         ensures begun { (T : Table) (γ : Goal) → goal.0 ≡ γ.0 → Begins work.old self work.new result (assert γ) (assert_next T γ) }
         ensures grown { Grown work.old self work.new result }
     {
-        if self.count != 1 {
-            return self.lose(Mode::Failed);
-        }
-        let here: Goal = value_at(work, self.start);
-        if here != goal {
+        if self.count != 1 || goal != value_at(work, self.start) {
             return self.lose(Mode::Failed);
         }
         if MOST_HELD <= self.held {
@@ -138,7 +133,7 @@ impl State {
     }
 
     fn begin_sequence(self, right: u16, work: &mut [u8]) -> State
-        requires { Room work.old self × (self.at < 65536) }
+        requires { Ready work.old self }
         ensures begun { (t u : Term) → right ≡ self.at + 3 + size t → Begins work.old self work.new result (sequence t u) (sequence_next t u) }
         ensures grown { Grown work.old self work.new result }
     {
@@ -150,7 +145,7 @@ impl State {
 
     // An alternation leaves no field; its frame keeps the goals for the right term.
     fn begin_alternation(self, right: u16, work: &mut [u8]) -> State
-        requires { Room work.old self × (self.at < 65536) × ((g : List Goal) × GoalsIs work.old self.arena self.start self.count g) }
+        requires { Ready work.old self }
         ensures begun { (t u : Term) → right ≡ self.at + 3 + size t → Begins work.old self work.new result (alternation t u) (alternation_next t u) }
         ensures grown { Grown work.old self work.new result }
     {
@@ -164,7 +159,7 @@ impl State {
     }
 
     fn begin_label(self, name: Label, work: &mut [u8]) -> State
-        requires { Room work.old self × (self.at + 5 < 65536) }
+        requires { Ready work.old self × (self.at + 5 < 65536) }
         ensures begun { (l : Label) (t : Term) → name.0 ≡ l.0 → Begins work.old self work.new result (label l t) (label_next l t) }
         ensures grown { Grown work.old self work.new result }
     {
@@ -180,7 +175,7 @@ impl State {
 
     // The left term takes as many goals as its arity, which comes with one added, and 0 for none; the frame keeps the others for the right term.
     fn begin_tensor(self, right: u16, arity: u16, work: &mut [u8]) -> State
-        requires { Room work.old self × (self.at < 65536) × ((g : List Goal) × GoalsIs work.old self.arena self.start self.count g) }
+        requires { Ready work.old self }
         ensures begun { (o : Option ℕ) (t u : Term) → right ≡ self.at + 3 + size t → arity ≡ arity_code o → Begins work.old self work.new result (tensor t u) (tensor_next o t u) }
         ensures grown { Grown work.old self work.new result }
     {
@@ -196,7 +191,7 @@ impl State {
 
     // A tensor whose left term takes so many goals.
     fn split(self, right: u16, left: usize, work: &mut [u8]) -> State
-        requires { Room work.old self × (self.at < 65536) × (left ≤ self.count) × ((g : List Goal) × GoalsIs work.old self.arena self.start self.count g) }
+        requires { Ready work.old self × (left ≤ self.count) }
         ensures begun { (t u : Term) → right ≡ self.at + 3 + size t → Begins work.old self work.new result (tensor t u) (tensor_next (some left) t u) }
         ensures grown { Grown work.old self work.new result }
     {
@@ -209,44 +204,37 @@ impl State {
 
     // An atomic term: its rule is looked up for its one goal.
     fn begin_atomic(self, name: RuleName, table: &[u8], first: usize, work: &mut [u8]) -> State
-        requires { Room work.old self × ((T : Table) × TableStands table.now first T) × ((g : List Goal) × GoalsIs work.old self.arena self.start self.count g) }
+        requires { Ready work.old self × ((T : Table) × TableStands table.now first T) }
         ensures begun { (T : Table) (a : RuleName) → TableStands table.now first T → name.0 ≡ a.0 → Begins work.old self work.new result (atomic a) (rule_next T a) }
         ensures grown { Grown work.old self work.new result }
     {
         if self.count != 1 {
             return self.lose(Mode::Failed);
         }
-        let goal: Goal = value_at(work, self.start);
-        match find_rule(table, first, name, goal) {
-            RuleFound::Missing => self.lose(Mode::Failed),
-            RuleFound::Rule(_, place, count) => self.use_rule(name, place, count, table, work),
+        match find_rule(table, first, name, value_at(work, self.start)) {
+            None => self.lose(Mode::Failed),
+            Some(rule) => self.use_rule(name, rule, table, work),
         }
     }
 
     // The rule's premises, which lie at a place of the table, are the goals; the rule's name is the field.
-    fn use_rule(
-        self,
-        name: RuleName,
-        place: usize,
-        count: usize,
-        table: &[u8],
-        work: &mut [u8],
-    ) -> State
-        requires { Room work.old self × (count ≤ 8) × (place + count * 2 ≤ length table.now) × ((g : List Goal) × GoalsIs work.old self.arena self.start self.count g) }
-        ensures begun { (a : RuleName) → name.0 ≡ a.0 → Begins work.old self work.new result (atomic a) (atomic_next a (some (goals_at table.now place count))) }
+    fn use_rule(self, name: RuleName, rule: RuleFound, table: &[u8], work: &mut [u8]) -> State
+        requires { Ready work.old self × (rule.count ≤ 8) × (rule.place + rule.count * 2 ≤ length table.now) }
+        ensures begun { (a : RuleName) → name.0 ≡ a.0 → Begins work.old self work.new result (atomic a) (atomic_next a (some (goals_at table.now rule.place rule.count))) }
         ensures grown { Grown work.old self work.new result }
     {
         if MOST_HELD <= self.held {
             return self.lose(Mode::Exceeded);
         }
+        let bytes = rule.count * 2;
         put_header(work, self.out, ATOMIC, 2);
         store16(work, self.out + 3, name.0);
-        copy_in(work, self.arena, table, place, count * 2);
+        copy_in(work, self.arena, table, rule.place, bytes);
         State {
             mode: Mode::Proved,
             start: self.arena,
-            count,
-            arena: self.arena + count * 2,
+            count: rule.count,
+            arena: self.arena + bytes,
             out: self.out + 5,
             held: self.held + 1,
             steps: self.steps + 1,
@@ -256,16 +244,16 @@ impl State {
 
     // A defined tactic is replaced by its body, and leaves no field.
     fn begin_defined(self, number: TacticNo, table: &[u8], first: usize, work: &[u8]) -> State
-        requires { Room work.now self × ((T : Table) × TableStands table.now first T) }
+        requires { Ready work.now self × ((T : Table) × TableStands table.now first T) }
         ensures begun { (T : Table) (d : TacticNo) (job : List ℕ) → TableStands table.now first T → number.0 ≡ d.0 → BeginsIn table.now job work.now self work.now result (defined d) (defined_next T d) }
         ensures grown { Grown work.now self work.now result }
     {
         match find_body(table, first, number) {
-            BodyFound::Missing => self.lose(Mode::Failed),
-            BodyFound::At(place) => State {
+            None => self.lose(Mode::Failed),
+            Some(body) => State {
                 mode: Mode::Running,
                 file: 0,
-                at: place,
+                at: body,
                 steps: self.steps + 1,
                 ..self
             },

@@ -41,10 +41,10 @@ impl State {
         ensures grown { Grown work.old self work.new result }
     {
         let s = self.begin(table, first, src, work);
-        if s.mode == Mode::Running {
-            return s;
+        match s.mode {
+            Mode::Running => s,
+            _ => s.unwind(work),
         }
-        s.unwind(work)
     }
 
     // A step begins one term and leaves the next state.

@@ -1,9 +1,8 @@
 // From the end of a term to the next term to begin, or to the end of the run: one function for each kind of term that waits.
 ghost use Rattle.std.specs.Prelude.{◌≡◌, ◌+◌, ◌≤◌};
 ghost use Rattle.arities.specs.Layout.{frames_end};
-ghost use Rattle.frames.specs.Frames.{frame_at};
 ghost use Rattle.machine.specs.declared.state.Mode.TheVariants as is;
-ghost use Rattle.machine.specs.Popping.{Waiting, Popped, Smaller, Unwinding, Unwound, Fewer, Closing, leave, ended_by};
+ghost use Rattle.machine.specs.Popping.{Waiting, Loaded, Popped, Smaller, Unwinding, Unwound, Fewer, Closing, Closes, Joins, leave, ended_by};
 
 use crate::state::{MOST_HELD, Mode, State};
 use arities::layout::FRAMES_END;
@@ -68,7 +67,7 @@ impl State {
 
     // A label's or a sequence's field is closed; 40 if one more cannot be held.
     fn close(self, work: &mut [u8], f: Frame) -> State
-        requires { (self.mode ≡ is.Proved) × Closing f.kind × (f ≡ frame_at work.old self.top) × Waiting work.old self }
+        requires { Loaded work.old self f × Closing f.kind × Closes self f }
         ensures popped { Popped work.old self work.new result }
         ensures smaller { Smaller work.old self work.new result }
     {
@@ -87,7 +86,7 @@ impl State {
 
     // A sequence's left term proved its goals: its right term is next, on what the left gave.
     fn turn(self, work: &mut [u8], f: Frame) -> State
-        requires { (self.mode ≡ is.Proved) × (f.kind ≡ 2) × (f ≡ frame_at work.old self.top) × Waiting work.old self }
+        requires { Loaded work.old self f × (f.kind ≡ 2) }
         ensures popped { Popped work.old self work.new result }
         ensures smaller { Smaller work.old self work.new result }
     {
@@ -108,7 +107,7 @@ impl State {
 
     // A tensor's left term proved its goals: its right term is next, on the goals that the frame kept for it.
     fn turn_beside(self, work: &mut [u8], f: Frame) -> State
-        requires { (self.mode ≡ is.Proved) × (f.kind ≡ 4) × (f ≡ frame_at work.old self.top) × Waiting work.old self }
+        requires { Loaded work.old self f × (f.kind ≡ 4) }
         ensures popped { Popped work.old self work.new result }
         ensures smaller { Smaller work.old self work.new result }
     {
@@ -131,7 +130,7 @@ impl State {
 
     // A tensor's right term proved its goals: the two lists are joined and its field is closed; 22 if they are too many, 40 if one more field cannot be held.
     fn join(self, work: &mut [u8], f: Frame) -> State
-        requires { (self.mode ≡ is.Proved) × (f.kind ≡ 5) × (f ≡ frame_at work.old self.top) × Waiting work.old self }
+        requires { Loaded work.old self f × (f.kind ≡ 5) × Joins self f }
         ensures popped { Popped work.old self work.new result }
         ensures smaller { Smaller work.old self work.new result }
     {

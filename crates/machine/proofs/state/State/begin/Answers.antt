@@ -2,139 +2,98 @@
 -- Assumes nothing.
 use mathlib.Core.Path.{refl}
 use native.Mathlib.Omega.{arith}
-use Rattle.tactics.proofs.SourceLaws.{value_room}
-use Rattle.machine.proofs.StepLaws.{given_stands, given_at, given_room, given_goals_lem, given_pair, id_any, empty_any, atomic_any, label_any, assert_any, defined_any, pair_any}
+use Rattle.machine.proofs.StepLaws.{given_at, given_ready, given_value, given_pair, id_any, empty_any, atomic_any, label_any, assert_any, defined_any, pair_any}
 use Rattle.machine.proofs.state.State.begin.Goals as goal
 
 pub bounds-src-at : goal.bounds-src-at
-bounds-src-at c =
-    let a = c.args in
-    let p = c.requires in
-    omega (arith, given_at a.table.now a.first a.src.now a.work.now a.self p)
+bounds-src-at c = let a = c.args in omega (arith, given_at a.table.now a.first a.src.now a.work.now a.self c.requires)
 
 pub begin_id-requires : goal.begin_id-requires
 begin_id-requires c =
     let a = c.args in
-    let p = c.requires in
-    given_room a.table.now a.first a.src.now a.work.now a.self p
+    given_ready a.table.now a.first a.src.now a.work.now a.self c.requires
 
-pub returns-then-tag-eq17 : goal.returns-then-tag-eq17
-returns-then-tag-eq17 c =
+pub returns-in-17-clause-begun : goal.returns-in-17-clause-begun
+returns-in-17-clause-begun c =
     let a = c.args in
-    record { begun = id_any a.table.now a.first a.src.now a.work.now a.self _ _ c.if-tag-eq17.true c.begin_id.ensures.begun; grown = c.begin_id.ensures.grown }
+    id_any a.table.now a.first a.src.now a.work.now a.self _ _ c.in-17.is c.begin_id.ensures.begun
 
 pub begin_empty-requires : goal.begin_empty-requires
 begin_empty-requires c =
     let a = c.args in
-    let p = c.requires in
-    given_room a.table.now a.first a.src.now a.work.now a.self p
+    given_ready a.table.now a.first a.src.now a.work.now a.self c.requires
 
-pub returns-then-tag-eq21 : goal.returns-then-tag-eq21
-returns-then-tag-eq21 c =
+pub returns-in-21-clause-begun : goal.returns-in-21-clause-begun
+returns-in-21-clause-begun c =
     let a = c.args in
-    record { begun = empty_any a.table.now a.first a.src.now a.work.now a.self _ _ c.if-tag-eq21.true c.begin_empty.ensures.begun; grown = c.begin_empty.ensures.grown }
+    empty_any a.table.now a.first a.src.now a.work.now a.self _ _ c.in-21.is c.begin_empty.ensures.begun
 
-pub overflow_add-at : goal.overflow_add-at
-overflow_add-at c =
+pub value_at-requires : goal.value_at-requires
+value_at-requires c =
     let a = c.args in
-    let p = c.requires in
-    omega (arith, given_at a.table.now a.first a.src.now a.work.now a.self p, p.src_small)
-
-pub rule_name_at-name-requires : goal.rule_name_at-name-requires
-rule_name_at-name-requires c =
-    let a = c.args in
-    let p = c.requires in
-    omega (arith, value_room a.src.now a.self.at p.term (given_stands a.table.now a.first a.src.now a.work.now a.self p) c.if-tag-eq17.false c.if-tag-eq21.false)
+    omega (arith, given_value a.table.now a.first a.src.now a.work.now a.self c.requires 16 c.in-16.is (λ e. omega (arith, e)) (λ e. omega (arith, e)))
 
 pub begin_atomic-requires : goal.begin_atomic-requires
 begin_atomic-requires c =
     let a = c.args in
-    let p = c.requires in
-    (given_room a.table.now a.first a.src.now a.work.now a.self p, (p.table, p.table_stands), given_goals_lem a.table.now a.first a.src.now a.work.now a.self p)
+    (given_ready a.table.now a.first a.src.now a.work.now a.self c.requires, (c.requires.table, c.requires.table_stands))
 
-pub returns-then-tag-eq16 : goal.returns-then-tag-eq16
-returns-then-tag-eq16 c =
+pub returns-in-16-clause-begun : goal.returns-in-16-clause-begun
+returns-in-16-clause-begun c =
     let a = c.args in
-    record { begun = atomic_any a.table.now a.first a.src.now a.work.now a.self _ _ c.if-tag-eq16.true c.rule_name_at-name.result.0 c.rule_name_at-name.ensures c.begin_atomic.ensures.begun; grown = c.begin_atomic.ensures.grown }
+    atomic_any a.table.now a.first a.src.now a.work.now a.self _ _ c.in-16.is c.value_at.result.0 c.value_at.ensures c.begin_atomic.ensures.begun
 
-pub overflow_add-at-then-tag-eq18 : goal.overflow_add-at-then-tag-eq18
-overflow_add-at-then-tag-eq18 c =
+pub value_at-requires-in-18 : goal.value_at-requires-in-18
+value_at-requires-in-18 c =
     let a = c.args in
-    let p = c.requires in
-    omega (arith, given_at a.table.now a.first a.src.now a.work.now a.self p, p.src_small)
-
-pub label_at-name-requires : goal.label_at-name-requires
-label_at-name-requires c =
-    let a = c.args in
-    let p = c.requires in
-    omega (arith, value_room a.src.now a.self.at p.term (given_stands a.table.now a.first a.src.now a.work.now a.self p) c.if-tag-eq17.false c.if-tag-eq21.false)
+    omega (arith, given_value a.table.now a.first a.src.now a.work.now a.self c.requires 18 c.in-18.is (λ e. omega (arith, e)) (λ e. omega (arith, e)))
 
 pub begin_label-requires : goal.begin_label-requires
 begin_label-requires c =
     let a = c.args in
-    let p = c.requires in (
-      given_room a.table.now a.first a.src.now a.work.now a.self p,
-      omega (arith, value_room a.src.now a.self.at p.term (given_stands a.table.now a.first a.src.now a.work.now a.self p) c.if-tag-eq17.false c.if-tag-eq21.false, p.src_small),
-    )
+    (given_ready a.table.now a.first a.src.now a.work.now a.self c.requires, omega (arith, given_value a.table.now a.first a.src.now a.work.now a.self c.requires 18 c.in-18.is (λ e. omega (arith, e)) (λ e. omega (arith, e)), c.requires.src_small))
 
-pub returns-then-tag-eq18 : goal.returns-then-tag-eq18
-returns-then-tag-eq18 c =
+pub returns-in-18-clause-begun : goal.returns-in-18-clause-begun
+returns-in-18-clause-begun c =
     let a = c.args in
-    record { begun = label_any a.table.now a.first a.src.now a.work.now a.self _ _ c.if-tag-eq18.true c.label_at-name.result.0 c.label_at-name.ensures c.begin_label.ensures.begun; grown = c.begin_label.ensures.grown }
+    label_any a.table.now a.first a.src.now a.work.now a.self _ _ c.in-18.is c.value_at-in-18.result.0 c.value_at-in-18.ensures c.begin_label.ensures.begun
 
-pub overflow_add-at-then-tag-eq23 : goal.overflow_add-at-then-tag-eq23
-overflow_add-at-then-tag-eq23 c =
+pub value_at-requires-in-23 : goal.value_at-requires-in-23
+value_at-requires-in-23 c =
     let a = c.args in
-    let p = c.requires in
-    omega (arith, given_at a.table.now a.first a.src.now a.work.now a.self p, p.src_small)
-
-pub goal_at-goal-requires : goal.goal_at-goal-requires
-goal_at-goal-requires c =
-    let a = c.args in
-    let p = c.requires in
-    omega (arith, value_room a.src.now a.self.at p.term (given_stands a.table.now a.first a.src.now a.work.now a.self p) c.if-tag-eq17.false c.if-tag-eq21.false)
+    omega (arith, given_value a.table.now a.first a.src.now a.work.now a.self c.requires 23 c.in-23.is (λ e. omega (arith, e)) (λ e. omega (arith, e)))
 
 pub begin_assert-requires : goal.begin_assert-requires
 begin_assert-requires c =
     let a = c.args in
-    let p = c.requires in
-    (given_room a.table.now a.first a.src.now a.work.now a.self p, given_goals_lem a.table.now a.first a.src.now a.work.now a.self p)
+    given_ready a.table.now a.first a.src.now a.work.now a.self c.requires
 
-pub returns-then-tag-eq23 : goal.returns-then-tag-eq23
-returns-then-tag-eq23 c =
+pub returns-in-23-clause-begun : goal.returns-in-23-clause-begun
+returns-in-23-clause-begun c =
     let a = c.args in
-    record { begun = assert_any a.table.now a.first a.src.now a.work.now a.self _ _ c.if-tag-eq23.true c.goal_at-goal.result.0 c.goal_at-goal.ensures c.begin_assert.ensures.begun; grown = c.begin_assert.ensures.grown }
+    assert_any a.table.now a.first a.src.now a.work.now a.self _ _ c.in-23.is c.value_at-in-23.result.0 c.value_at-in-23.ensures c.begin_assert.ensures.begun
 
-pub overflow_add-at-then-tag-eq24 : goal.overflow_add-at-then-tag-eq24
-overflow_add-at-then-tag-eq24 c =
+pub value_at-requires-in-24 : goal.value_at-requires-in-24
+value_at-requires-in-24 c =
     let a = c.args in
-    let p = c.requires in
-    omega (arith, given_at a.table.now a.first a.src.now a.work.now a.self p, p.src_small)
-
-pub tactic_no_at-number-requires : goal.tactic_no_at-number-requires
-tactic_no_at-number-requires c =
-    let a = c.args in
-    let p = c.requires in
-    omega (arith, value_room a.src.now a.self.at p.term (given_stands a.table.now a.first a.src.now a.work.now a.self p) c.if-tag-eq17.false c.if-tag-eq21.false)
+    omega (arith, given_value a.table.now a.first a.src.now a.work.now a.self c.requires 24 c.in-24.is (λ e. omega (arith, e)) (λ e. omega (arith, e)))
 
 pub begin_defined-requires : goal.begin_defined-requires
 begin_defined-requires c =
     let a = c.args in
-    let p = c.requires in
-    (given_room a.table.now a.first a.src.now a.work.now a.self p, (p.table, p.table_stands))
+    (given_ready a.table.now a.first a.src.now a.work.now a.self c.requires, (c.requires.table, c.requires.table_stands))
 
-pub returns-then-tag-eq24 : goal.returns-then-tag-eq24
-returns-then-tag-eq24 c =
+pub returns-in-24-clause-begun : goal.returns-in-24-clause-begun
+returns-in-24-clause-begun c =
     let a = c.args in
-    record { begun = defined_any a.table.now a.first a.src.now a.work.now a.self _ _ c.if-tag-eq24.true c.tactic_no_at-number.result.0 c.tactic_no_at-number.ensures c.begin_defined.ensures.begun; grown = c.begin_defined.ensures.grown }
+    defined_any a.table.now a.first a.src.now a.work.now a.self _ _ c.in-24.is c.value_at-in-24.result.0 c.value_at-in-24.ensures c.begin_defined.ensures.begun
 
 pub begin_pair-requires : goal.begin_pair-requires
 begin_pair-requires c =
     let a = c.args in
-    let p = c.requires in
-    given_pair a.table.now a.first a.src.now a.work.now a.self p _ refl c.if-tag-eq17.false c.if-tag-eq21.false c.if-tag-eq16.false c.if-tag-eq18.false c.if-tag-eq23.false c.if-tag-eq24.false
+    given_pair a.table.now a.first a.src.now a.work.now a.self c.requires _ refl (λ e. omega (arith, e)) (λ e. omega (arith, e)) (λ e. omega (arith, e)) (λ e. omega (arith, e)) (λ e. omega (arith, e)) (λ e. omega (arith, e))
 
-pub returns : goal.returns
-returns c =
+pub returns-in_default-clause-begun : goal.returns-in_default-clause-begun
+returns-in_default-clause-begun c =
     let a = c.args in
-    record { begun = pair_any a.table.now a.first a.src.now a.work.now a.self _ _ c.begin_pair.ensures.begun; grown = c.begin_pair.ensures.grown }
+    pair_any a.table.now a.first a.src.now a.work.now a.self _ _ c.begin_pair.ensures.begun

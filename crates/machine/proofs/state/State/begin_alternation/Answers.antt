@@ -1,11 +1,15 @@
 -- `begin_alternation` meets its contract: a frame that keeps the goals.
 -- Assumes nothing.
-use Rattle.machine.proofs.BeginLaws.{alternation_end}
+use native.Mathlib.Omega.{arith}
+use Rattle.machine.proofs.BeginLaws.{may_enter, alternation_end}
 use Rattle.machine.proofs.state.State.begin_alternation.Goals as goal
+
+pub enter-next-requires : goal.enter-next-requires
+enter-next-requires c = may_enter c.args.work.now c.args.self c.requires 3 (omega arith)
 
 pub returns : goal.returns
 returns c =
     let a = c.args in
-    let p = c.requires in
-    let e = alternation_end a.work.now a.self p.0 a.right _ c.store_frame.ensures in
-    record { begun = e.0; grown = e.1 }
+    let stored = rw (c.enter-next.ensures, c.frame.ensures) at c.store_frame.ensures in
+    let e = alternation_end a.work.now a.self c.requires.room a.right _ stored in
+    rw c.enter-next.ensures (record { begun = e.0; grown = e.1 })

@@ -1,38 +1,31 @@
--- `begin_assert` meets its contract: by the number of goals, then by the goal, then by the fields held.
+-- `begin_assert` meets its contract: by the number of goals and the goal, then by the fields held.
 -- Assumes nothing.
-use mathlib.Core.Path.{sym, ◌∙◌}
-use Rattle.machine.proofs.BeginLaws.{assert_many_end, assert_other_end, assert_exceeds, assert_end}
+use mathlib.Core.Path.{◌≡◌, sym, ◌∙◌}
 use native.Mathlib.Omega.{arith}
+use Rattle.std.proofs.lemmas.Bool.Decides.{nat_tests}
+use Rattle.machine.proofs.BeginLaws.{assert_many_end, assert_other_end, assert_exceeds, assert_end}
+use Rattle.machine.proofs.state.State.begin_assert.Goals.{then-self-ne1-via-then-self-ne1, then-self-ne1-via-else-self-ne1+then-ne}
 use Rattle.machine.proofs.state.State.begin_assert.Goals as goal
 
-pub returns-then-self-ne1 : goal.returns-then-self-ne1
-returns-then-self-ne1 c =
+pub returns-then-self-ne1-clause-begun : goal.returns-then-self-ne1-clause-begun
+returns-then-self-ne1-clause-begun c =
     let a = c.args in
-    let p = c.requires in
-    let e = assert_many_end a.work.now a.self p.0 a.goal.0 _ c.if-self-ne1.true c.lose.ensures in
-    record { begun = e.0; grown = e.1 }
+    elim c.then-self-ne1.branch [
+      then-self-ne1-via-then-self-ne1 w ↦ (assert_many_end a.work.now a.self c.requires.room a.goal.0 _ w.if-self-ne1.true c.lose.ensures).0
+    | then-self-ne1-via-else-self-ne1+then-ne w ↦
+        let differ : a.goal.0 ≡ w.value_at.result.0 → ⊥ = grind (arith, nat_tests, w.if-ne.true, w.ne.ensures) in
+        (assert_other_end a.work.now a.self c.requires.room a.goal.0 _ (λ e. differ (sym (w.value_at.ensures ∙ e))) c.lose.ensures).0
+    ]
 
-pub returns-then-here-goal : goal.returns-then-here-goal
-returns-then-here-goal c =
+pub returns-then-self-ge-MOST_HELD-clause-begun : goal.returns-then-self-ge-MOST_HELD-clause-begun
+returns-then-self-ge-MOST_HELD-clause-begun c =
     let a = c.args in
-    let p = c.requires in
-    let e = assert_other_end a.work.now a.self p.0 a.goal.0 _ (λ e. c.if-here-goal.true (c.goal_at-here.ensures ∙ e)) c.lose-then-here-goal.ensures in
-    record { begun = e.0; grown = e.1 }
-
-pub returns-then-self-ge-MOST_HELD : goal.returns-then-self-ge-MOST_HELD
-returns-then-self-ge-MOST_HELD c =
-    let a = c.args in
-    let p = c.requires in
-    let e = assert_exceeds a.work.now a.self p.0 a.goal.0 _ c.if-self-ne1.false (sym c.goal_at-here.ensures ∙ c.if-here-goal.false) (omega (arith, c.if-self-ge-MOST_HELD.true)) c.lose-then-self-ge-MOST_HELD.ensures in
-    record { begun = e.0; grown = e.1 }
-
-pub keep-requires : goal.keep-requires
-keep-requires c = (c.requires.0, omega (arith, c.if-self-ge-MOST_HELD.false))
+    let same : a.goal.0 ≡ c.value_at.result.0 = grind (arith, nat_tests, c.if-ne.false, c.ne.ensures) in
+    (assert_exceeds a.work.now a.self c.requires.room a.goal.0 _ c.if-self-ne1.false (sym (same ∙ c.value_at.ensures)) c.if-self-ge-MOST_HELD.true c.lose-then-self-ge-MOST_HELD.ensures).0
 
 pub returns : goal.returns
 returns c =
     let a = c.args in
-    let p = c.requires in
-    let e = assert_end a.work.now a.self p.0 a.goal.0 _ _ c.if-self-ne1.false (sym c.goal_at-here.ensures ∙ c.if-here-goal.false) (omega (arith, c.if-self-ge-MOST_HELD.false))
-    c.keep.ensures.written c.keep.ensures.kept in
+    let same : a.goal.0 ≡ c.value_at.result.0 = grind (arith, nat_tests, c.if-ne.false, c.ne.ensures) in
+    let e = assert_end a.work.now a.self c.requires.room a.goal.0 _ _ c.if-self-ne1.false (sym (same ∙ c.value_at.ensures)) (omega (arith, c.if-self-ge-MOST_HELD.false)) c.keep.ensures.written c.keep.ensures.kept in
     record { begun = e.0; grown = e.1 }

@@ -1,18 +1,17 @@
 -- `begin_defined` meets its contract: by what is found.
 -- Assumes nothing.
+use mathlib.Core.Path.{refl}
 use Rattle.machine.proofs.FormLaws.{body_missing, body_found}
 use Rattle.machine.proofs.state.State.begin_defined.Goals as goal
 
-pub returns-in-Missing : goal.returns-in-Missing
-returns-in-Missing c =
+pub returns-in-None : goal.returns-in-None
+returns-in-None c =
     let a = c.args in
-    let p = c.requires in
-    let e = body_missing a.work.now a.self p.0 a.table.now a.first a.number c.find_body-found.result c.find_body-found.ensures _ c.in-Missing.is c.lose.ensures in
+    let e = body_missing a.work.now a.self c.requires.0.room a.table.now a.first a.number _ c.in-None.ensures _ refl c.lose.ensures in
     record { begun = e.0; grown = e.1 }
 
-pub returns-in-At : goal.returns-in-At
-returns-in-At c =
+pub returns-in-Some : goal.returns-in-Some
+returns-in-Some c =
     let a = c.args in
-    let p = c.requires in
-    let e = body_found a.work.now a.self p.0 a.table.now a.first a.number c.find_body-found.result c.find_body-found.ensures _ c.in-At.is in
+    let e = body_found a.work.now a.self c.requires.0.room a.table.now a.first a.number _ c.in-Some.ensures _ refl in
     record { begun = e.0; grown = e.1 }

@@ -1,59 +1,29 @@
 -- `begin_pair` meets its contract: by the tag, one law for each form.
 -- Assumes nothing.
 use native.Mathlib.Omega.{arith}
-use Rattle.machine.proofs.StepLaws.{pair_inner, pair_at, pair_goals, pair_left, sequence_pair, tensor_pair, alternation_pair}
+use Rattle.machine.proofs.StepLaws.{pair_inner, pair_left, sequence_pair, tensor_pair, alternation_pair}
 use Rattle.machine.proofs.state.State.begin_pair.Goals as goal
 
 pub right_of-right-requires : goal.right_of-right-requires
-right_of-right-requires c =
-    let a = c.args in
-    let p = c.requires in
-    (p.src_small, pair_inner a.src.now a.work.now a.self a.tag p)
+right_of-right-requires c = (c.requires.src_small, pair_inner c.args.src.now c.args.work.now c.args.self c.args.tag c.requires)
 
-pub begin_sequence-requires : goal.begin_sequence-requires
-begin_sequence-requires c =
+pub arity_of-requires : goal.arity_of-requires
+arity_of-requires c =
     let a = c.args in
     let p = c.requires in
-    (p.room, pair_at a.src.now a.work.now a.self a.tag p)
+    (p.src_small, p.ready.room.space, pair_left a.src.now a.work.now a.self a.tag p)
 
-pub returns-then-tag-eq19 : goal.returns-then-tag-eq19
-returns-then-tag-eq19 c =
+pub returns-in-19-clause-begun : goal.returns-in-19-clause-begun
+returns-in-19-clause-begun c =
     let a = c.args in
-    let p = c.requires in
-    record { begun = sequence_pair a.src.now a.work.now a.self a.tag p _ _ c.right_of-right.result c.right_of-right.ensures c.if-tag-eq19.true c.begin_sequence.ensures.begun; grown = c.begin_sequence.ensures.grown }
+    sequence_pair a.src.now a.work.now a.self a.tag c.requires _ _ c.right_of-right.result c.right_of-right.ensures c.in-19.is c.begin_sequence.ensures.begun
 
-pub overflow_add-at : goal.overflow_add-at
-overflow_add-at c =
+pub returns-in-20-clause-begun : goal.returns-in-20-clause-begun
+returns-in-20-clause-begun c =
     let a = c.args in
-    let p = c.requires in
-    omega (arith, pair_at a.src.now a.work.now a.self a.tag p)
+    tensor_pair a.src.now a.work.now a.self a.tag c.requires _ _ c.right_of-right.result c.right_of-right.ensures c.in-20.is c.arity_of.result c.arity_of.ensures c.begin_tensor.ensures.begun
 
-pub arity_of-arity-requires : goal.arity_of-arity-requires
-arity_of-arity-requires c =
+pub returns-in_default-clause-begun : goal.returns-in_default-clause-begun
+returns-in_default-clause-begun c =
     let a = c.args in
-    let p = c.requires in
-    (p.src_small, p.room.space, pair_left a.src.now a.work.now a.self a.tag p)
-
-pub begin_tensor-requires : goal.begin_tensor-requires
-begin_tensor-requires c =
-    let a = c.args in
-    let p = c.requires in
-    (p.room, pair_at a.src.now a.work.now a.self a.tag p, pair_goals a.src.now a.work.now a.self a.tag p)
-
-pub returns-then-tag-eq20 : goal.returns-then-tag-eq20
-returns-then-tag-eq20 c =
-    let a = c.args in
-    let p = c.requires in
-    record { begun = tensor_pair a.src.now a.work.now a.self a.tag p _ _ c.right_of-right.result c.right_of-right.ensures c.if-tag-eq20.true c.arity_of-arity.result c.arity_of-arity.ensures c.begin_tensor.ensures.begun; grown = c.begin_tensor.ensures.grown }
-
-pub begin_alternation-requires : goal.begin_alternation-requires
-begin_alternation-requires c =
-    let a = c.args in
-    let p = c.requires in
-    (p.room, pair_at a.src.now a.work.now a.self a.tag p, pair_goals a.src.now a.work.now a.self a.tag p)
-
-pub returns : goal.returns
-returns c =
-    let a = c.args in
-    let p = c.requires in
-    record { begun = alternation_pair a.src.now a.work.now a.self a.tag p _ _ c.right_of-right.result c.right_of-right.ensures c.if-tag-eq19.false c.if-tag-eq20.false c.begin_alternation.ensures.begun; grown = c.begin_alternation.ensures.grown }
+    alternation_pair a.src.now a.work.now a.self a.tag c.requires _ _ c.right_of-right.result c.right_of-right.ensures (λ e. omega (arith, e)) (λ e. omega (arith, e)) c.begin_alternation.ensures.begun

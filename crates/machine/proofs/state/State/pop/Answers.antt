@@ -5,13 +5,9 @@ use Rattle.machine.proofs.PopLaws.{ended_end}
 use Rattle.machine.proofs.state.State.pop.Goals as goal
 
 pub leave-requires : goal.leave-requires
-leave-requires c =
-    let a = c.args in
-    let p = c.requires in
-    (waiting-fits a.work.now a.self p).frames_high
+leave-requires c = (waiting-fits c.args.work.now c.args.self c.requires).frames_high
 
-pub returns : goal.returns
-returns c =
-    let a = c.args in
-    let e = ended_end a.work.now a.self _ c.if-self-eq-PROVED.false c.if-self-eq-FAILED.false c.leave.ensures in
+pub returns-in_default : goal.returns-in_default
+returns-in_default c =
+    let e = ended_end c.args.work.now c.args.self _ c.in_default.not-Proved c.in_default.not-Failed c.leave.ensures in
     record { popped = e.0; smaller = e.1 }

@@ -1,17 +1,16 @@
 -- `split` meets its contract: a header, then a frame with the goals for the right term.
 -- Assumes nothing.
-use mathlib.Core.Path.{ap, ◌∙◌}
-use mathlib.Core.List.{List}
-use Prim.Native.Nat.{ℕ, ◌-◌}
-use Rattle.frames.specs.Frames.{put_frame}
-use Rattle.machine.specs.Begun.{tensor_frame}
+use native.Mathlib.Omega.{arith}
+use Rattle.machine.proofs.BeginLaws.{may_enter}
 use Rattle.machine.proofs.FormLaws.{split_end}
 use Rattle.machine.proofs.state.State.split.Goals as goal
+
+pub enter-next-requires : goal.enter-next-requires
+enter-next-requires c = may_enter c.args.work.now c.args.self c.requires.0 3 (omega arith)
 
 pub returns : goal.returns
 returns c =
     let a = c.args in
-    let p = c.requires in
-    let e = split_end a.work.now a.self p.0 a.right a.left _ p.2
-    (c.store_frame.ensures ∙ ap (λ (x : List ℕ). put_frame x (a.self.top - 19) (tensor_frame a.self a.right a.left)) c.put_header.ensures) in
-    record { begun = e.0; grown = e.1 }
+    let stored = rw (c.enter-next.ensures, c.frame-others.ensures, c.put_header.ensures) at c.store_frame.ensures in
+    let e = split_end a.work.now a.self c.requires.0.room a.right a.left _ c.requires.1 stored in
+    rw c.enter-next.ensures (record { begun = e.0; grown = e.1 })
