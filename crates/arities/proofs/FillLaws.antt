@@ -1,20 +1,19 @@
 -- A round reaches every definition, one at a turn, and the rounds together give all arities: what is still to come stands in the table behind the turn's
 -- place, and everything before it has been reached.
 -- Assumes nothing.
-use Prim.Native.Nat.{ℕ, zero, suc, ◌+◌, ◌*◌, ◌-◌, ◌≤◌, ◌<◌}
+use Prim.Native.Nat.{ℕ, suc, ◌+◌, ◌*◌, ◌≤◌, ◌<◌}
 use mathlib.Core.Path.{◌≡◌, refl, sym, ap, subst, ◌∙◌}
 use mathlib.Core.List.Memᴰ
-use mathlib.Core.List.{List, [], ◌∷◌, ◌++◌, Memᴰ}
+use mathlib.Core.List.{List, [], ◌∷◌, Memᴰ}
 use mathlib.Core.Logic.{◌⊎◌, inl, inr}
-use mathlib.Core.Bool.{Bool, cond}
+use mathlib.Core.Bool.{Bool, true, false, cond}
 use mathlib.Core.Option.{Option, none, some}
 use native.Mathlib.Omega.{arith}
 use native.Mathlib.Decide.{dec_lt}
 use lib.Dec.{ltb}
-use lib.ListN.{length, get_or, take, drop, replicate, length-drop, length-replicate, get_or-append}
-use lib.Seq.{get_or-append-add, length-take-le}
+use lib.ListN.{length, get_or}
 use borrow.Author.Tests.{lt-ltb, le-ltb}
-use borrow.Rule.Slice.PartMut.{mid_of, post_of, put_mid, same_len_mid}
+use Rattle.words.specs.Blank.{Blank}
 use Rattle.words.specs.Word.{word, put_word}
 use Rattle.words.proofs.WordLaws.{length-put_word}
 use Rattle.format.specs.declared.values.TacticNo.{TacticNo}
@@ -33,23 +32,22 @@ use Rattle.arities.specs.Rounds.{decoded, known_in, Between, Updated, RoundGiven
 use Rattle.arities.proofs.RoundLaws.{has_known, body_found, between_start, all_there, fixed_all, stored_between, stored_reached, stored_here, update_here, update_other, update_none}
 
 -- the definitions still to come; every other one has been reached, and is as it was if nothing changed
-pub record Turn (bytes : List ℕ) (T : Table) (k : ℕ) (w : List ℕ) (at changes : ℕ) : Type 0 where
+pub record Turn (bytes : List ℕ) (T : Table) (k : ℕ) (w : List ℕ) (at : ℕ) (changed : Bool) : Type 0 where
   pub rest : List Definition
   pub stand : DefinitionsStand bytes at rest (length bytes)
   pub members : (y : Definition) → Memᴰ y rest → Memᴰ y T.definitions
   pub between : Between T k w
   pub reached : (y : Definition) → Memᴰ y T.definitions
       → Memᴰ y rest ⊎ ((n : ℕ) → arity_after (suc k) T.definitions y.tactic ≡ some n → known_in w y.tactic ≡ some n)
-  pub unchanged : changes ≡ 0 → (y : Definition) → Memᴰ y T.definitions → Memᴰ y rest ⊎ (known_in w y.tactic ≡ arity_in (known_in w) y.body)
+  pub unchanged : changed ≡ false → (y : Definition) → Memᴰ y T.definitions → Memᴰ y rest ⊎ (known_in w y.tactic ≡ arity_in (known_in w) y.body)
 
 -- what holds at every turn of a round
-pub record RoundTurn (bytes : List ℕ) (first : ℕ) (w₀ w : List ℕ) (at changes : ℕ) : Type 0 where
+pub record RoundTurn (bytes : List ℕ) (first : ℕ) (w₀ w : List ℕ) (at : ℕ) (changed : Bool) : Type 0 where
   pub row : (rest : List Definition) × DefinitionsStand bytes at rest (length bytes)
-  pub turn : (T : Table) → TableStands bytes first T → UniqueDefinitions T → (k : ℕ) → Between T k w₀ → Turn bytes T k w at changes
+  pub turn : (T : Table) → TableStands bytes first T → UniqueDefinitions T → (k : ℕ) → Between T k w₀ → Turn bytes T k w at changed
   pub same_length : length w ≡ length w₀
-  pub few : changes ≤ at
 
-pub round_start : (bytes : List ℕ) (first : ℕ) (w : List ℕ) → RoundGiven bytes first w → RoundTurn bytes first w w first 0
+pub round_start : (bytes : List ℕ) (first : ℕ) (w : List ℕ) → RoundGiven bytes first w → RoundTurn bytes first w w first false
 round_start bytes first w q = record {
   row = (q.table.definitions, q.table_stands.definitions_stand);
   turn = λ T st unique k b. record {
@@ -61,12 +59,11 @@ round_start bytes first w q = record {
     unchanged = λ z y m. inl m;
   };
   same_length = refl;
-  few = omega arith;
 }
 
 -- the definition at the turn's place
-pub definition_here : (bytes : List ℕ) (first : ℕ) (w₀ w : List ℕ) (at changes : ℕ) → RoundTurn bytes first w₀ w at changes → at < length bytes → (x : Definition) × DefinitionStands bytes at x × (at + definition_size x ≤ length bytes)
-definition_here bytes first w₀ w at changes r h = first_in_row (DefinitionStands bytes) definition_size r.row.0 at (length bytes) r.row.1 h
+pub definition_here : (bytes : List ℕ) (first : ℕ) (w₀ w : List ℕ) (at : ℕ) (changed : Bool) → RoundTurn bytes first w₀ w at changed → at < length bytes → (x : Definition) × DefinitionStands bytes at x × (at + definition_size x ≤ length bytes)
+definition_here bytes first w₀ w at changed r h = first_in_row (DefinitionStands bytes) definition_size r.row.0 at (length bytes) r.row.1 h
 
 pub here_room : (bytes : List ℕ) (at : ℕ) (x : Definition) → DefinitionStands bytes at x → at + definition_size x ≤ length bytes → (at + 8 ≤ length bytes) × (at + (3 + word bytes (at + 1)) ≤ length bytes)
 here_room bytes at x d h =
@@ -75,7 +72,7 @@ here_room bytes at x d h =
     (omega (arith, k.inside, k.three), omega (arith, e, h))
 
 -- what a turn reads and stores
-module _ (bytes : List ℕ) (at len tactic arity : ℕ) (w v : List ℕ) (changed : ℕ) (len_is : len ≡ word bytes (at + 1)) (tactic_is : tactic ≡ word bytes (at + 3)) (bound : tactic < 65536)
+module _ (bytes : List ℕ) (at len tactic arity : ℕ) (w v : List ℕ) (changed : Bool) (len_is : len ≡ word bytes (at + 1)) (tactic_is : tactic ≡ word bytes (at + 3)) (bound : tactic < 65536)
     (space : space_end ≤ length w) (found : (given : TacticNo → Option ℕ) (t : Term) → ArityTable w given → Stands bytes (at + 5) t → arity ≡ arity_code (arity_in given t)) (u : Updated w tactic arity v changed) where
   row_next : (xs : List Definition) → at < length bytes → DefinitionsStand bytes at xs (length bytes) → (rest : List Definition) × DefinitionsStand bytes (at + (3 + len)) rest (length bytes)
   unfolding InRow
@@ -84,14 +81,14 @@ module _ (bytes : List ℕ) (at len tactic arity : ℕ) (w v : List ℕ) (change
       let q : at + definition_size x ≡ at + (3 + len) = omega (arith, definition_size_lem bytes at x r.0, len_is) in
       (xs, subst (λ (j : ℕ). DefinitionsStand bytes j xs (length bytes)) q r.1)
 
-  turn_next : (T : Table) (unique : UniqueDefinitions T) (k changes : ℕ) → at < length bytes → Turn bytes T k w at changes → Turn bytes T k v (at + (3 + len)) (changes + changed)
+  turn_next : (T : Table) (unique : UniqueDefinitions T) (k : ℕ) (before after : Bool) → (after ≡ false → (before ≡ false) × (changed ≡ false)) → at < length bytes → Turn bytes T k w at before → Turn bytes T k v (at + (3 + len)) after
   unfolding InRow
-  turn_next T unique k changes h t = go t.rest t.stand t.members t.reached t.unchanged
+  turn_next T unique k before after both h t = go t.rest t.stand t.members t.reached t.unchanged
     where
       go : (xs : List Definition) → DefinitionsStand bytes at xs (length bytes) → ((y : Definition) → Memᴰ y xs → Memᴰ y T.definitions)
           → ((y : Definition) → Memᴰ y T.definitions → Memᴰ y xs ⊎ ((n : ℕ) → arity_after (suc k) T.definitions y.tactic ≡ some n → known_in w y.tactic ≡ some n))
-          → (changes ≡ 0 → (y : Definition) → Memᴰ y T.definitions → Memᴰ y xs ⊎ (known_in w y.tactic ≡ arity_in (known_in w) y.body))
-          → Turn bytes T k v (at + (3 + len)) (changes + changed)
+          → (before ≡ false → (y : Definition) → Memᴰ y T.definitions → Memᴰ y xs ⊎ (known_in w y.tactic ≡ arity_in (known_in w) y.body))
+          → Turn bytes T k v (at + (3 + len)) after
       go [] e m f g = absurd (omega (arith, h, e))
       go (x ∷ xs) r m f g = record {
         rest = xs;
@@ -99,7 +96,7 @@ module _ (bytes : List ℕ) (at len tactic arity : ℕ) (w v : List ℕ) (change
         members = λ y i. m y (Memᴰ.tail i);
         between = stored_between T unique k w v x member here other t.between;
         reached = λ y i. reach y (f y i);
-        unchanged = λ z y i. same y (changed_none z) (g (omega (arith, z)) y i);
+        unchanged = λ z y i. same y (changed_none z) (g (both z).0 y i);
       }
         where
           place : at + definition_size x ≡ at + (3 + len)
@@ -126,8 +123,8 @@ module _ (bytes : List ℕ) (at len tactic arity : ℕ) (w v : List ℕ) (change
           other : (d : TacticNo) → (d.0 ≡ x.tactic.0 → ⊥) → known_in v d ≡ known_in w d
           other = update_other w v x.tactic arity changed (arity_in (known_in w) x.body) bound' space u' arity_is
 
-          changed_none : changes + changed ≡ 0 → v ≡ w
-          changed_none z = update_none w v x.tactic arity changed (arity_in (known_in w) x.body) bound' space u' arity_is (omega (arith, z))
+          changed_none : after ≡ false → v ≡ w
+          changed_none z = update_none w v x.tactic arity changed (arity_in (known_in w) x.body) bound' space u' arity_is (both z).1
 
           reach : (y : Definition) → Memᴰ y (x ∷ xs) ⊎ ((n : ℕ) → arity_after (suc k) T.definitions y.tactic ≡ some n → known_in w y.tactic ≡ some n)
               → Memᴰ y xs ⊎ ((n : ℕ) → arity_after (suc k) T.definitions y.tactic ≡ some n → known_in v y.tactic ≡ some n)
@@ -148,18 +145,18 @@ module _ (bytes : List ℕ) (at len tactic arity : ℕ) (w v : List ℕ) (change
                   (here ∙ ap (λ (z : List ℕ). arity_in (known_in z) x.body) (sym q)))
               by (inr j) = inl j
 
-  pub round_next : (first : ℕ) (w₀ : List ℕ) (changes : ℕ) → at < length bytes → RoundTurn bytes first w₀ w at changes → RoundTurn bytes first w₀ v (at + (3 + len)) (changes + changed)
-  round_next first w₀ changes h r = record {
+  pub round_next : (first : ℕ) (w₀ : List ℕ) (before after : Bool) → (after ≡ false → (before ≡ false) × (changed ≡ false)) → at < length bytes → RoundTurn bytes first w₀ w at before
+      → RoundTurn bytes first w₀ v (at + (3 + len)) after
+  round_next first w₀ before after both h r = record {
     row = row_next r.row.0 h r.row.1;
-    turn = λ T st unique k b. turn_next T unique k changes h (r.turn T st unique k b);
+    turn = λ T st unique k b. turn_next T unique k before after both h (r.turn T st unique k b);
     same_length = u.same_length ∙ r.same_length;
-    few = omega (arith, r.few, u.least);
   }
 
 -- no definition is left
-pub round_end : (bytes : List ℕ) (first : ℕ) (w₀ w : List ℕ) (at changes : ℕ) → RoundTurn bytes first w₀ w at changes → length bytes ≤ at → Rounded bytes first w₀ w changes
+pub round_end : (bytes : List ℕ) (first : ℕ) (w₀ w : List ℕ) (at : ℕ) (changed : Bool) → RoundTurn bytes first w₀ w at changed → length bytes ≤ at → Rounded bytes first w₀ w changed
 unfolding InRow
-round_end bytes first w₀ w at changes r h = record {
+round_end bytes first w₀ w at changed r h = record {
   same_length = r.same_length;
   further = λ T st unique k b. ends T k (r.turn T st unique k b);
   settled = λ T st unique k b z. settles T unique k z (r.turn T st unique k b);
@@ -169,10 +166,10 @@ round_end bytes first w₀ w at changes r h = record {
     none_left [] e = refl
     none_left (x ∷ xs) e = absurd (omega (arith, h, definition_positive x, row_le (DefinitionStands bytes) definition_size xs (at + definition_size x) (length bytes) e.1))
 
-    not_left : (T : Table) (k : ℕ) (t : Turn bytes T k w at changes) (y : Definition) → Memᴰ y t.rest → ⊥
+    not_left : (T : Table) (k : ℕ) (t : Turn bytes T k w at changed) (y : Definition) → Memᴰ y t.rest → ⊥
     not_left T k t y m = Memᴰ.not-nil (subst (λ (l : List Definition). Memᴰ y l) (none_left t.rest t.stand) m)
 
-    ends : (T : Table) (k : ℕ) → Turn bytes T k w at changes → Between T (suc k) w
+    ends : (T : Table) (k : ℕ) → Turn bytes T k w at changed → Between T (suc k) w
     ends T k t = record {
       sound = t.between.sound;
       complete = λ d n e.
@@ -186,7 +183,7 @@ round_end bytes first w₀ w at changes r h = record {
         by d n e y (inl m) = absurd (not_left T k t y m)
         by d n e y (inr f) = f n e
 
-    settles : (T : Table) → UniqueDefinitions T → (k : ℕ) → changes ≡ 0 → Turn bytes T k w at changes → ArityTable w (arities T)
+    settles : (T : Table) → UniqueDefinitions T → (k : ℕ) → changed ≡ false → Turn bytes T k w at changed → ArityTable w (arities T)
     settles T unique k z t = fixed_all T unique k w t.between (λ y m. by y (t.unchanged z y m))
       where
         by : (y : Definition) → Memᴰ y t.rest ⊎ (known_in w y.tactic ≡ arity_in (known_in w) y.body) → known_in w y.tactic ≡ arity_in (known_in w) y.body
@@ -194,44 +191,36 @@ round_end bytes first w₀ w at changes r h = record {
         by y (inr e) = e
 
 -- the rounds
-pub record FillTurn (bytes : List ℕ) (first definitions : ℕ) (w₀ w : List ℕ) (left : ℕ) : Type 0 where
+pub record FillTurn (bytes : List ℕ) (first : ℕ) (w₀ w : List ℕ) (rounds : ℕ) : Type 0 where
   pub same_length : length w ≡ length w₀
-  pub most : left ≤ definitions
-  pub turn : (T : Table) → TableStands bytes first T → UniqueDefinitions T → Between T 0 w₀ → Between T (definitions - left) w
+  pub turn : (T : Table) → TableStands bytes first T → UniqueDefinitions T → Between T 0 w₀ → Between T rounds w
 
-pub fill_start : (bytes : List ℕ) (first definitions : ℕ) (w : List ℕ) → FillTurn bytes first definitions w w definitions
-fill_start bytes first definitions w =
-    let e : 0 ≡ definitions - definitions = omega arith in
-    record { same_length = refl; most = omega arith; turn = λ T st unique b. subst (λ (j : ℕ). Between T j w) e b }
+pub fill_start : (bytes : List ℕ) (first : ℕ) (w : List ℕ) → FillTurn bytes first w w 0
+fill_start bytes first w = record { same_length = refl; turn = λ T st unique b. b }
 
-pub round_given : (bytes : List ℕ) (first definitions : ℕ) (w₀ w : List ℕ) (left : ℕ) → FillGiven bytes first definitions w₀ → FillTurn bytes first definitions w₀ w left → RoundGiven bytes first w
-round_given bytes first definitions w₀ w left q t = record { small = q.small; space = omega (arith, q.space, t.same_length); table = q.table; table_stands = q.table_stands }
+pub round_given : (bytes : List ℕ) (first definitions : ℕ) (w₀ w : List ℕ) (rounds : ℕ) → FillGiven bytes first definitions w₀ → FillTurn bytes first w₀ w rounds → RoundGiven bytes first w
+round_given bytes first definitions w₀ w rounds q t = record { small = q.small; space = omega (arith, q.space, t.same_length); table = q.table; table_stands = q.table_stands }
 
-pub fill_next : (bytes : List ℕ) (first definitions : ℕ) (w₀ w v : List ℕ) (left changes : ℕ) → 0 < left → FillTurn bytes first definitions w₀ w left → Rounded bytes first w v changes
-    → FillTurn bytes first definitions w₀ v (left - 1)
-fill_next bytes first definitions w₀ w v left changes h t r =
-    let e : suc (definitions - left) ≡ definitions - (left - 1) = omega (arith, h, t.most) in
+pub fill_next : (bytes : List ℕ) (first : ℕ) (w₀ w v : List ℕ) (rounds : ℕ) (changed : Bool) → FillTurn bytes first w₀ w rounds → Rounded bytes first w v changed → FillTurn bytes first w₀ v (rounds + 1)
+fill_next bytes first w₀ w v rounds changed t r =
+    let e : suc rounds ≡ rounds + 1 = omega arith in
     record {
       same_length = r.same_length ∙ t.same_length;
-      most = omega (arith, t.most);
-      turn = λ T st unique b. subst (λ (j : ℕ). Between T j v) e (r.further T st unique (definitions - left) (t.turn T st unique b));
+      turn = λ T st unique b. subst (λ (j : ℕ). Between T j v) e (r.further T st unique rounds (t.turn T st unique b));
     }
 
-pub fill_settled : (bytes : List ℕ) (first definitions : ℕ) (w₀ w v : List ℕ) (left changes : ℕ) → changes ≡ 0 → FillTurn bytes first definitions w₀ w left → Rounded bytes first w v changes
+pub fill_settled : (bytes : List ℕ) (first definitions : ℕ) (w₀ w v : List ℕ) (rounds : ℕ) (changed : Bool) → changed ≡ false → FillTurn bytes first w₀ w rounds → Rounded bytes first w v changed
     → Settled bytes first definitions w₀ v
-fill_settled bytes first definitions w₀ w v left changes z t r = record {
+fill_settled bytes first definitions w₀ w v rounds changed z t r = record {
   same_length = r.same_length ∙ t.same_length;
-  settled = λ T st unique c b. r.settled T st unique (definitions - left) (t.turn T st unique b) z;
+  settled = λ T st unique c b. r.settled T st unique rounds (t.turn T st unique b) z;
 }
 
-pub fill_out : (bytes : List ℕ) (first definitions : ℕ) (w₀ w : List ℕ) (left : ℕ) → left ≤ 0 → FillTurn bytes first definitions w₀ w left → Settled bytes first definitions w₀ w
-fill_out bytes first definitions w₀ w left h t = record {
+pub fill_out : (bytes : List ℕ) (first definitions : ℕ) (w₀ w : List ℕ) (rounds : ℕ) → rounds ≡ definitions → FillTurn bytes first w₀ w rounds → Settled bytes first definitions w₀ w
+fill_out bytes first definitions w₀ w rounds h t = record {
   same_length = t.same_length;
-  settled = λ T st unique c b. all_there T (definitions - left) w (omega (arith, h, c)) (t.turn T st unique b);
+  settled = λ T st unique c b. all_there T rounds w (omega (arith, h, c)) (t.turn T st unique b);
 }
-
-pub given_cleared : (bytes : List ℕ) (first definitions : ℕ) (w v : List ℕ) → Cleared w v → FillGiven bytes first definitions w → FillGiven bytes first definitions v
-given_cleared bytes first definitions w v c q = record { small = q.small; space = omega (arith, q.space, c.same_length); table = q.table; table_stands = q.table_stands; count_is = q.count_is }
 
 pub fill_all : (bytes : List ℕ) (first definitions : ℕ) (w₀ w v : List ℕ) → Cleared w₀ w → Settled bytes first definitions w v → Filled bytes first definitions w₀ v
 fill_all bytes first definitions w₀ w v c s = record {
@@ -240,31 +229,6 @@ fill_all bytes first definitions w₀ w v c s = record {
 }
 
 -- cleared work space knows no arity
-zeros : (n i : ℕ) → ◌≡◌ {A = ℕ} (get_or (replicate n 0) i 0) 0
-zeros zero i = refl
-zeros (suc n) zero = refl
-zeros (suc n) (suc i) = zeros n i
-
--- of a part of any length at any place, so that no number is computed with
-module _ (at n : ℕ) (w ys : List ℕ) (e : ys ≡ replicate (length (mid_of at n w)) 0) (h : at + n ≤ length w) where
-  part_length : length ys ≡ length (mid_of at n w)
-  part_length = ap length e ∙ length-replicate (length (mid_of at n w)) 0
-
-  part_whole : length ys ≡ n
-  part_whole = part_length ∙ length-take-le n (drop at w) (simp length-drop (omega (arith, h)))
-
-  same_part : length (put_mid at n w ys) ≡ length w
-  same_part = same_len_mid at n w ys part_length
-
-  zero_part : (i : ℕ) → i < n → get_or (put_mid at n w ys) (at + i) 0 ≡ 0
-  zero_part i l =
-      let t : length (take at w) ≡ at = length-take-le at w (omega (arith, h)) in
-      ap (λ (j : ℕ). get_or (take at w ++ (ys ++ post_of at n w)) (j + i) 0) (sym t)
-      ∙ get_or-append-add (take at w) (ys ++ post_of at n w) i 0
-      ∙ get_or-append ys (post_of at n w) 0 i (omega (arith, l, part_whole))
-      ∙ ap (λ (x : List ℕ). get_or x i 0) e
-      ∙ zeros (length (mid_of at n w)) i
-
 zero_word : (a b : ℕ) → a ≡ 0 → b ≡ 0 → decoded (a * 256 + b) ≡ none
 zero_word a b x y = let z : a * 256 + b ≡ 0 = omega (arith, x, y) in ap decoded z
 
@@ -279,18 +243,12 @@ zero_known v z d = go (dec_lt d.0 65536)
         ap (λ (x : Bool). cond x (decoded (get_or v (frames_end + d.0 * 2) 0 * 256 + get_or v (frames_end + d.0 * 2 + 1) 0)) none) (lt-ltb d.0 65536 b)
         ∙ zero_word (get_or v (frames_end + d.0 * 2) 0) (get_or v (frames_end + d.0 * 2 + 1) 0) (z (d.0 * 2) (omega (arith, b))) (ap (λ (j : ℕ). get_or v j 0) (sym p) ∙ z (d.0 * 2 + 1) (omega (arith, b)))
 
-cleared_part : (at n : ℕ) (w ys : List ℕ) → at ≡ frames_end → n ≡ 131072 → ys ≡ replicate (length (mid_of at n w)) 0 → at + n ≤ length w → Cleared w (put_mid at n w ys)
-cleared_part at n w ys p q e h = record {
-  same_length = same_part at n w ys e h;
-  none_known = zero_known (put_mid at n w ys) (λ i l. ap (λ (j : ℕ). get_or (put_mid at n w ys) (j + i) 0) (sym p) ∙ zero_part at n w ys e h i (omega (arith, l, q)));
-}
-
-pub cleared : (w ys : List ℕ) → ys ≡ replicate (length (mid_of frames_end 131072 w)) 0 → space_end ≤ length w → Cleared w (put_mid frames_end 131072 w ys)
-cleared w ys e h = cleared_part frames_end 131072 w ys refl refl e h
+pub cleared : (w v : List ℕ) → length v ≡ length w → Blank w v frames_end 131072 → Cleared w v
+cleared w v l b = record { same_length = l; none_known = zero_known v (λ i h. b.zeros (frames_end + i) (omega arith) (omega (arith, h))) }
 
 -- an update
-pub not_updated : (w : List ℕ) (tactic arity : ℕ) → word w (frames_end + tactic * 2) ≡ arity → Updated w tactic arity w 0
-not_updated w tactic arity e = record { same_length = refl; least = omega arith; unchanged = λ z. (refl, e); stored = λ n. absurd (n refl) }
+pub not_updated : (w : List ℕ) (tactic arity : ℕ) → word w (frames_end + tactic * 2) ≡ arity → Updated w tactic arity w false
+not_updated w tactic arity e = record { same_length = refl; unchanged = λ z. (refl, e); stored = λ n. cc }
 
-pub updated : (w : List ℕ) (tactic arity : ℕ) (v : List ℕ) → v ≡ put_word w (frames_end + tactic * 2) arity → Updated w tactic arity v 1
-updated w tactic arity v e = record { same_length = ap length e ∙ length-put_word w (frames_end + tactic * 2) arity; least = omega arith; unchanged = λ z. absurd (omega (arith, z)); stored = λ n. e }
+pub updated : (w : List ℕ) (tactic arity : ℕ) (v : List ℕ) → v ≡ put_word w (frames_end + tactic * 2) arity → Updated w tactic arity v true
+updated w tactic arity v e = record { same_length = ap length e ∙ length-put_word w (frames_end + tactic * 2) arity; unchanged = λ z. cc; stored = λ n. e }

@@ -3,7 +3,7 @@
 -- Assumes nothing.
 use Prim.Native.Nat.{ℕ, zero, suc, ◌+◌, ◌*◌, ◌≤◌, ◌<◌}
 use mathlib.Core.Path.{◌≡◌, refl, sym, ap, subst, ◌∙◌}
-use mathlib.Core.Bool.{Bool, cond}
+use mathlib.Core.Bool.{Bool, true, false, cond}
 use mathlib.Core.List.{List, Memᴰ}
 use mathlib.Core.Logic.{◌⊎◌, inl, inr}
 use mathlib.Core.Option.{Option, none, some, none-ne-some}
@@ -129,19 +129,19 @@ module _ (T : Table) where
       stored_here = reached_here
 
 -- what an update stored
-module _ (w v : List ℕ) (d : TacticNo) (arity changed : ℕ) (o : Option ℕ) (bound : d.0 < 65536) (space : space_end ≤ length w) (u : Updated w d.0 arity v changed) (e : arity ≡ arity_code o) where
+module _ (w v : List ℕ) (d : TacticNo) (arity : ℕ) (changed : Bool) (o : Option ℕ) (bound : d.0 < 65536) (space : space_end ≤ length w) (u : Updated w d.0 arity v changed) (e : arity ≡ arity_code o) where
   word_there : word v (frames_end + d.0 * 2) ≡ arity
-  word_there = go (ℕ_discrete changed 0)
+  word_there = go changed refl
     where
-      go : Dec (changed ≡ 0) → word v (frames_end + d.0 * 2) ≡ arity
-      go (yes z) = let r = u.unchanged z in ap (λ (x : List ℕ). word x (frames_end + d.0 * 2)) r.0 ∙ r.1
-      go (no z) = ap (λ (x : List ℕ). word x (frames_end + d.0 * 2)) (u.stored z) ∙ word_same w (frames_end + d.0 * 2) arity (omega (arith, space, bound))
+      go : (b : Bool) → changed ≡ b → word v (frames_end + d.0 * 2) ≡ arity
+      go false z = let r = u.unchanged z in ap (λ (x : List ℕ). word x (frames_end + d.0 * 2)) r.0 ∙ r.1
+      go true z = ap (λ (x : List ℕ). word x (frames_end + d.0 * 2)) (u.stored z) ∙ word_same w (frames_end + d.0 * 2) arity (omega (arith, space, bound))
 
   pub update_here : known_in v d ≡ o
   update_here = known_at v d bound ∙ ap decoded word_there ∙ decoded_code arity o e
 
   pub update_other : (c : TacticNo) → (c.0 ≡ d.0 → ⊥) → known_in v c ≡ known_in w c
-  update_other c ne = go (ℕ_discrete changed 0)
+  update_other c ne = go changed refl
     where
       apart : (frames_end + c.0 * 2 + 1 < frames_end + d.0 * 2) ⊎ (frames_end + d.0 * 2 + 1 < frames_end + c.0 * 2)
       apart = sides (dec_lt c.0 d.0)
@@ -150,10 +150,10 @@ module _ (w v : List ℕ) (d : TacticNo) (arity changed : ℕ) (o : Option ℕ) 
           sides (yes l) = inl (omega arith)
           sides (no l) = inr (omega (arith, ne))
 
-      go : Dec (changed ≡ 0) → known_in v c ≡ known_in w c
-      go (yes z) = ap (λ (x : List ℕ). known_in x c) (u.unchanged z).0
-      go (no z) = ap (λ (x : List ℕ). known_in x c) (u.stored z) ∙ known_word w _ c (word_other w (frames_end + d.0 * 2) arity (frames_end + c.0 * 2) apart)
+      go : (b : Bool) → changed ≡ b → known_in v c ≡ known_in w c
+      go false z = ap (λ (x : List ℕ). known_in x c) (u.unchanged z).0
+      go true z = ap (λ (x : List ℕ). known_in x c) (u.stored z) ∙ known_word w _ c (word_other w (frames_end + d.0 * 2) arity (frames_end + c.0 * 2) apart)
 
   -- where nothing changed
-  pub update_none : changed ≡ 0 → v ≡ w
+  pub update_none : changed ≡ false → v ≡ w
   update_none z = (u.unchanged z).0

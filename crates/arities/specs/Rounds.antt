@@ -1,5 +1,5 @@
 -- The arities of the defined tactics, found by rounds: what lies in work space between the rounds.
-use Rattle.std.specs.Prelude.{ℕ, zero, suc, ◌+◌, ◌*◌, ◌≤◌, ◌<◌, ◌≡◌, cond, List, ltb, length}
+use Rattle.std.specs.Prelude.{ℕ, zero, suc, ◌+◌, ◌*◌, ◌≤◌, ◌<◌, ◌≡◌, Bool, true, false, cond, List, ltb, length}
 use Rattle.std.proofs.Math.Option.{Option, none, some}
 use Rattle.words.specs.Word.{word, put_word}
 use Rattle.format.specs.declared.values.TacticNo.{TacticNo}
@@ -24,11 +24,10 @@ pub record Between (T : Table) (rounds : ℕ) (w : List ℕ) : Type 0 where
   pub complete : (d : TacticNo) (n : ℕ) → arity_after rounds T.definitions d ≡ some n → known_in w d ≡ some n
 
 -- one arity stored, if it was another
-pub record Updated (w : List ℕ) (tactic arity : ℕ) (v : List ℕ) (changed : ℕ) : Type 0 where
+pub record Updated (w : List ℕ) (tactic arity : ℕ) (v : List ℕ) (changed : Bool) : Type 0 where
   pub same_length : length v ≡ length w
-  pub least : changed ≤ 1
-  pub unchanged : changed ≡ 0 → (v ≡ w) × (word w (frames_end + tactic * 2) ≡ arity)
-  pub stored : (changed ≡ 0 → ⊥) → v ≡ put_word w (frames_end + tactic * 2) arity
+  pub unchanged : changed ≡ false → (v ≡ w) × (word w (frames_end + tactic * 2) ≡ arity)
+  pub stored : changed ≡ true → v ≡ put_word w (frames_end + tactic * 2) arity
 
 -- what a round is given and what it does: one round more; if nothing changed, the arities are all there
 pub record RoundGiven (bytes : List ℕ) (first : ℕ) (w : List ℕ) : Type 0 where
@@ -37,10 +36,10 @@ pub record RoundGiven (bytes : List ℕ) (first : ℕ) (w : List ℕ) : Type 0 w
   pub table : Table
   pub table_stands : TableStands bytes first table
 
-pub record Rounded (bytes : List ℕ) (first : ℕ) (w v : List ℕ) (changes : ℕ) : Type 0 where
+pub record Rounded (bytes : List ℕ) (first : ℕ) (w v : List ℕ) (changed : Bool) : Type 0 where
   pub same_length : length v ≡ length w
   pub further : (T : Table) → TableStands bytes first T → UniqueDefinitions T → (k : ℕ) → Between T k w → Between T (suc k) v
-  pub settled : (T : Table) → TableStands bytes first T → UniqueDefinitions T → (k : ℕ) → Between T k w → changes ≡ 0 → ArityTable v (arities T)
+  pub settled : (T : Table) → TableStands bytes first T → UniqueDefinitions T → (k : ℕ) → Between T k w → changed ≡ false → ArityTable v (arities T)
 
 -- what the whole is given and what it does
 pub record FillGiven (bytes : List ℕ) (first definitions : ℕ) (w : List ℕ) : Type 0 where

@@ -3,5 +3,6 @@
 #![tactic(auto)]
 
 pub mod arity;
+pub mod codes;
 pub mod layout;
 pub mod rounds;

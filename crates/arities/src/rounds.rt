@@ -5,38 +5,38 @@ ghost use Rattle.arities.specs.Rounds.{Updated, RoundGiven, Rounded, FillGiven, 
 
 use crate::arity::arity_of;
 use crate::layout::{FRAMES_END, SPACE_END};
-use format::values::{TacticNo, tactic_no_at};
-use words::{clear, load16, store16};
+use format::values::{TacticNo, value_at};
+use words::{clear_part, load16, store16};
 
-// Stores the arity of a tactic; 1 if it was another before, else 0.
-fn update(tactic: TacticNo, arity: u16, work: &mut [u8]) -> usize
+// Stores the arity of a tactic; whether it was another before.
+fn update(tactic: TacticNo, arity: u16, work: &mut [u8]) -> bool
     requires { space_end ≤ length work.old }
     ensures { Updated work.old tactic.0 arity work.new result }
 {
-    let place = FRAMES_END + (tactic.0 as usize) * 2;
+    let place = FRAMES_END + tactic.0 as usize * 2;
     if load16(work, place) == arity {
-        return 0;
+        return false;
     }
     store16(work, place, arity);
-    1
+    true
 }
 
-// One round: the arity of every definition is found anew, from the arities so far; how many changed.
-fn round(table: &[u8], first: usize, work: &mut [u8]) -> usize
+// One round: the arity of every definition is found anew, from the arities so far; whether one changed.
+fn round(table: &[u8], first: usize, work: &mut [u8]) -> bool
     requires { RoundGiven table.now first work.old }
     ensures { Rounded table.now first work.old work.new result }
 {
     let mut at = first;
-    let mut changes: usize = 0;
+    let mut changed = false;
     while at < table.len() {
         let len = load16(table, at + 1) as usize;
-        let tactic = tactic_no_at(table, at + 3);
         let arity = arity_of(table, at + 5, work);
-        let changed = update(tactic, arity, work);
-        changes += changed;
+        if update(value_at(table, at + 3), arity, work) {
+            changed = true;
+        }
         at += 3 + len;
     }
-    changes
+    changed
 }
 
 // No arity is known.
@@ -44,21 +44,19 @@ fn clear_arities(work: &mut [u8])
     requires { space_end ≤ length work.old }
     ensures { Cleared work.old work.new }
 {
-    clear(&mut work[FRAMES_END..SPACE_END]);
+    clear_part(work, FRAMES_END, SPACE_END - FRAMES_END);
 }
 
 // Rounds until one changes nothing, at most as many as there are definitions.
+#[tactic(auto, using(crate::proofs::FillLaws::fill_start, crate::proofs::FillLaws::round_given, crate::proofs::FillLaws::fill_next, crate::proofs::FillLaws::fill_settled))]
 fn settle_arities(table: &[u8], first: usize, definitions: usize, work: &mut [u8])
     requires { FillGiven table.now first definitions work.old }
     ensures { Settled table.now first definitions work.old work.new }
 {
-    let mut left = definitions;
-    while 0 < left {
-        let changes = round(table, first, work);
-        if changes == 0 {
+    for _ in 0..definitions {
+        if !round(table, first, work) {
             return;
         }
-        left -= 1;
     }
 }
 

@@ -20,19 +20,17 @@ use Rattle.files.proofs.Sizes.{size_most}
 use Rattle.evaluation.specs.Outcomes.{Ending, proved, ended, within, joined_fits, beside_left}
 use Rattle.evaluation.specs.Machine as M
 use Rattle.evaluation.specs.Machine.{tensor_right, held}
-use Rattle.arities.specs.Layout.{output_end, goals_end}
 use Rattle.tactics.specs.Memory.{Only}
 use Rattle.tactics.specs.Goals.{Joined}
 use Rattle.tactics.proofs.MemoryLaws.{only_word, same_term, same_goals}
 use Rattle.frames.specs.declared.Frame.{Frame}
-use Rattle.frames.specs.Frames.{frame_at}
 use Rattle.machine.specs.declared.state.Mode.{Mode}
 use Rattle.machine.specs.declared.state.Mode.TheVariants as is
 use Rattle.machine.specs.declared.state.State.{State}
 use Rattle.machine.specs.Shows.{GoalsIs, FrameIs, Began, FramesAt, Sizes, overflows, exceeds, Proved, Lost, Ends, Holds}
 use Rattle.machine.specs.Popping.{pop, Fits, Smaller, Loaded, Joins, Popped, joined, ended_by}
 use Rattle.machine.proofs.KeepLaws.{kept_output, kept-behind, frames_kept}
-use Rattle.machine.proofs.WaitingLaws.{by_kind, if_proved, under, waiting-fits, innermost}
+use Rattle.machine.proofs.WaitingLaws.{by_kind, if_proved, under, innermost}
 use Rattle.machine.proofs.HeldLaws.{within-fits, within_over}
 use Rattle.machine.proofs.PopLaws.{lost_under, leave_smaller}
 

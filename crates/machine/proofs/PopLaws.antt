@@ -25,10 +25,10 @@ use Rattle.machine.specs.declared.state.Mode.{Mode}
 use Rattle.machine.specs.declared.state.Mode.TheVariants as is
 use Rattle.machine.specs.declared.state.State.{State}
 use Rattle.machine.specs.Shows.{GoalsIs, FrameIs, FramesAt, Sizes, exceeds, Proved, Lost, Ends, Config, done, Holds}
-use Rattle.machine.specs.Popping.{pop, settle, Fits, Smaller, Waiting, Loaded, Closes, Popped, Closing, leave, alternative, closed, ended_by}
+use Rattle.machine.specs.Popping.{pop, settle, Fits, Smaller, Loaded, Closes, Popped, Closing, leave, alternative, closed, ended_by}
 use Rattle.machine.proofs.KeepLaws.{kept_output, goals_kept_lem, frames_kept, frames_weaken, frame_mark}
 use Rattle.machine.proofs.HeldLaws.{within-fits, within_over}
-use Rattle.machine.proofs.WaitingLaws.{by_kind, kind_of, if_proved, if_failed, if_ended, Under, under, waiting-fits, innermost}
+use Rattle.machine.proofs.WaitingLaws.{by_kind, kind_of, if_proved, if_failed, if_ended, Under, under, innermost}
 
 -- what the machine does with the frames that are left comes to the same
 pub settle-pop : (e : Ending) (x : M.Frame) (k : List M.Frame) → settle (pop e x k) ≡ unwind e (x ∷ k)

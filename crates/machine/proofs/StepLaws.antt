@@ -1,6 +1,6 @@
 -- A step: the term that stands there is begun as its form asks, by its tag, and then the frames are unwound.
 -- Assumes nothing.
-use Prim.Native.Nat.{ℕ, ◌+◌, ◌≤◌, ◌<◌}
+use Prim.Native.Nat.{ℕ, ◌+◌, ◌≤◌}
 use mathlib.Core.Path.{◌≡◌, refl, sym, subst, ◌∙◌}
 use mathlib.Core.List.{List}
 use mathlib.Core.Option.{Option, none, some}
@@ -28,7 +28,7 @@ use Rattle.tactics.specs.Source.{source}
 use Rattle.tactics.proofs.SourceLaws.{in_file_lem, by_pair, value_room}
 use Rattle.machine.specs.declared.state.Mode.TheVariants as is
 use Rattle.machine.specs.declared.state.State.{State}
-use Rattle.machine.specs.Shows.{GoalsIs, Runs, Config, Holds, Shows}
+use Rattle.machine.specs.Shows.{Runs, Config, Holds, Shows}
 use Rattle.machine.specs.Popping.{settle, Fewer, Unwinding, Unwound}
 use Rattle.machine.specs.Begun.{enter, begun, Room, Ready, Begins, BeginsIn, id_next, empty_next, assert_next, sequence_next, alternation_next, label_next, tensor_next, rule_next, defined_next}
 use Rattle.machine.specs.Step.{Grown, Given, BeginsAny, PairStands, BeginsPair, Stepped}

@@ -1,6 +1,6 @@
 -- A left term proved its goals and the right one is next: the frame stays and is stored anew with the goals given, all else lies below it or above it.
 -- Assumes nothing.
-use Prim.Native.Nat.{ℕ, ◌+◌, ◌≤◌, ◌<◌}
+use Prim.Native.Nat.{ℕ, ◌+◌, ◌≤◌}
 use mathlib.Core.Path.{◌≡◌, refl, sym, subst, ◌∙◌}
 use mathlib.Core.List.{List, ◌∷◌}
 use native.Mathlib.Omega.{arith}
@@ -11,7 +11,6 @@ use Rattle.format.specs.Standing.{Stands}
 use Rattle.evaluation.specs.Outcomes.{proved}
 use Rattle.evaluation.specs.Machine as M
 use Rattle.evaluation.specs.Machine.{sequence_right, tensor_right, held}
-use Rattle.arities.specs.Layout.{goals_end}
 use Rattle.tactics.specs.Memory.{Only}
 use Rattle.tactics.proofs.MemoryLaws.{same_term}
 use Rattle.frames.specs.declared.Frame.{Frame}
@@ -22,7 +21,7 @@ use Rattle.machine.specs.declared.state.State.{State}
 use Rattle.machine.specs.Shows.{GoalsIs, FrameIs, Began, FramesAt, Sizes, Proved, Ends, Holds}
 use Rattle.machine.specs.Popping.{pop, Fits, Smaller, Loaded, Popped, turn, turned, beside}
 use Rattle.machine.proofs.KeepLaws.{kept-behind, goals_kept_lem, frames_kept}
-use Rattle.machine.proofs.WaitingLaws.{by_kind, if_proved, waiting-fits, waiting_top, waiting_mark, waiting-began, innermost}
+use Rattle.machine.proofs.WaitingLaws.{by_kind, if_proved, innermost}
 
 module _ (w : List ℕ) (s : State) (f : Frame) (load : Loaded w s f) where
   fits : Fits w s

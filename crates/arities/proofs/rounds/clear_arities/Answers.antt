@@ -4,7 +4,4 @@ use Rattle.arities.proofs.FillLaws.{cleared}
 use Rattle.arities.proofs.rounds.clear_arities.Goals as goal
 
 pub returns : goal.returns
-returns c =
-    let a = c.args in
-    let p = c.requires in
-    cleared a.work.now c.clear.new.s c.clear.ensures p
+returns c = cleared c.args.work.now c.clear_part.new.s c.clear_part.auto.s c.clear_part.ensures

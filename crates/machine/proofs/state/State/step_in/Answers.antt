@@ -1,6 +1,6 @@
 -- `step_in` meets its contract: the next term is there, or the frames are unwound.
 -- Assumes nothing.
-use Rattle.machine.proofs.StepLaws.{steps_next, unwinding, steps_end, grown_end}
+use Rattle.machine.proofs.StepLaws.{steps_next, unwinding, steps_end}
 use Rattle.machine.proofs.state.State.step_in.Goals as goal
 
 pub returns-in-Running-clause-steps : goal.returns-in-Running-clause-steps
