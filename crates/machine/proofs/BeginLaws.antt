@@ -13,7 +13,7 @@ use Rattle.format.specs.declared.values.Goal.{Goal}
 use Rattle.format.specs.declared.values.Label.{Label}
 use Rattle.format.specs.Goals.{goals_at}
 use Rattle.format.specs.Limits.{most_steps, most_held}
-use Rattle.format.specs.Refusals.{FieldsTooMany}
+use Rattle.format.specs.declared.refusals.Cause.TheVariants.{FieldsTooMany}
 use Rattle.format.specs.Terms.{Term, id, label, sequence, empty, alternation, assert, size, fields}
 use Rattle.format.specs.Standing.{Head, Stands}
 use Rattle.tables.specs.Tables.{Table}

@@ -7,7 +7,7 @@ use mathlib.Core.List.{List}
 use borrow.Author.Tests.{le-leb, lt-leb}
 use Rattle.format.specs.declared.values.Goal.{Goal}
 use Rattle.format.specs.Limits.{most_held}
-use Rattle.format.specs.Refusals.{FieldsTooMany}
+use Rattle.format.specs.declared.refusals.Cause.TheVariants.{FieldsTooMany}
 use Rattle.format.specs.Terms.{Term, fields}
 use Rattle.evaluation.specs.Outcomes.{proved, ended, within}
 

@@ -12,7 +12,7 @@ use Rattle.words.specs.Word.{put_word}
 use Rattle.words.proofs.WordLaws.{word_same}
 use Rattle.format.specs.declared.values.Goal.{Goal}
 use Rattle.format.specs.Limits.{most_held}
-use Rattle.format.specs.Refusals.{JoinedTooLong}
+use Rattle.format.specs.declared.refusals.Cause.TheVariants.{JoinedTooLong}
 use Rattle.format.specs.Terms.{Term, tensor, size, fields}
 use Rattle.format.specs.Standing.{Head, Stands}
 use Rattle.format.proofs.GoalsLaws.{length-goals_at}

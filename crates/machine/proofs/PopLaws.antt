@@ -9,7 +9,7 @@ use lib.ListN.{length, get_or}
 use Rattle.words.specs.Word.{put_word}
 use Rattle.words.proofs.WordLaws.{word_same}
 use Rattle.format.specs.declared.values.Goal.{Goal}
-use Rattle.format.specs.Refusals.{Cause}
+use Rattle.format.specs.declared.refusals.Cause.{Cause}
 use Rattle.format.specs.Limits.{most_held}
 use Rattle.format.specs.Terms.{Term, label, sequence, size, fields}
 use Rattle.format.specs.Standing.{Head, Stands}

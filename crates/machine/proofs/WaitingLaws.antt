@@ -11,7 +11,7 @@ use lib.ListN.{length}
 use Rattle.format.specs.declared.values.Goal.{Goal}
 use Rattle.format.specs.declared.values.Label.{Label}
 use Rattle.format.specs.Limits.{most_steps, most_held}
-use Rattle.format.specs.Refusals.{Cause}
+use Rattle.format.specs.declared.refusals.Cause.{Cause}
 use Rattle.format.specs.Terms.{Term}
 use Rattle.evaluation.specs.Outcomes.{Ending, proved, failed, ended}
 use Rattle.evaluation.specs.Machine as M

@@ -3,7 +3,8 @@ use Rattle.std.specs.Prelude.{ℕ, ◌+◌, ◌*◌, ◌≤◌, ◌≡◌, List,
 use Rattle.words.specs.Word.{word}
 use Rattle.format.specs.declared.values.Goal.{Goal}
 use Rattle.format.specs.Limits.{most_held}
-use Rattle.format.specs.Refusals.{Cause, JoinedTooLong, FieldsTooMany}
+use Rattle.format.specs.declared.refusals.Cause.{Cause}
+use Rattle.format.specs.declared.refusals.Cause.TheVariants.{JoinedTooLong, FieldsTooMany}
 use Rattle.format.specs.Goals.{goals_at}
 use Rattle.format.specs.Terms.{Term, size, fields}
 use Rattle.format.specs.Standing.{Stands}
