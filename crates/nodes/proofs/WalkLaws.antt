@@ -1,36 +1,31 @@
 -- The nodes of a walk act as the walk wants of its leaves: the shared walk's laws say where it stands, and the cells and the index are kept.
 -- Assumes nothing.
 use Rattle.std.specs.Prelude.{Ok, Err}
-use mathlib.Core.Path.{◌≡◌, refl, sym, subst, ◌∙◌}
+use mathlib.Core.Path.{◌≡◌, sym, subst, ◌∙◌}
 use mathlib.Core.List.{List}
-use Prim.Native.Nat.{ℕ, ◌+◌, ◌*◌, ◌≤◌}
+use Prim.Native.Nat.{ℕ, ◌+◌, ◌≤◌}
 use native.Mathlib.Omega.{arith}
 use lib.ListN.{length}
 use Rattle.words.specs.Word.{word}
 use Rattle.words.specs.Kept.{Kept}
-use Rattle.format.specs.Limits.{most_bytes}
 use Rattle.format.specs.declared.refusals.Cause.{Cause}
 use Rattle.format.specs.declared.refusals.Cause.TheVariants.{InputTooLong}
 use Rattle.format.specs.Refusals.{number}
 use Rattle.format.specs.Results.{refused}
-use Rattle.format.specs.Terms.{Term, atomic, id, label, sequence, tensor, empty, alternation, assert, defined, size}
+use Rattle.format.specs.Terms.{Term}
 use Rattle.format.specs.Standing.{Stands}
-use Rattle.format.proofs.ResultLaws.{never_gives}
 use Rattle.format.proofs.StandsLaws.{known}
 use Rattle.tables.specs.Tables.{Table}
 use Rattle.hitac.specs.Hiproofs.{atomics}
 use Rattle.hitac.proofs.Nodes.{Cell}
 use Rattle.input_arities.specs.Layout.{frames_end}
 use Rattle.walks.specs.declared.state.Next.{Next}
-use Rattle.walks.specs.declared.state.Turn.{Turn}
-use Rattle.walks.specs.declared.state.Turn.TheVariants as U
 use Rattle.walks.specs.Layout.{index_end}
 use Rattle.walks.specs.SameIndex.{SameIndex}
 use Rattle.walks.specs.Leaves.{Still, LeafTurned}
-use Rattle.walks.specs.Walks.{Out}
-use Rattle.walks.specs.Loops.{Aim, Roomy, Begins, Gave, placed, Leaf, Acted, Turned, Steps}
+use Rattle.walks.specs.Loops.{Aim, Roomy, Begins, placed, Leaf, Acted, Turned}
 use Rattle.walks.proofs.IndexLaws.{indexed_still}
-use Rattle.walks.proofs.LeafLaws.{leaf_refused, leaf_gave, begins-behind, turned-later}
+use Rattle.walks.proofs.LeafLaws.{leaf_refused, leaf_gave, begins-behind}
 use Rattle.nodes.specs.declared.leaf.Taken.{Taken}
 use Rattle.nodes.specs.Space.{cells_end, cells_of}
 use Rattle.nodes.specs.NodeActs.{node_act}
@@ -60,27 +55,27 @@ module _ (table : List ℕ) (first next : ℕ) (T : Table) (x : Aim Cell) (A : L
   abbrev A₀ : List Cell
   A₀ = cells_of w next
 
-  abbrev pub b : Begins (node_act T) x A₀ s w (placed n at)
-  b = subst (λ (B : List Cell). Begins (node_act T) x B s w (placed n at)) y.1 b₀
+  abbrev pub here : Begins (node_act T) x A₀ s w (placed n at)
+  here = subst (λ (B : List Cell). Begins (node_act T) x B s w (placed n at)) y.1 b₀
 
   leaf_inside : at ≤ length s
-  leaf_inside = omega (arith, (known s at b.0 b.2.stands).inside)
+  leaf_inside = omega (arith, (known s at here.0 here.2.stands).inside)
 
-  pub leaf_room : LeafRoom w n (atomics b.0)
-  leaf_room = record { apart = omega (arith, b.2.room); below = b.2.below; space = y.0.space }
+  pub leaf_room : LeafRoom w n (atomics here.0)
+  leaf_room = record { apart = omega (arith, here.2.room); below = here.2.below; space = y.0.space }
 
-  pub leaf-fits : Fitting T b.0 at w n next
+  pub leaf-fits : Fitting T here.0 at w n next
   unfolding Turned number
-  leaf-fits e = omega (arith, y.0.sound InputTooLong at (leaf_refused (node_act T) x A₀ s w (placed n at) b l InputTooLong at leaf_inside e w at).0)
+  leaf-fits e = omega (arith, y.0.sound InputTooLong at (leaf_refused (node_act T) x A₀ s w (placed n at) here l InputTooLong at leaf_inside e w at).0)
 
-  pub leaf-stops : (v w' : List ℕ) (c : Cause) → Takes T b.0 at w v w' n next (Err c) → x.result ≡ refused c at
+  pub leaf-stops : (v w' : List ℕ) (c : Cause) → Takes T here.0 at w v w' n next (Err c) → x.result ≡ refused c at
   unfolding Takes Turned
-  leaf-stops v w' c t = (leaf_refused (node_act T) x A₀ s w (placed n at) b l c at leaf_inside t.0 w at).0
+  leaf-stops v w' c t = (leaf_refused (node_act T) x A₀ s w (placed n at) here l c at leaf_inside t.0 w at).0
 
   -- it gave, after cells were written
   module _ (v w' : List ℕ) (long : length w' ≡ length w) (in_cells : Kept w v index_end cells_end) (r : Taken) (t : (t : Term) → Stands s at t → Takes T t at w v w' n next (Ok r)) where
     b₁ : Begins (node_act T) x A₀ s v (placed n at)
-    b₁ = begins-behind (node_act T) x A₀ s w (placed n at) b v index_end cells_end in_cells (omega arith)
+    b₁ = begins-behind (node_act T) x A₀ s w (placed n at) here v index_end cells_end in_cells (omega arith)
 
     acted : Acted (node_act T) A₀ (cells_of w' r.next) v w' (placed n at) b₁.0 r.given r.used
     unfolding Takes
@@ -89,7 +84,7 @@ module _ (table : List ℕ) (first next : ℕ) (T : Table) (x : Aim Cell) (A : L
     pub leaf_gives : LeafTurned (nodes_ready table first r.next T x) (node_act T) x s w' n at (Ok (record { given = r.given; uses = r.used }))
     unfolding LeafTurned
     leaf_gives =
-        let k = walkable_still table first T x s w y.0 w' long (λ i p q. acted.kept.above i (omega (arith, b.2.below)) ∙ in_cells.below i (omega arith)) in
+        let k = walkable_still table first T x s w y.0 w' long (λ i p q. acted.kept.above i (omega (arith, here.2.below)) ∙ in_cells.below i (omega arith)) in
         let g = leaf_gave (node_act T) x A₀ s v (placed n at) b₁ l (cells_of w' r.next) w' r.given r.used acted (at + 3 + word s (at + 1)) (omega (arith, (known s at b₁.0 b₁.2.stands).length_is)) in (
           cells_of w' r.next,
           g.0,

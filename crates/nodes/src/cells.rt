@@ -15,10 +15,8 @@ pub fn put_range(s: &mut [u8], at: usize, first: usize, count: usize)
     requires { (at + count * 2 ≤ length s.old) × (first + count ≤ 65535) }
     ensures { s.new ≡ put_range s.old at first count }
 {
-    let mut i: usize = 0;
-    while i < count {
+    for i in 0..count {
         store16(s, at + i * 2, (first + i) as u16);
-        i += 1;
     }
 }
 
@@ -27,17 +25,15 @@ pub fn put_opens(s: &mut [u8], node: usize, file: &[u8], place: usize, count: us
     requires { (cell_place (node + count) ≤ length s.old) × (place + count * 2 ≤ length file.now) }
     ensures { s.new ≡ put_opens s.old node (goals_at file.now place count) }
 {
-    let mut i: usize = 0;
-    while i < count {
-        let goal = load16(file, place + i * 2);
+    for i in 0..count {
         let at = CELLS + (node + i) * 8;
-        store16(s, at, goal);
+        store16(s, at, load16(file, place + i * 2));
         store16(s, at + 6, 0);
-        i += 1;
     }
 }
 
 // The cell of a node becomes that of a use.
+#[tactic(auto, unfolding(crate::specs::Space::put_use))]
 pub fn put_use(s: &mut [u8], node: usize, name: RuleName, first: usize, count: usize)
     requires { (cell_place node + 8 ≤ length s.old) × (first ≤ 65535) × (count < 65535) }
     ensures { s.new ≡ put_use s.old node name.0 first count }

@@ -69,8 +69,9 @@ fn use_rule(
     let node = load16(work, n.top) as usize;
     let name = value_at(proof, at + 3);
     let goal = value_at(work, CELLS + node * 8);
-    let found = find_rule(table, first, work, ARITIES_END, name, goal);
-    let rule = found.ok_or(Cause::RuleMissing)?;
+    let Some(rule) = find_rule(table, first, work, ARITIES_END, name, goal) else {
+        return Err(Cause::RuleMissing);
+    };
     grow(work, node, name, next, table, rule.place, rule.count, n.low);
     Ok(Taken {
         given: rule.count,

@@ -1,13 +1,9 @@
 -- `cells::put_range` meets its contract: what is stored so far and the rest of the row make the whole row.
 -- Assumes nothing.
 use mathlib.Core.Path.{◌≡◌}
-use Prim.Native.Nat.{◌+◌, ◌*◌, ◌-◌, ◌≤◌}
-use lib.ListN.{length}
+use Prim.Native.Nat.{◌+◌, ◌*◌, ◌-◌}
 use Rattle.nodes.specs.Space.{put_range}
 use Rattle.nodes.proofs.cells.put_range.Given as goal
 
 abbrev pub invariant-loop-i : goal.invariant-loop-i
-invariant-loop-i l = (l.i ≤ l.count) × (length l.s ≡ length l.initial.s) × (put_range l.initial.s l.at l.first l.count ≡ put_range l.s (l.at + l.i * 2) (l.first + l.i) (l.count - l.i))
-
-abbrev pub decreases-loop-i : goal.decreases-loop-i
-decreases-loop-i l = l.count - l.i
+invariant-loop-i l = put_range l.initial.s l.at l.first l.count ≡ put_range l.s (l.at + l.i * 2) (l.first + l.i) (l.count - l.i)
