@@ -1,6 +1,6 @@
 -- What the tag of a field says of the terms that begin with it.
 -- Assumes nothing.
-use Prim.Native.Nat.{ℕ, ◌+◌, ◌<◌}
+use Prim.Native.Nat.{ℕ, ◌+◌, ◌≤◌, ◌<◌}
 use mathlib.Core.Path.{◌≡◌, refl, subst}
 use mathlib.Core.List.{List, ◌∷◌}
 use native.Mathlib.Omega.{arith}
@@ -69,32 +69,24 @@ module _ (w : List ℕ) (count at : ℕ) where
     is_label (B-Tensor t i) h = absurd (omega arith)
     is_label (B-Empty t i) h = absurd (omega arith)
 
-    pub is_sequence : {ts : List Term} → Built w count at ts → get_or w at 0 ≡ 19 → IsPair 19 ts
+    pub is_pair : {ts : List Term} → Built w count at ts → 19 ≤ get_or w at 0 → get_or w at 0 ≤ 20 → IsPair (get_or w at 0) ts
     unfolding Stands size
-    is_sequence (B-End e) h = absurd (omega arith)
-    is_sequence (B-Atomic t v i) h = absurd (omega arith)
-    is_sequence (B-Identity t i) h = absurd (omega arith)
-    is_sequence (B-Label t v i) h = absurd (omega arith)
-    is_sequence (B-Sequence {t = l} {u = r} {ts = ts} t i) h = record { left = l; right = r; pair = sequence l r; rest = ts; inner = i; all = refl; size_is = refl; stand = λ v k a b c. (a, b, c) }
-    is_sequence (B-Tensor t i) h = absurd (omega arith)
-    is_sequence (B-Empty t i) h = absurd (omega arith)
+    is_pair (B-End e) a b = absurd (omega arith)
+    is_pair (B-Atomic t v i) a b = absurd (omega arith)
+    is_pair (B-Identity t i) a b = absurd (omega arith)
+    is_pair (B-Label t v i) a b = absurd (omega arith)
+    is_pair (B-Sequence {t = l} {u = r} {ts = ts} t i) a b =
+        record { left = l; right = r; pair = sequence l r; rest = ts; inner = i; all = refl; size_is = refl; stand = λ v k h p q. (subst (λ (n : ℕ). Head v k n (size l + size r)) t h, p, q) }
+    is_pair (B-Tensor {t = l} {u = r} {ts = ts} t i) a b =
+        record { left = l; right = r; pair = tensor l r; rest = ts; inner = i; all = refl; size_is = refl; stand = λ v k h p q. (subst (λ (n : ℕ). Head v k n (size l + size r)) t h, p, q) }
+    is_pair (B-Empty t i) a b = absurd (omega arith)
 
-    pub is_tensor : {ts : List Term} → Built w count at ts → get_or w at 0 ≡ 20 → IsPair 20 ts
+    pub is_plain : {ts : List Term} → Built w count at ts → (get_or w at 0 ≡ 16 → ⊥) → (get_or w at 0 ≡ 18 → ⊥) → (get_or w at 0 ≡ 19 → ⊥) → (get_or w at 0 ≡ 20 → ⊥) → IsPlain (get_or w at 0) ts
     unfolding Stands size
-    is_tensor (B-End e) h = absurd (omega arith)
-    is_tensor (B-Atomic t v i) h = absurd (omega arith)
-    is_tensor (B-Identity t i) h = absurd (omega arith)
-    is_tensor (B-Label t v i) h = absurd (omega arith)
-    is_tensor (B-Sequence t i) h = absurd (omega arith)
-    is_tensor (B-Tensor {t = l} {u = r} {ts = ts} t i) h = record { left = l; right = r; pair = tensor l r; rest = ts; inner = i; all = refl; size_is = refl; stand = λ v k a b c. (a, b, c) }
-    is_tensor (B-Empty t i) h = absurd (omega arith)
-
-    pub is_plain_lem : {ts : List Term} → Built w count at ts → (get_or w at 0 ≡ 16 → ⊥) → (get_or w at 0 ≡ 18 → ⊥) → (get_or w at 0 ≡ 19 → ⊥) → (get_or w at 0 ≡ 20 → ⊥) → IsPlain (get_or w at 0) ts
-    unfolding Stands size
-    is_plain_lem (B-End e) a b c d = absurd (omega arith)
-    is_plain_lem (B-Atomic t v i) a b c d = absurd (a t)
-    is_plain_lem (B-Identity {ts = ts} t i) a b c d = record { term = id; rest = ts; inner = i; all = refl; size_is = refl; stand = λ v k h. subst (λ (n : ℕ). Head v k n 0) t h }
-    is_plain_lem (B-Label t v i) a b c d = absurd (b t)
-    is_plain_lem (B-Sequence t i) a b c d = absurd (c t)
-    is_plain_lem (B-Tensor t i) a b c d = absurd (d t)
-    is_plain_lem (B-Empty {ts = ts} t i) a b c d = record { term = empty; rest = ts; inner = i; all = refl; size_is = refl; stand = λ v k h. subst (λ (n : ℕ). Head v k n 0) t h }
+    is_plain (B-End e) a b c d = absurd (omega arith)
+    is_plain (B-Atomic t v i) a b c d = absurd (a t)
+    is_plain (B-Identity {ts = ts} t i) a b c d = record { term = id; rest = ts; inner = i; all = refl; size_is = refl; stand = λ v k h. subst (λ (n : ℕ). Head v k n 0) t h }
+    is_plain (B-Label t v i) a b c d = absurd (b t)
+    is_plain (B-Sequence t i) a b c d = absurd (c t)
+    is_plain (B-Tensor t i) a b c d = absurd (d t)
+    is_plain (B-Empty {ts = ts} t i) a b c d = record { term = empty; rest = ts; inner = i; all = refl; size_is = refl; stand = λ v k h. subst (λ (n : ℕ). Head v k n 0) t h }

@@ -1,6 +1,6 @@
 -- The loop over an outline: what holds before each field, from its beginning to its end.
 -- Assumes nothing.
-use Prim.Native.Nat.{ℕ, zero, suc, ◌+◌, ◌*◌, ◌-◌, ◌≤◌}
+use Prim.Native.Nat.{ℕ, zero, suc, ◌+◌, ◌*◌, ◌-◌, ◌/◌, ◌≤◌}
 use mathlib.Core.Path.{◌≡◌, refl, sym, subst, ◌∙◌}
 use mathlib.Core.List.{List, [], ◌∷◌}
 use native.Mathlib.Omega.{arith}
@@ -35,14 +35,17 @@ nothing_shown w count end at (B-Tensor t i) h = absurd (omega (arith, built_few 
 nothing_shown w count end at (B-Empty t i) h = absurd (omega (arith, built_few w count i))
 
 module _ (w₀ : List ℕ) (count end : ℕ) (p : Term) (x : Outlined w₀ count end p) where
-  pub turn-start : Turn w₀ w₀ count end count end sizes_end 0
+  whole_fields : count ≡ 3 * fields p
+  whole_fields = sym x.length_is ∙ outline_fields p x.hiproof
+
+  pub turn-start : Turn w₀ w₀ count end (count / 3 * 3) end sizes_end 0
   turn-start = record {
-    left = fields p;
-    left_is = sym x.length_is ∙ outline_fields p x.hiproof;
+    left = count / 3;
+    left_is = omega arith;
     inside = omega arith;
     within = omega arith;
     around = around_nothing w₀ end end;
-    shown = λ ts b. nothing_shown w₀ count end count b refl;
+    shown = λ ts b. nothing_shown w₀ count end (count / 3 * 3) b (omega (arith, whole_fields));
   }
 
   module _ (w : List ℕ) (at front low last : ℕ) (t : Turn w₀ w count end at front low last) where

@@ -1,10 +1,7 @@
--- `write::write_outlined` meets its contract. The invariant: the terms of the fields from the place on are held, and the outline is as it was.
--- Assumes nothing.
+-- `write::write_outlined`: the terms of the fields from the place on are held, and the outline is as it was.
+use Rattle.std.proofs.Common.{◌*◌}
 use Rattle.outline.proofs.WholeLaws.{Turn}
 use Rattle.outline.proofs.write.write_outlined.Given as goal
 
-abbrev pub invariant-loop-at : goal.invariant-loop-at
-invariant-loop-at l = Turn l.initial.work l.work l.count l.end l.at l.held.front l.held.low l.held.last
-
-abbrev pub decreases-loop-at : goal.decreases-loop-at
-decreases-loop-at l = l.at
+abbrev pub invariant-loop-field : goal.invariant-loop-field
+invariant-loop-field l = Turn l.initial.work l.work l.count l.end (l.field * 3) l.held.front l.held.low l.held.last

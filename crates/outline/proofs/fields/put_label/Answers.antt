@@ -1,9 +1,0 @@
--- `fields::put_label` meets its contract: the header and the value.
--- Assumes nothing.
-use mathlib.Core.Path.{refl}
-use native.Mathlib.Omega.{arith}
-use Rattle.outline.proofs.PutLaws.{word-behind}
-use Rattle.outline.proofs.fields.put_label.Goals as goal
-
-pub returns : goal.returns
-returns c = record { work_after = word-behind _ _ _ _ _ c.store16.ensures c.put_header.ensures; front_value = (omega (arith, c.requires.0), refl, omega arith) }
