@@ -7,6 +7,8 @@ use mathlib.Core.Option.{Option, some}
 use native.Mathlib.Omega.{arith}
 use lib.ListN.{length, get_or, drop}
 use lib.Seq.{paste}
+use Rattle.std.specs.Prelude as std
+use Rattle.std.specs.Prelude.{Some, None}
 use Rattle.words.specs.Word.{word}
 use Rattle.format.specs.declared.values.RuleName.{RuleName}
 use Rattle.format.specs.declared.values.Goal.{Goal}
@@ -17,9 +19,6 @@ use Rattle.format.specs.Terms.{Term, atomic, id, label, sequence, empty, alterna
 use Rattle.format.specs.Standing.{Stands}
 use Rattle.format.proofs.GoalsAt.{goals_paste}
 use Rattle.tables.specs.declared.lookup.RuleFound.{RuleFound}
-use Rattle.tables.specs.declared.lookup.RuleFound.TheVariants as R
-use Rattle.tables.specs.declared.lookup.BodyFound.{BodyFound}
-use Rattle.tables.specs.declared.lookup.BodyFound.TheVariants as B
 use Rattle.tables.specs.Tables.{Table}
 use Rattle.tables.specs.Standing.{TableStands}
 use Rattle.tables.specs.Found.{rule_found, FindsRule, BodyStands, FindsBody}
@@ -410,37 +409,37 @@ module _ (w : List ℕ) (s : State) (room : Room w s) (bytes : List ℕ) (first 
       fail_stays w s room r q,
     )
 
-    module _ (γ : Goal) (o : RuleFound) (one : s.count ≡ 1) (e : γ.0 ≡ word w s.start) (f : FindsRule bytes first name γ o) where
+    module _ (γ : Goal) (o : std.Option RuleFound) (one : s.count ≡ 1) (e : γ.0 ≡ word w s.start) (f : FindsRule bytes first name γ o) where
       -- what the look-up found is what the rule gives
-      gives_found : (x : RuleFound) → o ≡ x → (T : Table) (a : RuleName) (g : List Goal) → TableStands bytes first T → name.0 ≡ a.0 → goals_at w s.start s.count ≡ g
+      gives_found : (x : std.Option RuleFound) → o ≡ x → (T : Table) (a : RuleName) (g : List Goal) → TableStands bytes first T → name.0 ≡ a.0 → goals_at w s.start s.count ≡ g
           → rule_gives T a g ≡ found_premises (rule_found bytes x)
-      gives_found x m T a g st i h = rule_gives_lem bytes first name γ o f w s.start s.count one e T a g st i h ∙ ap (λ (z : RuleFound). found_premises (rule_found bytes z)) m
+      gives_found x m T a g st i h = rule_gives_lem bytes first name γ o f w s.start s.count one e T a g st i h ∙ ap (λ (z : std.Option RuleFound). found_premises (rule_found bytes z)) m
 
-      pub rule_missing_lem : (r : State) → o ≡ R.Missing → r ≡ failed s → UsesRule w r
+      pub rule_missing_lem : (r : State) → o ≡ None → r ≡ failed s → UsesRule w r
       unfolding rule_found
       rule_missing_lem r m q = (
-        λ T a st i. fail_does w s room (atomic a) (leaf_next (atomic a) (rule_gives T a)) (λ b g k c h. ap (λ (x : Option (List Goal)). gave_if (atomic a) x k c) (gives_found R.Missing m T a g st i h)) r q,
+        λ T a st i. fail_does w s room (atomic a) (leaf_next (atomic a) (rule_gives T a)) (λ b g k c h. ap (λ (x : Option (List Goal)). gave_if (atomic a) x k c) (gives_found None m T a g st i h)) r q,
         fail_stays w s room r q,
       )
 
-      pub rule_used : (number place n : ℕ) → o ≡ R.Rule number place n → (v : List ℕ) (r : State)
-          → ((a : RuleName) → name.0 ≡ a.0 → Does w s v r (atomic a) (leaf_next (atomic a) (λ g. some (goals_at bytes place n)))) → Stays w s v r → UsesRule v r
+      pub rule_used : (found : RuleFound) → o ≡ Some found → (v : List ℕ) (r : State)
+          → ((a : RuleName) → name.0 ≡ a.0 → Does w s v r (atomic a) (leaf_next (atomic a) (λ g. some (goals_at bytes found.place found.count)))) → Stays w s v r → UsesRule v r
       unfolding rule_found
-      rule_used number place n m v r d st' = (
-        λ T a st i table job b g k c h. subst (λ (x : Option (List Goal)). Holds table job v r (gave_if (atomic a) x k c)) (sym (gives_found (R.Rule number place n) m T a g st i h.goals.are)) (d a i table job b g k c h),
+      rule_used found m v r d st' = (
+        λ T a st i table job b g k c h. subst (λ (x : Option (List Goal)). Holds table job v r (gave_if (atomic a) x k c)) (sym (gives_found (Some found) m T a g st i h.goals.are)) (d a i table job b g k c h),
         st',
       )
 
   -- a defined tactic
-  module _ (down : ℕ) (number : TacticNo) (o : BodyFound) (f : FindsBody bytes first number o) where
+  module _ (down : ℕ) (number : TacticNo) (o : std.Option ℕ) (f : FindsBody bytes first number o) where
     abbrev Unfolds : State → Type 0
     Unfolds r = ((T : Table) (d : TacticNo) (job : List ℕ) → TableStands bytes first T → number.0 ≡ d.0 → DoesIn bytes job w s w r (defined d) (defined_next T down d)) × Stays w s w r
 
-    pub body_missing : (r : State) → o ≡ B.Missing → r ≡ failed s → Unfolds r
+    pub body_missing : (r : State) → o ≡ None → r ≡ failed s → Unfolds r
     unfolding BodyStands
     body_missing r m q = (
       λ T d job st i. fail_in w s room bytes job (defined d) (defined_next T down d)
-          (λ b g k c h. ap (λ (x : Option Term). enter_if x c (λ t. next (down / 2) t g k c)) (body_stands bytes first number o f T d B.Missing st i m)) r q,
+          (λ b g k c h. ap (λ (x : Option Term). enter_if x c (λ t. next (down / 2) t g k c)) (body_stands bytes first number o f T d None st i m)) r q,
       fail_stays w s room r q,
     )
 
@@ -451,11 +450,11 @@ module _ (w : List ℕ) (s : State) (room : Room w s) (bytes : List ℕ) (first 
     same_below : down / 2 * 2 / 2 ≡ down / 2
     same_below = omega arith
 
-    pub body_found : (place : ℕ) (r : State) → o ≡ B.At place → r ≡ entered s (down / 2 * 2) place s.start s.count → Unfolds r
+    pub body_found : (place : ℕ) (r : State) → o ≡ Some place → r ≡ entered s (down / 2 * 2) place s.start s.count → Unfolds r
     unfolding BodyStands Holds
     body_found place r m q = subst (λ (x : State). Unfolds x) (sym q) (
       λ T d job st i b g k c h.
-          let y = body_stands bytes first number o f T d (B.At place) st i m in
+          let y = body_stands bytes first number o f T d (Some place) st i m in
           subst (λ (x : Option Term). Holds bytes job w (entered s (down / 2 * 2) place s.start s.count) (enter_if x c (λ t. next (down / 2) t g k c))) (sym y.1)
           (record {
             mode_is = refl;

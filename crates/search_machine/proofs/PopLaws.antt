@@ -167,7 +167,7 @@ module _ (w : List ℕ) (s : State) (q : Waiting w s) where
   pub pop_sequence_left : f.kind ≡ 1 → (r : State) → r ≡ turned → All w r
   pop_sequence_left z r e = subst (λ (x : State). All w x) (sym e) (
     λ table job p g x k c a h. sequence_left_does table job p g x k c z (here table job w s.arena s.link x k a h.frames) h,
-    (record { same_length = refl; same_steps = refl; index_same = λ i a b. refl }, λ (m : 0 ≡ 1). absurd (omega (arith, m))),
+    (record { same_length = refl; same_steps = refl; index_same = λ i a b. refl }, λ m. absurd (cc m)),
   )
 
   -- a tensor's left term ended: its goals are kept in a node
@@ -215,7 +215,7 @@ module _ (w : List ℕ) (s : State) (q : Waiting w s) where
         subst (λ (x : State). All v x) (sym e₂)
         (subst (λ (x : List ℕ). All x begun) (sym e₁) (
           λ table job p g x k c a h. tensor_left_does table job p g x k c (here table job w s.arena s.link x k a h.frames) h,
-          (record { same_length = kept.same_length; same_steps = refl; index_same = put_index w s.arena beside wait_room.low node_room }, λ (m : 0 ≡ 1). absurd (omega (arith, m))),
+          (record { same_length = kept.same_length; same_steps = refl; index_same = put_index w s.arena beside wait_room.low node_room }, λ m. absurd (cc m)),
         ))
 
   -- a tensor's right term ended
@@ -239,7 +239,7 @@ module _ (w : List ℕ) (s : State) (q : Waiting w s) where
     pub pop_over : (r : State) → 256 < f.count + s.count → r ≡ failed s → All w r
     pop_over r z e = subst (λ (x : State). All w x) (sym e) (
       λ table job p g x k c a h. over_does table job p g x k c z (here table job w s.arena s.link x k a h.frames) h,
-      (record { same_length = refl; same_steps = refl; index_same = λ i a b. refl }, λ (m : 2 ≡ 1). absurd (omega (arith, m))),
+      (record { same_length = refl; same_steps = refl; index_same = λ i a b. refl }, λ m. absurd (cc m)),
     )
 
     -- the two lists are joined

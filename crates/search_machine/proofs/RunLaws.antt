@@ -15,6 +15,7 @@ use Rattle.tactics.specs.Source.{source}
 use Rattle.tactics.proofs.SourceLaws.{source_small}
 use Rattle.search.specs.Machine as M
 use Rattle.search.specs.Machine.{Control, running, finished, nothing, after, step_from, step, run}
+use Rattle.search_machine.specs.declared.state.Mode.TheVariants as is
 use Rattle.search_machine.specs.declared.state.State.{State}
 use Rattle.search_machine.specs.Layout.{arena_low}
 use Rattle.search_machine.specs.Shows.{Runs, Gave, Shows}
@@ -61,39 +62,39 @@ run_nothing T (suc left) n = run_nothing T left n
 
 -- the control that a state's mode says
 module _ (bytes job w : List ℕ) (s : State) (P : Control → Type 0) where
-  pub if_running : s.mode ≡ 0 → ((b : ℕ) (t : Term) (g : List Goal) (k : List M.Frame) (c : List M.Choice) → Runs bytes job w s b t g k c → P (running b t g k c)) → (κ : Control)
+  pub if_running : s.mode ≡ is.Running → ((b : ℕ) (t : Term) (g : List Goal) (k : List M.Frame) (c : List M.Choice) → Runs bytes job w s b t g k c → P (running b t g k c)) → (κ : Control)
       → Shows bytes job w s κ → P κ
   unfolding Shows
   if_running m f (running b t g k c) h = f b t g k c h
-  if_running m f (finished p g c) h = absurd (omega (arith, m, h.mode_is))
-  if_running m f nothing h = absurd (omega (arith, m, h.mode_is))
+  if_running m f (finished p g c) h = absurd (cc (m, h.mode_is))
+  if_running m f nothing h = absurd (cc (m, h.mode_is))
 
-  pub if_finished : s.mode ≡ 1 → ((p : Term) (g : List Goal) (c : List M.Choice) → Gave bytes job w s p g [] c → P (finished p g c)) → (κ : Control) → Shows bytes job w s κ → P κ
+  pub if_finished : s.mode ≡ is.Gave → ((p : Term) (g : List Goal) (c : List M.Choice) → Gave bytes job w s p g [] c → P (finished p g c)) → (κ : Control) → Shows bytes job w s κ → P κ
   unfolding Shows
-  if_finished m f (running b t g k c) h = absurd (omega (arith, m, h.mode_is))
+  if_finished m f (running b t g k c) h = absurd (cc (m, h.mode_is))
   if_finished m f (finished p g c) h = f p g c h
-  if_finished m f nothing h = absurd (omega (arith, m, h.mode_is))
+  if_finished m f nothing h = absurd (cc (m, h.mode_is))
 
-  pub if_nothing : (s.mode ≡ 0 → ⊥) → (s.mode ≡ 1 → ⊥) → P nothing → (κ : Control) → Shows bytes job w s κ → P κ
+  pub if_nothing : (s.mode ≡ is.Running → ⊥) → (s.mode ≡ is.Gave → ⊥) → P nothing → (κ : Control) → Shows bytes job w s κ → P κ
   unfolding Shows
   if_nothing m n f (running b t g k c) h = absurd (m h.mode_is)
   if_nothing m n f (finished p g c) h = absurd (n h.mode_is)
   if_nothing m n f nothing h = f
 
-stays : (bytes job w : List ℕ) (s : State) (T : Table) (left : ℕ) → (s.mode ≡ 0 → ⊥) → (κ : Control) → Shows bytes job w s κ → after s.steps κ ≡ run T left (after s.steps κ)
+stays : (bytes job w : List ℕ) (s : State) (T : Table) (left : ℕ) → (s.mode ≡ is.Running → ⊥) → (κ : Control) → Shows bytes job w s κ → after s.steps κ ≡ run T left (after s.steps κ)
 unfolding Shows
 stays bytes job w s T left n (running b t g k c) h = absurd (n h.mode_is)
 stays bytes job w s T left n (finished p g c) h = sym (run-finished T left s.steps p g c)
 stays bytes job w s T left n nothing h = sym (run_nothing T left s.steps)
 
-pub way_start : (bytes : List ℕ) (first : ℕ) (job w : List ℕ) (s : State) (budget : ℕ) → Way bytes first job w s budget w s budget
+pub way_start : (bytes : List ℕ) (first : ℕ) (job w : List ℕ) (s : State) (budget left : ℕ) → left ≡ budget → Way bytes first job w s budget w s left
 unfolding Shows
-way_start bytes first job w s budget = record {
+way_start bytes first job w s budget left e = subst (λ (n : ℕ). Way bytes first job w s budget w s n) (sym e) (record {
   onward = λ T b t g k c st h. record { control = running b t g k c; shows = h; same = refl };
   same_length = refl;
   few_steps = omega arith;
   index_same = λ i a b. refl;
-}
+})
 
 module _ (bytes : List ℕ) (first : ℕ) (job w₀ : List ℕ) (s₀ : State) (budget : ℕ) (w : List ℕ) (s : State) (left : ℕ) (way : Way bytes first job w₀ s₀ budget w s left) where
   -- the run has come to its end
@@ -107,14 +108,14 @@ module _ (bytes : List ℕ) (first : ℕ) (job w₀ : List ℕ) (s₀ : State) (
   }
 
   -- the search has ended
-  pub ran_end : (s.mode ≡ 0 → ⊥) → Ran bytes first job w₀ s₀ budget w s
+  pub ran_end : (s.mode ≡ is.Running → ⊥) → Ran bytes first job w₀ s₀ budget w s
   ran_end n = ran (λ T κ h. stays bytes job w s T left n κ h)
 
   -- the budget is used up
   pub ran_out : left ≤ 0 → Ran bytes first job w₀ s₀ budget w s
   ran_out z = ran (λ T κ h. sym (run_none T left (after s.steps κ) z))
 
-  module _ (more : 0 < left) (m : s.mode ≡ 0) where
+  module _ (more : 0 < left) (m : s.mode ≡ is.Running) where
     pub given : Started bytes first job w₀ s₀ budget → Given bytes first (source bytes job (s.level % 2)) w s
     given q =
         let o = way.onward q.table q.below q.term q.goals q.frames q.choices q.table_stands q.runs in
@@ -135,8 +136,8 @@ module _ (bytes : List ℕ) (first : ℕ) (job w₀ : List ℕ) (s₀ : State) (
           runs = h;
         }) o.control o.shows
 
-    pub way_next : (v : List ℕ) (r : State) → Stepped bytes first (source bytes job (s.level % 2)) w s v r → Grown w s v r → Way bytes first job w₀ s₀ budget v r (left - 1)
-    way_next v r st gr = record {
+    pub way_next : (v : List ℕ) (r : State) → Stepped bytes first (source bytes job (s.level % 2)) w s v r → Grown w s v r → (less : ℕ) → less ≡ left - 1 → Way bytes first job w₀ s₀ budget v r less
+    way_next v r st gr less fewer = subst (λ (n : ℕ). Way bytes first job w₀ s₀ budget v r n) (sym fewer) (record {
       onward = λ T b t g k c stands h.
           let o = way.onward T b t g k c stands h in
           let end = run T budget (after s₀.steps (running b t g k c)) in
@@ -148,4 +149,4 @@ module _ (bytes : List ℕ) (first : ℕ) (job w₀ : List ℕ) (s₀ : State) (
       same_length = gr.same_length ∙ way.same_length;
       few_steps = omega (arith, way.few_steps, gr.one_step, more);
       index_same = λ i a b. gr.index_same i a b ∙ way.index_same i a b;
-    }
+    })

@@ -5,8 +5,6 @@ use mathlib.Core.Path.{◌≡◌, refl, sym, ap, subst, ◌∙◌}
 use mathlib.Core.Bool.{Bool, true, false, cond}
 use mathlib.Core.List.{List, [], ◌∷◌, ◌++◌, append_assoc}
 use native.Mathlib.Omega.{arith}
-use lib.Dec.{eqb}
-use borrow.Author.Tests.{eq-eqb, eqb-true}
 use Rattle.format.specs.declared.values.Goal.{Goal}
 use Rattle.format.specs.declared.values.Label.{Label}
 use Rattle.format.specs.Terms.{Term, label, sequence, tensor}
@@ -14,6 +12,8 @@ use Rattle.evaluation.specs.Outcomes.{joined_fits}
 use Rattle.outline.specs.Outline.{outline_of}
 use Rattle.search.specs.Machine as M
 use Rattle.search.specs.Machine.{labelled, sequence_left, sequence_right, tensor_left, tensor_right, give}
+use Rattle.search_machine.specs.declared.state.Mode.TheVariants as is
+use Rattle.search_machine.specs.declared.state.Mode.{Mode}
 use Rattle.search_machine.specs.declared.state.State.{State}
 use Rattle.search_machine.specs.Outlines.{field, frame_outline}
 use Rattle.search_machine.specs.Shows.{FramesAt, set_aside, Gave, Config, next, gave, lost, Holds, settle, Shows}
@@ -121,38 +121,38 @@ module _ (table job w : List ℕ) (s : State) where
     pub is : Gave table job w s piece goals (frame ∷ frames) choices
     pub settles : give piece goals (frame ∷ frames) choices ≡ settle x
 
-  gives : s.mode ≡ 1 → (s.link ≡ 0 → ⊥) → (x : Config) → Holds table job w s x → Gives x
+  gives : s.mode ≡ is.Gave → (s.link ≡ 0 → ⊥) → (x : Config) → Holds table job w s x → Gives x
   unfolding Holds settle
-  gives m z (next b t g k c) h = absurd (omega (arith, m, h.mode_is))
+  gives m z (next b t g k c) h = absurd (cc (m, h.mode_is))
   gives m z (gave p g k c) h =
       let y = absorb table job w s g c k p z h in record { piece = y.piece; goals = g; frame = y.frame; frames = y.frames; choices = c; active = y.active; is = y.is; settles = y.gives }
-  gives m z (lost c) h = absurd (omega (arith, m, h.mode_is))
+  gives m z (lost c) h = absurd (cc (m, h.mode_is))
 
-  ended : s.mode ≡ 1 → s.link ≡ 0 → (x : Config) → Holds table job w s x → Shows table job w s (settle x)
+  ended : s.mode ≡ is.Gave → s.link ≡ 0 → (x : Config) → Holds table job w s x → Shows table job w s (settle x)
   unfolding Holds settle
-  ended m z (next b t g k c) h = absurd (omega (arith, m, h.mode_is))
+  ended m z (next b t g k c) h = absurd (cc (m, h.mode_is))
   ended m z (gave p g k c) h = finishes table job w s g c k p z h
-  ended m z (lost c) h = absurd (omega (arith, m, h.mode_is))
+  ended m z (lost c) h = absurd (cc (m, h.mode_is))
 
   -- a term is to begin
-  entering : s.mode ≡ 0 → (x : Config) → Holds table job w s x → Shows table job w s (settle x)
+  entering : s.mode ≡ is.Running → (x : Config) → Holds table job w s x → Shows table job w s (settle x)
   unfolding Holds settle Shows
   entering m (next b t g k c) h = h
-  entering m (gave p g k c) h = absurd (omega (arith, m, h.mode_is))
-  entering m (lost c) h = absurd (omega (arith, m, h.mode_is))
+  entering m (gave p g k c) h = absurd (cc (m, h.mode_is))
+  entering m (lost c) h = absurd (cc (m, h.mode_is))
 
   record Loses (x : Config) : Type 0 where
     pub choices : List M.Choice
     pub is : x ≡ lost choices
 
-  loses : (s.mode ≡ 1 → ⊥) → (s.mode ≡ 0 → ⊥) → (x : Config) → Holds table job w s x → Loses x
+  loses : (s.mode ≡ is.Gave → ⊥) → (s.mode ≡ is.Running → ⊥) → (x : Config) → Holds table job w s x → Loses x
   unfolding Holds
   loses a b (next d t g k c) h = absurd (b h.mode_is)
   loses a b (gave p g k c) h = absurd (a h.mode_is)
   loses a b (lost c) h = record { choices = c; is = refl }
 
 module _ (w₀ : List ℕ) (s₀ : State) (w : List ℕ) (s : State) (way : Towards w₀ s₀ w s) (stays : Stays w₀ s₀ w s) where
-  pub waits : Unwinding w₀ s₀ → s.mode ≡ 1 → (s.link ≡ 0 → ⊥) → Waiting w s
+  pub waits : Unwinding w₀ s₀ → s.mode ≡ is.Gave → (s.link ≡ 0 → ⊥) → Waiting w s
   waits q m z =
       let y = way q.table q.job q.config q.holds in
       let x = gives q.table q.job w s m z y.config y.holds in
@@ -177,7 +177,7 @@ module _ (w₀ : List ℕ) (s₀ : State) (w : List ℕ) (s : State) (way : Towa
     index_same = λ i a b. st.index_same i a b ∙ stays.index_same i a b;
   }
 
-  pub way_next : s.mode ≡ 1 → (s.link ≡ 0 → ⊥) → (v : List ℕ) (r : State) → Popped w s v r → Towards w₀ s₀ v r
+  pub way_next : s.mode ≡ is.Gave → (s.link ≡ 0 → ⊥) → (v : List ℕ) (r : State) → Popped w s v r → Towards w₀ s₀ v r
   way_next m z v r d table job x h =
       let y = way table job x h in
       let u = gives table job w s m z y.config y.holds in
@@ -187,13 +187,13 @@ module _ (w₀ : List ℕ) (s₀ : State) (w : List ℕ) (s : State) (way : Towa
         settles = settle-pop u.piece u.goals u.frame u.frames u.choices ∙ u.settles ∙ y.settles;
       }
 
-  pub at_end : s.mode ≡ 1 → s.link ≡ 0 → Unwound w₀ s₀ w s
+  pub at_end : s.mode ≡ is.Gave → s.link ≡ 0 → Unwound w₀ s₀ w s
   at_end m z table job x h = let y = way table job x h in subst (λ (κ : M.Control). Shows table job w s κ) y.settles (ended table job w s m z y.config y.holds)
 
-  pub at_next : s.mode ≡ 0 → Unwound w₀ s₀ w s
+  pub at_next : s.mode ≡ is.Running → Unwound w₀ s₀ w s
   at_next m table job x h = let y = way table job x h in subst (λ (κ : M.Control). Shows table job w s κ) y.settles (entering table job w s m y.config y.holds)
 
-  pub backs : Unwinding w₀ s₀ → (s.mode ≡ 1 → ⊥) → (s.mode ≡ 0 → ⊥) → Backing w s
+  pub backs : Unwinding w₀ s₀ → (s.mode ≡ is.Gave → ⊥) → (s.mode ≡ is.Running → ⊥) → Backing w s
   unfolding Holds
   backs q a b =
       let y = way q.table q.job q.config q.holds in
@@ -207,7 +207,7 @@ module _ (w₀ : List ℕ) (s₀ : State) (w : List ℕ) (s : State) (way : Towa
         lost = subst (λ (c : Config). Holds q.table q.job w s c) x.is y.holds;
       }
 
-  pub at_back : (s.mode ≡ 1 → ⊥) → (s.mode ≡ 0 → ⊥) → (v : List ℕ) (r : State) → WentBack w s v r → Unwound w₀ s₀ v r
+  pub at_back : (s.mode ≡ is.Gave → ⊥) → (s.mode ≡ is.Running → ⊥) → (v : List ℕ) (r : State) → WentBack w s v r → Unwound w₀ s₀ v r
   unfolding Holds settle
   at_back a b v r d table job x h =
       let y = way table job x h in
@@ -215,13 +215,19 @@ module _ (w₀ : List ℕ) (s₀ : State) (w : List ℕ) (s : State) (way : Towa
       subst (λ (κ : M.Control). Shows table job v r κ) (ap settle (sym u.is) ∙ y.settles) (d table job u.choices (subst (λ (c : Config). Holds table job w s c) u.is y.holds))
 
 -- how much there is to take off
-unfoldable pub left : State → ℕ
-left s = cond (eqb s.mode 1) (s.link + 1) 0
+abbrev pub left_in : Mode → (link : ℕ) → ℕ
+left_in is.Running link = 0
+left_in is.Gave link = link + 1
+left_in is.Lost link = 0
 
-pub left_less : (s r : State) → s.mode ≡ 1 → (r.mode ≡ 1 → r.link < s.link) → left r < left s
+unfoldable pub left : State → ℕ
+left s = left_in s.mode s.link
+
+pub left_less : (s r : State) → s.mode ≡ is.Gave → (r.mode ≡ is.Gave → r.link < s.link) → left r < left s
 unfolding left
-left_less s r m h = rw (eq-eqb s.mode 1 m) (go (eqb r.mode 1) refl)
+left_less s r m h = rw m (go r.mode h)
   where
-    go : (b : Bool) → eqb r.mode 1 ≡ b → cond b (r.link + 1) 0 < s.link + 1
-    go true e = omega (arith, h (eqb-true r.mode 1 e))
-    go false e = omega arith
+    go : (m : Mode) → (m ≡ is.Gave → r.link < s.link) → left_in m r.link < s.link + 1
+    go is.Running h = omega arith
+    go is.Gave h = omega (arith, h refl)
+    go is.Lost h = omega arith

@@ -9,6 +9,7 @@ use Rattle.tactics.specs.Goals.{Gathered}
 use Rattle.search.specs.Machine as M
 use Rattle.search.specs.Machine.{labelled, sequence_left, sequence_right, tensor_left, tensor_right}
 use Rattle.search_machine.specs.declared.nodes.Node.{Node}
+use Rattle.search_machine.specs.declared.state.Mode.TheVariants as is
 use Rattle.search_machine.specs.declared.state.State.{State}
 use Rattle.search_machine.specs.Layout.{arena_low, node_size, arena_end, space_end}
 use Rattle.search_machine.specs.Nodes.{node_at, put_node}
@@ -99,7 +100,7 @@ Popped w s v r = (table job : List ℕ) (p : Term) (g : List Goal) (x : M.Frame)
 
 -- a state that still gives has fewer terms that wait
 abbrev pub Smaller : State → State → Type 0
-Smaller s r = r.mode ≡ 1 → r.link < s.link
+Smaller s r = r.mode ≡ is.Gave → r.link < s.link
 
 -- the way back
 pub record Backing (w : List ℕ) (s : State) : Type 0 where

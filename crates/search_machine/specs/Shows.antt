@@ -9,6 +9,7 @@ use Rattle.outline.specs.Outline.{outline_of}
 use Rattle.search.specs.Machine as M
 use Rattle.search.specs.Machine.{labelled, sequence_left, sequence_right, tensor_left, tensor_right, or_else, next_split, running, finished, nothing, give}
 use Rattle.search_machine.specs.declared.nodes.Node.{Node}
+use Rattle.search_machine.specs.declared.state.Mode.TheVariants as is
 use Rattle.search_machine.specs.declared.state.State.{State}
 use Rattle.search_machine.specs.Layout.{arena_low, node_size, step_room}
 use Rattle.search_machine.specs.Nodes.{node_at}
@@ -121,7 +122,7 @@ module _ (table job : List ℕ) where
 
   -- a term that is to begin
   pub record Runs (w : List ℕ) (s : State) (b : ℕ) (t : Term) (g : List Goal) (k : List M.Frame) (c : List M.Choice) : Type 0 where
-    pub mode_is : s.mode ≡ 0
+    pub mode_is : s.mode ≡ is.Running
     pub low : arena_low ≤ s.arena
     pub below_is : s.level / 2 ≡ b
     pub stands : Stands (source table job (s.level % 2)) s.at t
@@ -133,7 +134,7 @@ module _ (table job : List ℕ) where
 
   -- a term that ended with a hiproof
   pub record Gave (w : List ℕ) (s : State) (p : Term) (g : List Goal) (k : List M.Frame) (c : List M.Choice) : Type 0 where
-    pub mode_is : s.mode ≡ 1
+    pub mode_is : s.mode ≡ is.Gave
     pub low : arena_low ≤ s.arena
     pub goals : GoalsIs w s.arena s.start s.count g
     pub frames : FramesAt table job w s.arena k s.link
@@ -143,7 +144,7 @@ module _ (table job : List ℕ) where
 
   -- a term that failed
   pub record Lost (w : List ℕ) (s : State) (c : List M.Choice) : Type 0 where
-    pub mode_is : s.mode ≡ 2
+    pub mode_is : s.mode ≡ is.Lost
     pub choices : ChoicesAt w s.steps s.arena s.outline c s.choice
 
 -- between two moves: a term to begin, a term that ended, or the way back

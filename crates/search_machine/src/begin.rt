@@ -18,11 +18,12 @@ ghost use Rattle.search_machine.specs.Moves.{giving, noted};
 ghost use Rattle.search_machine.specs.Begun.{Room, Stays, DoesIn, Does, leaf_next, sequence_next, alternation_next, label_next, tensor_next, defined_next};
 
 use crate::layout::{DEFINITIONS_PLACE, RULES_PLACE};
-use crate::nodes::{NEXT_SPLIT, Node, OR_ELSE, SEQUENCE_LEFT};
+use crate::nodes::{BLANK, NEXT_SPLIT, Node, OR_ELSE, SEQUENCE_LEFT};
 use crate::state::State;
-use format::values::{Goal, Label, RuleName, TacticNo, goal_at};
+use format::tags::{ATOMIC, EMPTY, ID, LABEL, SEQUENCE, TENSOR};
+use format::values::{Goal, Label, RuleName, TacticNo, value_at};
 use index::lookup::{find_body, find_rule};
-use tables::lookup::{BodyFound, RuleFound};
+use tables::lookup::RuleFound;
 use words::copy_in;
 
 impl State {
@@ -44,7 +45,7 @@ impl State {
         if self.count != 1 {
             return self.fail();
         }
-        self.leaf(17, 0, work)
+        self.leaf(ID, 0, work)
     }
 
     pub fn begin_empty(self, work: &mut [u8]) -> State
@@ -55,7 +56,7 @@ impl State {
         if self.count != 0 {
             return self.fail();
         }
-        self.leaf(21, 0, work)
+        self.leaf(EMPTY, 0, work)
     }
 
     // An assertion leaves id on one goal equal to its own.
@@ -64,15 +65,13 @@ impl State {
         ensures begun { (T : Table) (γ : Goal) → goal.0 ≡ γ.0 → Does work.old self work.new result (assert γ) (leaf_next id (assert_gives T γ)) }
         ensures stays { Stays work.old self work.new result }
     {
-        let start = self.start;
         if self.count != 1 {
             return self.fail();
         }
-        let here = goal_at(work, start);
-        if here.0 == goal.0 {
-            return self.leaf(17, 0, work);
+        if goal != value_at(work, self.start) {
+            return self.fail();
         }
-        self.fail()
+        self.leaf(ID, 0, work)
     }
 
     pub fn begin_sequence(self, down: u16, right: usize, work: &mut [u8]) -> State
@@ -83,18 +82,13 @@ impl State {
         let at = self.at + 3;
         let start = self.start;
         let count = self.count;
-        let s = self.note(19, 0, work);
+        let s = self.note(SEQUENCE, 0, work);
         let n = Node {
             kind: SEQUENCE_LEFT,
             level: down,
             at: right,
             link: s.link,
-            start: 0,
-            count: 0,
-            left: 0,
-            mark: 0,
-            right: 0,
-            other: 0,
+            ..BLANK
         };
         let t = s.push(n, work);
         t.enter(down, at, start, count)
@@ -116,10 +110,9 @@ impl State {
             link: self.link,
             start,
             count,
-            left: 0,
             mark: self.outline,
-            right: 0,
             other: self.choice,
+            ..BLANK
         };
         let s = self.offer(n, work);
         s.enter(down, at, start, count)
@@ -136,7 +129,7 @@ impl State {
         let at = self.at + 5;
         let start = self.start;
         let count = self.count;
-        let s = self.note(18, name.0, work);
+        let s = self.note(LABEL, name.0, work);
         s.enter(down, at, start, count)
     }
 
@@ -149,7 +142,7 @@ impl State {
         let at = self.at + 3;
         let start = self.start;
         let count = self.count;
-        let s = self.note(20, 0, work);
+        let s = self.note(TENSOR, 0, work);
         if count == 0 {
             return s.part(down, at, right, start, 0, 0, work);
         }
@@ -175,35 +168,26 @@ impl State {
         ensures begun { (T : Table) (a : RuleName) → TableStands table.now first T → name.0 ≡ a.0 → Does work.old self work.new result (atomic a) (leaf_next (atomic a) (rule_gives T a)) }
         ensures stays { Stays work.old self work.new result }
     {
-        let start = self.start;
         if self.count != 1 {
             return self.fail();
         }
-        let goal = goal_at(work, start);
-        let found = find_rule(table, first, work, RULES_PLACE, name, goal);
-        match found {
-            RuleFound::Missing => self.fail(),
-            RuleFound::Rule(_, place, count) => self.use_rule(name, place, count, table, work),
+        let goal = value_at(work, self.start);
+        match find_rule(table, first, work, RULES_PLACE, name, goal) {
+            Some(rule) => self.use_rule(name, rule, table, work),
+            None => self.fail(),
         }
     }
 
     // The rule's premises, which lie at a place of the table, are the goals; the rule's name is its field.
-    fn use_rule(
-        self,
-        name: RuleName,
-        place: usize,
-        count: usize,
-        table: &[u8],
-        work: &mut [u8],
-    ) -> State
-        requires { Room work.old self × (count ≤ 8) × (place + count * 2 ≤ length table.now) }
-        ensures begun { (a : RuleName) → name.0 ≡ a.0 → Does work.old self work.new result (atomic a) (leaf_next (atomic a) (λ g. some (goals_at table.now place count))) }
+    fn use_rule(self, name: RuleName, rule: RuleFound, table: &[u8], work: &mut [u8]) -> State
+        requires { Room work.old self × (rule.count ≤ 8) × (rule.place + rule.count * 2 ≤ length table.now) }
+        ensures begun { (a : RuleName) → name.0 ≡ a.0 → Does work.old self work.new result (atomic a) (leaf_next (atomic a) (λ g. some (goals_at table.now rule.place rule.count))) }
         ensures stays { Stays work.old self work.new result }
     {
         let arena = self.arena;
-        copy_in(work, arena, table, place, count * 2);
-        let s = self.hold(arena, count, arena + count * 2);
-        s.leaf(16, name.0, work)
+        copy_in(work, arena, table, rule.place, rule.count * 2);
+        let s = self.hold(arena, rule.count, arena + rule.count * 2);
+        s.leaf(ATOMIC, name.0, work)
     }
 
     // A defined tactic is replaced by its body.
@@ -219,12 +203,9 @@ impl State {
         ensures begun { (T : Table) (d : TacticNo) (job : List ℕ) → TableStands table.now first T → number.0 ≡ d.0 → DoesIn table.now job work.now self work.now result (defined d) (defined_next T down d) }
         ensures stays { Stays work.now self work.now result }
     {
-        let start = self.start;
-        let count = self.count;
-        let found = find_body(table, first, work, DEFINITIONS_PLACE, number);
-        match found {
-            BodyFound::Missing => self.fail(),
-            BodyFound::At(place) => self.enter(down / 2 * 2, place, start, count),
+        match find_body(table, first, work, DEFINITIONS_PLACE, number) {
+            Some(place) => self.enter(down / 2 * 2, place, self.start, self.count),
+            None => self.fail(),
         }
     }
 }

@@ -5,7 +5,7 @@ ghost use Rattle.search_machine.specs.Nodes.{node_at, put_first, put_places, put
 use tactics::numbers::{load32, store32};
 use words::{load16, store16};
 
-// The kinds of a node: a term that waits for one of its inner terms, or a choice.
+// The kinds of a node: a term that waits for one of its inner terms, or a choice. They are numbers, since load_node reads a node from any bytes, also from those of no kind.
 pub const SEQUENCE_LEFT: u16 = 1;
 
 pub const TENSOR_LEFT: u16 = 2;
@@ -32,6 +32,20 @@ pub struct Node {
     pub right: usize,
     pub other: usize,
 }
+
+// A node in which nothing is filled in.
+pub const BLANK: Node = Node {
+    kind: 0,
+    level: 0,
+    at: 0,
+    link: 0,
+    start: 0,
+    count: 0,
+    left: 0,
+    mark: 0,
+    right: 0,
+    other: 0,
+};
 
 pub fn load_node(work: &[u8], at: usize) -> Node
     requires { at + 25 < length work.now }

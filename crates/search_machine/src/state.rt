@@ -10,17 +10,18 @@ use crate::nodes::{Node, store_node};
 use tactics::numbers::put_header;
 
 // How a state stands: a term is to begin, or the last one ended, or it failed.
-pub const RUNNING: u8 = 0;
-
-pub const GAVE: u8 = 1;
-
-pub const LOST: u8 = 2;
+#[derive(Clone, Copy, PartialEq, Eq)]
+pub enum Mode {
+    Running,
+    Gave,
+    Lost,
+}
 
 // The next term to begin, by its place, its level, which is twice the number of levels that may begin below it, and one more if it stands in the job and not in the table, and its goals; or the goals that the last one gave.
 // `link` is the node of the innermost term that waits, `choice` that of the last choice, 0 for none; all lie below `arena`. `outline` is the length of the outline.
 #[derive(Clone, Copy)]
 pub struct State {
-    pub mode: u8,
+    pub mode: Mode,
     pub level: u16,
     pub at: usize,
     pub start: usize,
@@ -39,16 +40,8 @@ impl State {
         ensures { result ≡ counted self }
     {
         State {
-            mode: self.mode,
-            level: self.level,
-            at: self.at,
-            start: self.start,
-            count: self.count,
-            link: self.link,
-            choice: self.choice,
-            arena: self.arena,
-            outline: self.outline,
             steps: self.steps + 1,
+            ..self
         }
     }
 
@@ -57,16 +50,8 @@ impl State {
         ensures { result ≡ failed self }
     {
         State {
-            mode: LOST,
-            level: self.level,
-            at: self.at,
-            start: self.start,
-            count: self.count,
-            link: self.link,
-            choice: self.choice,
-            arena: self.arena,
-            outline: self.outline,
-            steps: self.steps,
+            mode: Mode::Lost,
+            ..self
         }
     }
 
@@ -75,16 +60,8 @@ impl State {
         ensures { result ≡ giving self }
     {
         State {
-            mode: GAVE,
-            level: self.level,
-            at: self.at,
-            start: self.start,
-            count: self.count,
-            link: self.link,
-            choice: self.choice,
-            arena: self.arena,
-            outline: self.outline,
-            steps: self.steps,
+            mode: Mode::Gave,
+            ..self
         }
     }
 
@@ -92,18 +69,7 @@ impl State {
     pub fn take_off(self, link: usize) -> State
         ensures { result ≡ linked self link }
     {
-        State {
-            mode: self.mode,
-            level: self.level,
-            at: self.at,
-            start: self.start,
-            count: self.count,
-            link,
-            choice: self.choice,
-            arena: self.arena,
-            outline: self.outline,
-            steps: self.steps,
-        }
+        State { link, ..self }
     }
 
     // A term is to begin.
@@ -111,16 +77,12 @@ impl State {
         ensures { result ≡ entered self level at start count }
     {
         State {
-            mode: RUNNING,
+            mode: Mode::Running,
             level,
             at,
             start,
             count,
-            link: self.link,
-            choice: self.choice,
-            arena: self.arena,
-            outline: self.outline,
-            steps: self.steps,
+            ..self
         }
     }
 
@@ -129,16 +91,10 @@ impl State {
         ensures { result ≡ holding self start count arena }
     {
         State {
-            mode: self.mode,
-            level: self.level,
-            at: self.at,
             start,
             count,
-            link: self.link,
-            choice: self.choice,
             arena,
-            outline: self.outline,
-            steps: self.steps,
+            ..self
         }
     }
 
@@ -147,16 +103,11 @@ impl State {
         ensures { result ≡ returned self link choice arena outline }
     {
         State {
-            mode: self.mode,
-            level: self.level,
-            at: self.at,
-            start: self.start,
-            count: self.count,
             link,
             choice,
             arena,
             outline,
-            steps: self.steps,
+            ..self
         }
     }
 
@@ -169,16 +120,8 @@ impl State {
         let outline = self.outline;
         put_header(work, outline, tag, value);
         State {
-            mode: self.mode,
-            level: self.level,
-            at: self.at,
-            start: self.start,
-            count: self.count,
-            link: self.link,
-            choice: self.choice,
-            arena: self.arena,
             outline: outline + 3,
-            steps: self.steps,
+            ..self
         }
     }
 
@@ -191,16 +134,9 @@ impl State {
         let arena = self.arena;
         store_node(work, arena, n);
         State {
-            mode: self.mode,
-            level: self.level,
-            at: self.at,
-            start: self.start,
-            count: self.count,
             link: arena,
-            choice: self.choice,
             arena: arena + NODE_SIZE,
-            outline: self.outline,
-            steps: self.steps,
+            ..self
         }
     }
 
@@ -213,16 +149,9 @@ impl State {
         let arena = self.arena;
         store_node(work, arena, n);
         State {
-            mode: self.mode,
-            level: self.level,
-            at: self.at,
-            start: self.start,
-            count: self.count,
-            link: self.link,
             choice: arena,
             arena: arena + NODE_SIZE,
-            outline: self.outline,
-            steps: self.steps,
+            ..self
         }
     }
 }

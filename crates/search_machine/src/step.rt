@@ -6,9 +6,10 @@ ghost use Rattle.tactics.specs.Source.{source};
 ghost use Rattle.search_machine.specs.Begun.{Stays};
 ghost use Rattle.search_machine.specs.Step.{TableIndexed, Stood, InnerTag, PairTag, BeginsAny, BeginsPair, Given, Stepped, Grown, Started, Ran};
 
-use crate::state::{RUNNING, State};
+use crate::state::{Mode, State};
 use arities::arity::right_of;
-use format::values::{goal_at, label_at, rule_name_at, tactic_no_at};
+use format::tags::{ASSERTION, ATOMIC, DEFINED, EMPTY, ID, LABEL, SEQUENCE, TENSOR};
+use format::values::value_at;
 
 impl State {
     // The term at the state's place in its file begun; one that would begin an inner term fails if no level is left.
@@ -18,26 +19,14 @@ impl State {
         ensures stays { Stays work.old self work.new result }
     {
         let at = self.at;
-        let tag = src[at];
-        if tag == 17 {
-            return self.begin_id(work);
+        match src[at] {
+            ID => self.begin_id(work),
+            EMPTY => self.begin_empty(work),
+            ATOMIC => self.begin_atomic(value_at(src, at + 3), table, first, work),
+            ASSERTION => self.begin_assert(value_at(src, at + 3), work),
+            _ if self.level < 2 => self.fail(),
+            tag => self.begin_inner(self.level - 2, tag, table, first, src, work),
         }
-        if tag == 21 {
-            return self.begin_empty(work);
-        }
-        if tag == 16 {
-            let name = rule_name_at(src, at + 3);
-            return self.begin_atomic(name, table, first, work);
-        }
-        if tag == 23 {
-            let goal = goal_at(src, at + 3);
-            return self.begin_assert(goal, work);
-        }
-        let level = self.level;
-        if level < 2 {
-            return self.fail();
-        }
-        self.begin_inner(level - 2, tag, table, first, src, work)
     }
 
     // A form with inner terms, which may begin so many levels below them.
@@ -55,15 +44,11 @@ impl State {
         ensures stays { Stays work.old self work.new result }
     {
         let at = self.at;
-        if tag == 18 {
-            let name = label_at(src, at + 3);
-            return self.begin_label(down, name, work);
+        match tag {
+            LABEL => self.begin_label(down, value_at(src, at + 3), work),
+            DEFINED => self.begin_defined(down, value_at(src, at + 3), table, first, work),
+            _ => self.begin_pair(down, tag, src, work),
         }
-        if tag == 24 {
-            let number = tactic_no_at(src, at + 3);
-            return self.begin_defined(down, number, table, first, work);
-        }
-        self.begin_pair(down, tag, src, work)
     }
 
     // A sequence, a tensor or an alternation begun.
@@ -72,15 +57,12 @@ impl State {
         ensures begun { BeginsPair src.now work.old self work.new result }
         ensures stays { Stays work.old self work.new result }
     {
-        let at = self.at;
-        let right = right_of(src, at) as usize;
-        if tag == 19 {
-            return self.begin_sequence(down, right, work);
+        let right = right_of(src, self.at) as usize;
+        match tag {
+            SEQUENCE => self.begin_sequence(down, right, work),
+            TENSOR => self.begin_tensor(down, right, work),
+            _ => self.begin_alternation(down, right, work),
         }
-        if tag == 20 {
-            return self.begin_tensor(down, right, work);
-        }
-        self.begin_alternation(down, right, work)
     }
 
     // One term of a file counted and begun, then the next term to begin or the end of the search.
@@ -119,13 +101,11 @@ pub fn search_steps(
     ensures { Ran table.now first job.now work.old from budget work.new result }
 {
     let mut s = from;
-    let mut left = budget;
-    while 0 < left {
-        if s.mode != RUNNING {
+    for _ in 0..budget {
+        if s.mode != Mode::Running {
             return s;
         }
         s = s.step(table, first, job, work);
-        left -= 1;
     }
     s
 }

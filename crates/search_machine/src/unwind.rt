@@ -8,10 +8,9 @@ ghost use Rattle.search_machine.specs.Begun.{Stays, tensor_node, PartRoom};
 ghost use Rattle.search_machine.specs.Popping.{PopRoom, tensor_right_node, Joins, SplitRoom, LastSplit, NextSplit, Waiting, Popped, Smaller, Backing, WentBack, Unwinding, Unwound};
 
 use crate::layout::NODE_SIZE;
-use crate::nodes::{Node, OR_ELSE, SEQUENCE_LEFT, TENSOR_LEFT, TENSOR_RIGHT, load_node};
-use crate::state::{GAVE, RUNNING, State};
+use crate::nodes::{BLANK, Node, OR_ELSE, SEQUENCE_LEFT, TENSOR_LEFT, TENSOR_RIGHT, load_node};
+use crate::state::{Mode, State};
 use tactics::goals::gather;
-use tactics::numbers::load32;
 use words::{load16, store16};
 
 impl State {
@@ -20,14 +19,9 @@ impl State {
         requires { PopRoom work.now self }
         ensures { result ≡ entered (linked self (node_at work.now self.link).link) (node_at work.now self.link).level (node_at work.now self.link).at self.start self.count }
     {
-        let link = self.link;
-        let start = self.start;
-        let count = self.count;
-        let level = load16(work, link + 2);
-        let at = load16(work, link + 4) as usize;
-        let next = load32(work, link + 8);
-        let s = self.take_off(next);
-        s.enter(level, at, start, count)
+        let n = load_node(work, self.link);
+        let s = self.take_off(n.link);
+        s.enter(n.level, n.at, self.start, self.count)
     }
 
     // A tensor's left term ended: its right term is next, on the goals that were kept for it.
@@ -36,26 +30,16 @@ impl State {
         ensures written { work.new ≡ put_node work.old self.arena (tensor_right_node self (node_at work.old self.link).link) }
         ensures state { result ≡ entered (pushed self) (node_at work.old self.link).level (node_at work.old self.link).at (node_at work.old self.link).start (node_at work.old self.link).count }
     {
-        let link = self.link;
-        let level = load16(work, link + 2);
-        let at = load16(work, link + 4) as usize;
-        let next = load32(work, link + 8);
-        let start = load32(work, link + 12);
-        let count = load16(work, link + 6) as usize;
-        let n = Node {
+        let n = load_node(work, self.link);
+        let ended = Node {
             kind: TENSOR_RIGHT,
-            level: 0,
-            at: 0,
-            link: next,
+            link: n.link,
             start: self.start,
             count: self.count,
-            left: 0,
-            mark: 0,
-            right: 0,
-            other: 0,
+            ..BLANK
         };
-        let s = self.push(n, work);
-        s.enter(level, at, start, count)
+        let s = self.push(ended, work);
+        s.enter(n.level, n.at, n.start, n.count)
     }
 
     // A tensor's right term ended: the two lists are joined.
@@ -63,15 +47,12 @@ impl State {
         requires { PopRoom work.old self × ((node_at work.old self.link).start + (node_at work.old self.link).count * 2 ≤ self.arena) × ((node_at work.old self.link).count + self.count ≤ 256) × (self.arena + 512 ≤ arena_end) }
         ensures { Joins work.old self (node_at work.old self.link) work.new result }
     {
-        let link = self.link;
+        let n = load_node(work, self.link);
         let arena = self.arena;
-        let next = load32(work, link + 8);
-        let start = load32(work, link + 12);
-        let left = load16(work, link + 6) as usize;
-        let n = left + self.count;
-        gather(work, arena, start, left, self.start, self.count);
-        let s = self.take_off(next);
-        s.hold(arena, n, arena + n * 2)
+        let count = n.count + self.count;
+        gather(work, arena, n.start, n.count, self.start, self.count);
+        let s = self.take_off(n.link);
+        s.hold(arena, count, arena + count * 2)
     }
 
     // One waiting term taken off.
@@ -82,12 +63,10 @@ impl State {
         ensures smaller { Smaller self result }
     {
         let link = self.link;
-        let kind = load16(work, link);
-        if kind == SEQUENCE_LEFT {
-            return self.pop_sequence_left(work);
-        }
-        if kind == TENSOR_LEFT {
-            return self.pop_tensor_left(work);
+        match load16(work, link) {
+            SEQUENCE_LEFT => return self.pop_sequence_left(work),
+            TENSOR_LEFT => return self.pop_tensor_left(work),
+            _ => {}
         }
         let left = load16(work, link + 6) as usize;
         if 256 < left + self.count {
@@ -102,15 +81,9 @@ impl State {
         ensures { result ≡ entered (returned self (node_at work.now self.choice).link (node_at work.now self.choice).other self.choice (node_at work.now self.choice).mark) (node_at work.now self.choice).level (node_at work.now self.choice).at (node_at work.now self.choice).start (node_at work.now self.choice).count }
     {
         let choice = self.choice;
-        let level = load16(work, choice + 2);
-        let at = load16(work, choice + 4) as usize;
-        let link = load32(work, choice + 8);
-        let start = load32(work, choice + 12);
-        let count = load16(work, choice + 6) as usize;
-        let mark = load16(work, choice + 18) as usize;
-        let other = load32(work, choice + 22);
-        let s = self.return_to(link, other, choice, mark);
-        s.enter(level, at, start, count)
+        let right = load_node(work, choice);
+        let s = self.return_to(right.link, right.other, choice, right.mark);
+        s.enter(right.level, right.at, right.start, right.count)
     }
 
     // A tensor's last split: no goal is left for its right term, and the choice is given up.
@@ -159,10 +132,7 @@ impl State {
             link: self.link,
             start: start + left * 2,
             count,
-            left: 0,
-            mark: 0,
-            right: 0,
-            other: 0,
+            ..BLANK
         };
         let s = self.push(n, work);
         s.enter(down, at, start, left)
@@ -196,13 +166,13 @@ impl State {
         ensures stays { Stays work.old self work.new result }
     {
         let mut s = self;
-        while s.mode == GAVE {
+        while s.mode == Mode::Gave {
             if s.link == 0 {
                 return s;
             }
             s = s.pop(work);
         }
-        if s.mode == RUNNING {
+        if s.mode == Mode::Running {
             return s;
         }
         s.go_back(work)

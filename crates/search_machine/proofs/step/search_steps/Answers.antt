@@ -1,40 +1,21 @@
 -- `search_steps` meets its contract: what is left of the run comes to the same, and every turn uses up a step.
 -- Assumes nothing.
+use Rattle.std.proofs.Common.{rules}
 use native.Mathlib.Omega.{arith}
 use Rattle.search_machine.proofs.RunLaws.{way_start, ran_end, ran_out, given, way_next}
 use Rattle.search_machine.proofs.step.search_steps.Goals as goal
 
-pub loop-left-init : goal.loop-left-init
-loop-left-init c = let a = c.args in way_start a.table.now a.first a.job.now a.work.now a.from a.budget
+pub loop-init : goal.loop-init
+loop-init c = way_start _ _ _ _ _ _ _ (omega arith)
 
-pub shape_of-work-then-s-ne-RUNNING : goal.shape_of-work-then-s-ne-RUNNING
-shape_of-work-then-s-ne-RUNNING c = c.loop-left.invariant.same_length
-
-pub returns-then-s-ne-RUNNING : goal.returns-then-s-ne-RUNNING
-returns-then-s-ne-RUNNING c =
-    let a = c.args in
-    ran_end a.table.now a.first a.job.now a.work.now a.from a.budget c.loop-left.work c.loop-left.s c.loop-left.left c.loop-left.invariant c.if-s-ne-RUNNING.true
+pub returns-then-ne : goal.returns-then-ne
+returns-then-ne c = ran_end _ _ _ _ _ _ _ _ _ c.loop.invariant (search rules)
 
 pub step-s-requires : goal.step-s-requires
-step-s-requires c =
-    let a = c.args in
-    given a.table.now a.first a.job.now a.work.now a.from a.budget c.loop-left.work c.loop-left.s c.loop-left.left c.loop-left.invariant (omega (arith, c.loop-left-test.true)) c.if-s-ne-RUNNING.false c.requires
+step-s-requires c = given _ _ _ _ _ _ _ _ _ c.loop.invariant (omega arith) (search rules) c.requires
 
-pub overflow_sub-left : goal.overflow_sub-left
-overflow_sub-left c = omega (arith, c.loop-left-test.true)
-
-pub loop-left-smaller : goal.loop-left-smaller
-loop-left-smaller c = omega (arith, c.loop-left-test.true)
-
-pub loop-left-preserved : goal.loop-left-preserved
-loop-left-preserved c =
-    let a = c.args in
-    way_next a.table.now a.first a.job.now a.work.now a.from a.budget c.loop-left.work c.loop-left.s c.loop-left.left c.loop-left.invariant (omega (arith, c.loop-left-test.true)) c.if-s-ne-RUNNING.false _ c.step-s.result c.step-s.ensures.steps c.step-s.ensures.grown
-
-pub shape_of-work : goal.shape_of-work
-shape_of-work c = c.loop-left.invariant.same_length
+pub loop-preserved : goal.loop-preserved
+loop-preserved c = way_next _ _ _ _ _ _ _ _ _ c.loop.invariant (omega arith) (search rules) _ _ c.step-s.ensures.steps c.step-s.ensures.grown _ (omega arith)
 
 pub returns : goal.returns
-returns c =
-    let a = c.args in
-    ran_out a.table.now a.first a.job.now a.work.now a.from a.budget c.loop-left.work c.loop-left.s c.loop-left.left c.loop-left.invariant (omega (arith, c.loop-left-test.false))
+returns c = ran_out _ _ _ _ _ _ _ _ _ c.loop.invariant (omega arith)
