@@ -1,12 +1,11 @@
 // The header of a field.
-ghost use Rattle.std.specs.Prelude.{◌≡◌, ℕ, ◌≤◌, ◌<◌, length};
+ghost use Rattle.std.specs.Prelude.{◌≤◌, ◌≡◌, length};
 ghost use Rattle.format.specs.Headers.{header_at};
 ghost use Rattle.format.specs.Shapes.{header_shape};
 ghost use Rattle.format.specs.Kinds.{kind_number};
-ghost use Rattle.format.specs.Tags.{any_length, least_of, most_of, inner_of, length_fits};
 
 use crate::refusals::{Cause, Refusal};
-use crate::tags::{Kind, Row, row_of};
+use crate::tags::{Kind, row_of};
 use words::load16;
 
 // A field's header: the tag and the length of the contents.
@@ -14,23 +13,6 @@ use words::load16;
 pub struct Header {
     pub tag: u8,
     pub len: usize,
-}
-
-// Whether a length is right for the tag of a row. Where inner terms follow any length may be.
-fn length_fits(row: Row, len: usize) -> bool
-    requires { len ≤ any_length }
-    ensures { (t : ℕ) → row.least ≡ least_of t → row.most ≡ most_of t → row.inner ≡ inner_of t → result ≡ length_fits t len }
-{
-    if len < row.least as usize {
-        return false;
-    }
-    if row.inner != 0 {
-        return true;
-    }
-    if (row.most as usize) < len {
-        return false;
-    }
-    len % 2 == 0
 }
 
 // The header at a place before the end of what encloses it. Kinds from low to high may stand there, and full says that no more fields of its kind may come.
@@ -60,7 +42,7 @@ pub fn read_header(
     if end < at + 3 + len {
         return Err(Refusal::new(Cause::FieldTorn, at));
     }
-    if !length_fits(row, len) {
+    if !row.fits(len) {
         return Err(Refusal::new(Cause::LengthWrong, at));
     }
     Ok(Header { tag, len })

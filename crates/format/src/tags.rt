@@ -1,6 +1,6 @@
 // Document 01, "Fourteen tags in all": constant tables by tag: where it may stand (its kind), the smallest and the greatest length of its contents, and the number of its inner terms.
-ghost use Rattle.std.specs.Prelude.{◌≡◌, ◌≤◌, ◌<◌, ◌⊎◌};
-ghost use Rattle.format.specs.Tags.{kind_of, least_of, most_of, inner_of};
+ghost use Rattle.std.specs.Prelude.{◌≡◌, ℕ, ◌≤◌, ◌<◌, ◌⊎◌};
+ghost use Rattle.format.specs.Tags.{any_length, kind_of, least_of, most_of, inner_of, length_fits};
 ghost use Rattle.format.specs.Kinds.{kind_number};
 
 // The tags: of a table's fields, of a goal list, of terms, and of a flat file's entries.
@@ -51,6 +51,25 @@ pub struct Row {
     pub least: u8,
     pub most: u16,
     pub inner: u8,
+}
+
+impl Row {
+    // Whether a length is right for its tag. Where inner terms follow any length may be.
+    pub fn fits(self, len: usize) -> bool
+        requires { len ≤ any_length }
+        ensures { (t : ℕ) → self.least ≡ least_of t → self.most ≡ most_of t → self.inner ≡ inner_of t → result ≡ length_fits t len }
+    {
+        if len < self.least as usize {
+            return false;
+        }
+        if self.inner != 0 {
+            return true;
+        }
+        if (self.most as usize) < len {
+            return false;
+        }
+        len % 2 == 0
+    }
 }
 
 // The greatest number that two length bytes hold.

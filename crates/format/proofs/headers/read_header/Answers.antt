@@ -21,13 +21,13 @@ pub returns-then-end-at-2 : goal.returns-then-end-at-2
 returns-then-end-at-2 c =
     rw c.new-then-end-at-2.ensures (contents_torn _ _ _ _ _ _ c.if-end-at.false _ c.row_of-row.ensures.kind (above _ _ c.lt.ensures c.if-lt.false) (above _ _ c.lt-else-lt.ensures c.if-lt-2.false) c.if-full.false _ c.load16-len.ensures c.if-end-at-2.true)
 
-pub returns-then-not-length_fits : goal.returns-then-not-length_fits
-returns-then-not-length_fits c =
+pub returns-then-not-fits : goal.returns-then-not-fits
+returns-then-not-fits c =
     let r = c.row_of-row.ensures in
-    rw c.new-then-not-length_fits.ensures
-    (length_not_right _ _ _ _ _ _ c.if-end-at.false _ r.kind (above _ _ c.lt.ensures c.if-lt.false) (above _ _ c.lt-else-lt.ensures c.if-lt-2.false) c.if-full.false _ c.load16-len.ensures c.if-end-at-2.false _ (c.length_fits.ensures _ r.least r.most r.inner) c.if-not-length_fits.true)
+    rw c.new-then-not-fits.ensures
+    (length_not_right _ _ _ _ _ _ c.if-end-at.false _ r.kind (above _ _ c.lt.ensures c.if-lt.false) (above _ _ c.lt-else-lt.ensures c.if-lt-2.false) c.if-full.false _ c.load16-len.ensures c.if-end-at-2.false _ (c.fits.ensures _ r.least r.most r.inner) c.if-not-fits.true)
 
 pub returns : goal.returns
 returns c =
     let r = c.row_of-row.ensures in
-    field_there _ _ _ _ _ _ c.if-end-at.false _ r.kind (above _ _ c.lt.ensures c.if-lt.false) (above _ _ c.lt-else-lt.ensures c.if-lt-2.false) c.if-full.false _ c.load16-len.ensures c.if-end-at-2.false _ (c.length_fits.ensures _ r.least r.most r.inner) c.if-not-length_fits.false
+    field_there _ _ _ _ _ _ c.if-end-at.false _ r.kind (above _ _ c.lt.ensures c.if-lt.false) (above _ _ c.lt-else-lt.ensures c.if-lt-2.false) c.if-full.false _ c.load16-len.ensures c.if-end-at-2.false _ (c.fits.ensures _ r.least r.most r.inner) c.if-not-fits.false
