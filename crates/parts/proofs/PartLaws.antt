@@ -42,6 +42,9 @@ else_list Body t f e = cc
 else_list JobTerm t f e = cc
 else_list ProofTerm t f e = cc
 
+-- by these a choice is made where the part was tested
+pub ruleset by_parts = (term_chosen, list_chosen, else_list)
+
 -- a list is no term
 pub list_outside : (p : Part) → is_list p ≡ true → is_term p ≡ false
 list_outside p h = list_chosen p _ _ _ _ h

@@ -29,9 +29,10 @@ const MOST_OPENS: usize = 256;
 const MOST_GOALS: usize = 256;
 
 // In what may stand where a state is, terms are told from other parts by one test in front of the match: a match on all parts costs a fifth more instructions for every field of a term.
+// What is required of a state is no invariant of it and no struct: behind_term asks for less than take, so a type with all of it would ask more of its callers.
 impl State {
     // The lowest kind that may stand where a state is; once there is a definition no rule may follow.
-    #[tactic(auto, using(crate::proofs::PartLaws::term_chosen, crate::proofs::PartLaws::list_chosen, crate::proofs::PartLaws::else_list), unfolding(crate::specs::States::low_of, format::specs::Next::lowest))]
+    #[tactic(auto, using(crate::proofs::PartLaws::by_parts), unfolding(crate::specs::States::low_of, format::specs::Next::lowest))]
     pub fn low(self) -> Kind
         ensures { kind_number result ≡ low_of self }
     {
@@ -50,7 +51,7 @@ impl State {
     }
 
     // The highest kind that may stand there.
-    #[tactic(auto, using(crate::proofs::PartLaws::term_chosen, crate::proofs::PartLaws::list_chosen, crate::proofs::PartLaws::else_list), unfolding(crate::specs::States::high_of))]
+    #[tactic(auto, using(crate::proofs::PartLaws::by_parts), unfolding(crate::specs::States::high_of))]
     pub fn high(self) -> Kind
         ensures { kind_number result ≡ high_of self.part }
     {
@@ -81,7 +82,7 @@ impl State {
     }
 
     // Whether no more fields of the kind that begins there may come.
-    #[tactic(auto, using(crate::proofs::PartLaws::term_chosen, crate::proofs::PartLaws::list_chosen, crate::proofs::PartLaws::else_list), unfolding(crate::specs::States::full_of, format::specs::Next::full_table, format::specs::Next::full_flat))]
+    #[tactic(auto, using(crate::proofs::PartLaws::by_parts), unfolding(crate::specs::States::full_of, format::specs::Next::full_table, format::specs::Next::full_flat))]
     pub fn is_full(self, s: &[u8]) -> bool
         requires { (self.part ≡ Entries → self.at < length s.now) × (self.part ≡ Fields → self.at < length s.now) }
         ensures { result ≡ full_of s.now self }
@@ -186,7 +187,7 @@ impl State {
     }
 
     // From the header of a field that stands in no term to what is read next.
-    #[tactic(auto, using(crate::proofs::PartLaws::term_chosen, crate::proofs::PartLaws::list_chosen, crate::proofs::PartLaws::else_list), unfolding(crate::specs::States::taken, crate::specs::Reader::Encloses))]
+    #[tactic(auto, using(crate::proofs::PartLaws::by_parts), unfolding(crate::specs::States::taken, crate::specs::Reader::Encloses))]
     pub fn take(self, header: Result<Header, Refusal>, s: &[u8]) -> State
         requires { (self.at ≤ self.end) × (self.end ≤ length s.now) × (self.first ≤ self.at) × (self.second ≤ self.at) × Encloses self.at self.end header }
         ensures { result ≡ taken s.now self header }
@@ -262,10 +263,7 @@ impl State {
             from: 0,
             rest: 0,
             field: 0,
-            refusal: Refusal {
-                cause: Cause::InputTooLong,
-                place: 0,
-            },
+            refusal: Refusal::new(Cause::InputTooLong, 0),
         }
     }
 }

@@ -69,7 +69,7 @@ impl State {
     {
         State {
             mode: Mode::Refused,
-            refusal: Refusal { cause, place },
+            refusal: Refusal::new(cause, place),
             ..self
         }
     }

@@ -16,6 +16,7 @@ use format::refusals::Refusal;
 use parts::state::{Mode, State};
 
 // From a header to the next place where a field is to be read, if there is one.
+// The lent bytes and the place where theirs begin stay two parameters: a struct of both would hold a `&mut`, and the contracts, which name both, would be no shorter.
 fn turn(x: State, header: Result<Header, Refusal>, s: &[u8], work: &mut [u8], base: usize) -> State
     requires { ReadsOn s.now work.old base x header }
     ensures { Step s.now work.old base x work.new result }
