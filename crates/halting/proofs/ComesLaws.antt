@@ -3,9 +3,10 @@
 use Prim.Native.Nat.{ℕ, ◌≤◌, ◌<◌}
 use mathlib.Core.Path.{◌≡◌, refl, sym, ap, subst, ◌∙◌}
 use mathlib.Core.List.{List}
-use lib.ListN.{length}
+use Rattle.std.specs.Prelude as std
 use Rattle.format.specs.Limits.{most_steps}
-use Rattle.format.specs.Refusals.{number, BudgetTooLarge}
+use Rattle.format.specs.declared.refusals.Cause.TheVariants.{BudgetTooLarge}
+use Rattle.format.specs.Refusals.{number}
 use Rattle.tables.specs.Tables.{Table}
 use Rattle.files.specs.Jobs.{Job}
 use Rattle.answers.specs.declared.Answer.{Answer}
@@ -19,38 +20,32 @@ use Rattle.machine.specs.declared.state.State.{State}
 use Rattle.runner.specs.LastState.{Reached}
 use Rattle.runner.proofs.LastLaws.{finish_end}
 use Rattle.halting.specs.declared.halted.Halted.{Halted}
-use Rattle.halting.specs.Halted.{Ended, Answered, Keeps, Comes}
+use Rattle.halting.specs.Halted.{refused_call, Answered, Keeps, KeepsLast, Comes}
 use Rattle.halting.specs.Again.{Refuses}
 use Rattle.halting.proofs.HaltLaws.{keeps}
 
 -- 25, and the refusals of the files
 module _ (t s : List ℕ) (n : ℕ) (next : Table → Job → HaltingOutcome) where
-  pub limit_refuses : (a : Answer) → most_steps < n → a ≡ said.refusal 25 0 0 0 → Refuses a (within_limit n t s next)
-  unfolding number
+  pub limit_refuses : (a : Answer) → most_steps < n → a ≡ said.refusal (number BudgetTooLarge) 0 0 0 → Refuses a (within_limit n t s next)
   limit_refuses a h e = record { cause = BudgetTooLarge; file = 0; place = 0; answer_is = e; outcome_is = over_limit t s n next h }
 
   pub files_refuse : n ≤ most_steps → (a : Answer) → FilesRefused t s a → Refuses a (within_limit n t s next)
   files_refuse h a (no_table c p e q) = record { cause = c; file = 1; place = p; answer_is = q; outcome_is = table_refused t s n next h c p e }
   files_refuse h a (no_job T c p e f q) = record { cause = c; file = 2; place = p; answer_is = q; outcome_is = job_refused t s n next h T e c p f }
 
--- a refusal without steps, with any state in which no term is to begin
-pub refusal_comes : (o : HaltingOutcome) (w v out : List ℕ) (h : Halted) → Refuses h.answer o → (h.state.mode ≡ 0 → ⊥) → length v ≡ length w → Comes o w out v h out
-refusal_comes o w v out h r n l = record {
-  same_length = l;
-  answer_is = refuses r.cause (number r.cause) r.file r.place 0 h.answer out refl r.answer_is ∙ ap (λ (x : HaltingOutcome). left_in out x.outcome) (sym r.outcome_is);
-  keeps = record { ended = λ m. ap (λ (x : HaltingOutcome). x.saved) r.outcome_is; halted = λ m. absurd (n m) };
-}
-
--- the same of an ended call
-pub ended_comes : (o : HaltingOutcome) (w v out : List ℕ) (a : Answer) (h : Halted) → Refuses a o → Ended a h → length v ≡ length w → Comes o w out v h out
-ended_comes o w v out a h r e l = refusal_comes o w v out h (subst (λ (x : Answer). Refuses x o) (sym e.answer_is) r) e.no_halt l
+-- a refusal without steps, whatever the work space holds
+pub refusal_comes : (o : HaltingOutcome) (v out : List ℕ) (a : Answer) (h : Halted) → Refuses a o → h ≡ refused_call a → Comes o out v h out
+unfolding KeepsLast
+refusal_comes o v out a h r e = subst (λ (x : Halted). Comes o out v x out) (sym e) (record {
+  answer_is = refuses r.cause (number r.cause) r.file r.place 0 a out refl r.answer_is ∙ ap (λ (x : HaltingOutcome). left_in out x.outcome) (sym r.outcome_is);
+  keeps = ap (λ (x : HaltingOutcome). x.saved) r.outcome_is;
+})
 
 -- a run in its last state
 pub run_comes : (t s : List ℕ) (b : ℕ) (v : List ℕ) (x : State) (first term : ℕ) (q : Reached t s b v x first term) → b ≤ most_steps → (o : HaltingOutcome) → o ≡ ran_for q.table q.job b
-    → (w out : List ℕ) (h : Halted) (u : List ℕ) → Answered x s v out h u → length v ≡ length w → Comes o w out v h u
-unfolding ran_for
-run_comes t s b v x first term q fits o e w out h u a l = record {
-  same_length = l;
+    → (out : List ℕ) (h : Halted) (u : List ℕ) → Answered x s v out h u → Comes o out v h u
+unfolding ran_for KeepsLast
+run_comes t s b v x first term q fits o e out h u a = record {
   answer_is = finish_end t s b v x first term q out h.answer u a.finishes ∙ ap (λ (y : HaltingOutcome). left_in out y.outcome) (sym e);
-  keeps = subst (λ (y : State). Keeps v y o.saved) (sym a.state_is) (subst (λ (y : HaltingOutcome). Keeps v x y.saved) (sym e) (keeps t s b v x first term q fits));
+  keeps = subst (λ (y : std.Option State). KeepsLast v y o.saved) (sym a.state_is) (subst (λ (y : HaltingOutcome). Keeps v x y.saved) (sym e) (keeps t s b v x first term q fits));
 }

@@ -1,13 +1,14 @@
 pub mod SameLaws
 pub mod ZeroLaws
 pub mod StateLaws
+pub mod SavedLaws
 pub mod HaltLaws
+pub mod CompareLaws
 pub mod ComesLaws
 pub mod FirstLaws
 pub mod AgainLaws
 pub mod GoOnLaws
 pub mod FinishLaws
-pub mod SavedLaws
 pub mod ShortLaws
 pub mod EndLaws
 pub mod EntryLaws

@@ -8,12 +8,13 @@ use native.Mathlib.Omega.{arith}
 use lib.Dec.{eqb}
 use lib.ListN.{length, take, drop, replicate, length-drop, take-append-drop}
 use lib.Seq.{length-take-le}
+use Rattle.std.specs.Cmp.Lexicographic.{pointwise}
 use Rattle.entries.specs.SavedState.{saved_size}
 use Rattle.entries.specs.Halting.{same_bytes}
 use Rattle.entries.proofs.SavedStateLaws.{zeros_length}
 use Rattle.arities.specs.Layout.{space_end}
 use Rattle.halting.specs.SavedBytes.{EndsAt, saved_bytes, all_zero}
-use Rattle.halting.proofs.SameLaws.{other_size}
+use Rattle.halting.proofs.SameLaws.{other_size, pointwise_same}
 use Rattle.halting.proofs.ZeroLaws.{and_assoc}
 
 -- two lists of two parts each
@@ -57,12 +58,12 @@ module _ (w : List ℕ) (end : ℕ) (saved : List ℕ) (ends : EndsAt end) (insi
         ∙ same_parts contents front (replicate (saved_size - length contents) 0) (drop n saved) (contents-length ∙ sym front_length)
         ∙ ap (λ (b : Bool). same_bytes contents front && b) (ap (λ (j : ℕ). same_bytes (replicate j 0) (drop n saved)) z ∙ same_zeros (drop n saved))
 
-    module _ (x : Bool) (told : x ≡ same_bytes (take (length front) (drop space_end w)) front) where
+    module _ (x : Bool) (told : x ≡ pointwise eqb contents front) where
       compared : same_bytes (saved_bytes w end) saved ≡ (x && all_zero (drop n saved))
-      compared = both ∙ ap (λ (b : Bool). b && all_zero (drop n saved)) (ap (λ (j : ℕ). same_bytes (take j (drop space_end w)) front) (sym front_length) ∙ sym told)
+      compared = both ∙ ap (λ (b : Bool). b && all_zero (drop n saved)) (sym (told ∙ pointwise_same contents front))
 
       pub same_end : x ≡ true → (r : Bool) → r ≡ all_zero (drop n saved) → r ≡ same_bytes (saved_bytes w end) saved
       same_end e r t = t ∙ sym (compared ∙ ap (λ (b : Bool). b && all_zero (drop n saved)) e)
 
-      pub other_end : x ≡ false → (r : Bool) → r ≡ false → r ≡ same_bytes (saved_bytes w end) saved
-      other_end e r t = t ∙ sym (compared ∙ ap (λ (b : Bool). b && all_zero (drop n saved)) e)
+      pub other_end : x ≡ false → x ≡ same_bytes (saved_bytes w end) saved
+      other_end e = e ∙ sym (compared ∙ ap (λ (b : Bool). b && all_zero (drop n saved)) e)

@@ -1,15 +1,14 @@
--- The second space after a call: at a halt the saved state, "bytes past them untouched".
-use Rattle.std.specs.Prelude.{ℕ, ◌≤◌, ◌≡◌, cond, List, ◌++◌, eqb, length, drop}
+-- The end of a call: what handing the saved state over is given.
+use Rattle.std.specs.Prelude.{ℕ, ◌≤◌, ◌≡◌, List, length, Option, Some}
+use Rattle.lent_frames.specs.declared.LentFrame.{LentFrame}
 use Rattle.entries.specs.SavedState.{saved_size}
-use Rattle.entries.specs.Halting.{halting_work}
+use Rattle.entries.specs.Halting.{halting_work, most_frames}
+use Rattle.machine.specs.declared.state.Mode.TheVariants as is
 use Rattle.machine.specs.declared.state.State.{State}
-use Rattle.halting.specs.SavedBytes.{EndsAt, saved_bytes}
+use Rattle.saver.specs.Save.{Halts}
 
-unfoldable pub handed : State → (end : ℕ) → (work state : List ℕ) → List ℕ
-handed s end work state = cond (eqb s.mode 0) (saved_bytes work end ++ drop saved_size state) state
-
--- what handing it over is given
-pub record HandGiven (s : State) (end : ℕ) (w state : List ℕ) : Type 0 where
+pub record HandGiven (last : Option State) (w : List ℕ) (fs : List LentFrame) (state : List ℕ) : Type 0 where
   pub space : halting_work ≤ length w
+  pub lent : most_frames ≤ length fs
   pub room : saved_size ≤ length state
-  pub ends : s.mode ≡ 0 → EndsAt end
+  pub halts : (s : State) → last ≡ Some s → s.mode ≡ is.Running → Halts w s

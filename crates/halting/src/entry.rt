@@ -3,28 +3,19 @@ ghost use Rattle.std.specs.Prelude.{◌≡◌, ◌||◌, ltb};
 ghost use Rattle.entries.specs.SavedState.{saved_size};
 ghost use Rattle.entries.specs.Halting.{halting_work, most_frames, run_halting, resume_run};
 
-use crate::again::run_again;
-use crate::finish::finish;
 use crate::first::first_run;
-use crate::go_on::go_on;
-use crate::halted::state_of;
+use crate::go_on::second_run;
 use crate::layout::{HALTING_WORK, MOST_FRAMES};
-use answers::{Answer, refusal};
-use lent_frames::{LentFrame, clear_frames};
+use answers::{Answer, File};
+use format::refusals::Cause;
+use lent_frames::LentFrame;
 use saver::layout::SAVED_SIZE;
-use saver::save::save;
 
 // Whether the work space, the frames or the second space, of so many bytes, frames and bytes, are too short.
 pub fn too_short(work: usize, frames: usize, state: usize) -> bool
     ensures { result ≡ (ltb work halting_work || ltb frames most_frames || ltb state saved_size) }
 {
-    if work < HALTING_WORK {
-        return true;
-    }
-    if frames < MOST_FRAMES {
-        return true;
-    }
-    state < SAVED_SIZE
+    work < HALTING_WORK || frames < MOST_FRAMES || state < SAVED_SIZE
 }
 
 // Runs the job's tactic in the table, within the budget: a proof file in the output space, or at a halt the saved state in the second space.
@@ -44,16 +35,13 @@ pub fn run_halting(
     ensures state { state.new ≡ (run_halting table.now job.now budget work.old frames.old out.old state.old).state }
 {
     if too_short(work.len(), frames.len(), state.len()) {
-        return refusal(29, 0, 0, 0);
+        return Answer::refused(Cause::WorkTooShort, File::Neither, 0, 0);
     }
     let h = first_run(table, job, budget, work, out);
-    let s = state_of(h);
-    let end = save(s, work, frames);
-    clear_frames(frames);
-    finish(h, end, work, state)
+    h.finish(work, frames, state)
 }
 
-// Goes on from a saved state, within the budget. The saved bytes are compared with those of the first steps run again, which are saved behind what a run uses of the work space. Each call of save leaves frames that the next one overwrites: they are cleared once, after the last.
+// Goes on from a saved state, within the budget. The saved bytes are compared with those of the first steps run again.
 pub fn resume(
     table: &[u8],
     job: &[u8],
@@ -71,14 +59,8 @@ pub fn resume(
     ensures state { state.new ≡ (resume_run table.now job.now saved.now budget work.old frames.old out.old state.old).state }
 {
     if too_short(work.len(), frames.len(), state.len()) {
-        return refusal(29, 0, 0, 0);
+        return Answer::refused(Cause::WorkTooShort, File::Neither, 0, 0);
     }
-    let h = run_again(table, job, saved, budget, work);
-    let s = state_of(h);
-    let end = save(s, work, frames);
-    let g = go_on(h, end, table, job, saved, budget, work, out);
-    let t = state_of(g);
-    let last = save(t, work, frames);
-    clear_frames(frames);
-    finish(g, last, work, state)
+    let h = second_run(table, job, saved, budget, work, frames, out);
+    h.finish(work, frames, state)
 }

@@ -1,35 +1,47 @@
 // The end of an entry that may halt.
-ghost use Rattle.std.specs.Prelude.{◌≡◌, length, replicate};
-ghost use Rattle.halting.specs.Finish.{HandGiven, handed};
+ghost use Rattle.std.specs.Prelude.{◌≡◌, List, ℕ, length, replicate};
+ghost use Rattle.std.proofs.Math.Option.{Option};
+ghost use Rattle.entries.specs.Halting.{cleared_frames, save_in};
+ghost use Rattle.halting.specs.Halted.{KeepsLast};
+ghost use Rattle.halting.specs.Finish.{HandGiven};
 
 use crate::halted::Halted;
 use answers::Answer;
 use arities::layout::SPACE_END;
-use machine::state::{RUNNING, State};
+use lent_frames::{LentFrame, clear_frames};
+use machine::state::State;
 use saver::layout::SAVED_SIZE;
+use saver::save::save;
 use words::{clear, copy_in};
 
 // At a halt the contents of the saved state are copied from the work space into the second space, and zeros behind them reach up to the size of every saved state.
-fn hand_over(s: State, end: usize, work: &[u8], state: &mut [u8])
-    requires { HandGiven s end work.now state.old }
-    ensures { state.new ≡ handed s end work.now state.old }
+fn hand_over(last: Option<State>, work: &mut [u8], frames: &mut [LentFrame], state: &mut [u8])
+    requires { HandGiven last work.old frames.old state.old }
+    ensures { (b : Option (List ℕ)) → KeepsLast work.old last b → state.new ≡ save_in state.old b }
 {
-    if s.mode == RUNNING {
-        let n = end - SPACE_END;
-        copy_in(state, 0, work, SPACE_END, n);
-        clear(&mut state[n..SAVED_SIZE]);
-    }
+    let Some(s) = last else {
+        return;
+    };
+    let Some(end) = save(s, work, frames) else {
+        return;
+    };
+    let n = end - SPACE_END;
+    copy_in(state, 0, work, SPACE_END, n);
+    clear(&mut state[n..SAVED_SIZE]);
 }
 
-// The second space, then the work space cleared.
-pub fn finish(h: Halted, end: usize, work: &mut [u8], state: &mut [u8]) -> Answer
-    requires { HandGiven h.state end work.old state.old }
-    ensures value { result ≡ h.answer }
-    ensures work_after { work.new ≡ replicate (length work.old) 0 }
-    ensures state_after { state.new ≡ handed h.state end work.old state.old }
-{
-    let s = h.state;
-    hand_over(s, end, work, state);
-    clear(work);
-    h.answer
+impl Halted {
+    // The second space; then the work space and the frames are cleared, once: each call of save leaves frames that the next one overwrites.
+    pub fn finish(self, work: &mut [u8], frames: &mut [LentFrame], state: &mut [u8]) -> Answer
+        requires { HandGiven self.state work.old frames.old state.old }
+        ensures value { result ≡ self.answer }
+        ensures work_after { work.new ≡ replicate (length work.old) 0 }
+        ensures frames_after { frames.new ≡ cleared_frames frames.old }
+        ensures state_after { (b : Option (List ℕ)) → KeepsLast work.old self.state b → state.new ≡ save_in state.old b }
+    {
+        hand_over(self.state, work, frames, state);
+        clear_frames(frames);
+        clear(work);
+        self.answer
+    }
 }

@@ -4,22 +4,22 @@ ghost use Rattle.arities.specs.Layout.{space_end};
 ghost use Rattle.entries.specs.Halting.{halting_outcome};
 ghost use Rattle.halting.specs.Halted.{Comes};
 
-use crate::halted::{Halted, answered, ended};
-use answers::refusal;
-use runner::last::{LastState, run_files};
+use crate::halted::Halted;
+use answers::{Answer, File};
+use format::refusals::Cause;
+use runner::last::run_files;
 
 // 25 before any reading, then the files and the steps.
 pub fn first_run(table: &[u8], job: &[u8], budget: u32, work: &mut [u8], out: &mut [u8]) -> Halted
     requires { space_end ≤ length work.old }
-    ensures { Comes (halting_outcome table.now job.now budget) work.old out.old work.new result out.new }
+    ensures { Comes (halting_outcome table.now job.now budget) out.old work.new result out.new }
 {
     if 16384 < budget {
-        let answer = refusal(25, 0, 0, 0);
-        return ended(answer);
+        let answer = Answer::refused(Cause::BudgetTooLarge, File::Neither, 0, 0);
+        return Halted::refused(answer);
     }
-    let last = run_files(table, job, budget as usize, work);
-    match last {
-        LastState::Refused(answer) => ended(answer),
-        LastState::Reached(s, first, term) => answered(s, first, job, term, work, out),
+    match run_files(table, job, budget as usize, work) {
+        Ok(last) => Halted::answered(last, job, work, out),
+        Err(answer) => Halted::refused(answer),
     }
 }

@@ -1,34 +1,73 @@
 // A run that goes on from a saved state.
-ghost use Rattle.entries.specs.Halting.{resume_outcome};
-ghost use Rattle.halting.specs.Halted.{Comes};
+ghost use Rattle.std.specs.Prelude.{◌≡◌, ◌≤◌, List, ℕ, length};
+ghost use Rattle.std.proofs.Math.Option.{Option};
+ghost use Rattle.entries.specs.Halting.{halting_work, most_frames, is_saved, resume_outcome};
+ghost use Rattle.arities.specs.Layout.{space_end};
+ghost use Rattle.tactics.specs.Memory.{Same};
+ghost use Rattle.saver.specs.Save.{SaveGiven};
+ghost use Rattle.halting.specs.Halted.{Keeps, Comes};
 ghost use Rattle.halting.specs.GoOn.{GoOnGiven};
 
-use crate::halted::{Halted, answered, ended};
+use crate::again::run_again;
+use crate::halted::Halted;
 use crate::same::same_state;
-use machine::state::RUNNING;
+use answers::{Answer, File};
+use format::refusals::Cause;
+use lent_frames::LentFrame;
+use machine::state::State;
+use runner::last::Reached;
 use runner::run::run_steps;
+use saver::save::save;
 
-// A call that has ended stays as it is. A halted run goes on if the saved bytes are those of its own state, whose contents stand in the work space up to a place.
-pub fn go_on(
-    h: Halted,
-    end: usize,
+// Whether saved bytes are those of a run's last state: they are compared with its own, which are saved behind what a run uses of the work space. A run that has ended has none.
+fn is_own(s: State, saved: &[u8], work: &mut [u8], frames: &mut [LentFrame]) -> bool
+    requires { SaveGiven work.old frames.old s }
+    ensures value { (b : Option (List ℕ)) → Keeps work.old s b → result ≡ is_saved b saved.now }
+    ensures kept { Same 0 space_end work.old work.new }
+{
+    match save(s, work, frames) {
+        Some(end) => same_state(work, end, saved),
+        None => false,
+    }
+}
+
+// The state is genuine if its bytes are those of the run that was run again, and then that goes on; else the answer is 30.
+fn go_on(
+    again: Reached,
     table: &[u8],
     job: &[u8],
     saved: &[u8],
     budget: u32,
     work: &mut [u8],
+    frames: &mut [LentFrame],
     out: &mut [u8],
 ) -> Halted
-    requires { GoOnGiven table.now job.now saved.now budget work.old h end }
-    ensures { Comes (resume_outcome table.now job.now saved.now budget) work.old out.old work.new result out.new }
+    requires { GoOnGiven table.now job.now saved.now budget work.old frames.old again }
+    ensures { Comes (resume_outcome table.now job.now saved.now budget) out.old work.new result out.new }
 {
-    let from = h.state;
-    if from.mode != RUNNING {
-        return h;
+    if !is_own(again.state, saved, work, frames) {
+        let answer = Answer::refused(Cause::StateNotGenuine, File::Neither, 0, 0);
+        return Halted::refused(answer);
     }
-    if same_state(work, end, saved) {
-        let s = run_steps(from, budget as usize, table, h.first, job, work);
-        return answered(s, h.first, job, h.term, work, out);
+    let state = run_steps(again.state, budget as usize, table, again.first, job, work);
+    Halted::answered(Reached { state, ..again }, job, work, out)
+}
+
+// The steps of the saved state run again, then those of the budget.
+pub fn second_run(
+    table: &[u8],
+    job: &[u8],
+    saved: &[u8],
+    budget: u32,
+    work: &mut [u8],
+    frames: &mut [LentFrame],
+    out: &mut [u8],
+) -> Halted
+    requires { (halting_work ≤ length work.old) × (most_frames ≤ length frames.old) }
+    ensures { Comes (resume_outcome table.now job.now saved.now budget) out.old work.new result out.new }
+{
+    match run_again(table, job, saved, budget, work) {
+        Ok(again) => go_on(again, table, job, saved, budget, work, frames, out),
+        Err(answer) => Halted::refused(answer),
     }
-    ended(h.answer)
 }

@@ -1,34 +1,19 @@
--- `go_on::go_on` meets its contract: by whether the call has ended, and by the comparison.
+-- `go_on::go_on` meets its contract: by the comparison.
 -- Assumes nothing.
-use Rattle.halting.proofs.GoOnLaws.{ended_end, compare_given, steps_given, other_end, answer_given, on_end}
+use Rattle.halting.proofs.GoOnLaws.{save_given, other_end, steps_given, answer_given, on_end}
 use Rattle.halting.proofs.go_on.go_on.Goals as goal
 
-pub returns-then-from-ne-RUNNING : goal.returns-then-from-ne-RUNNING
-returns-then-from-ne-RUNNING c =
-    let a = c.args in
-    ended_end a.table.now a.job.now a.saved.now a.budget a.work.now a.out.now a.h a.end c.requires c.if-from-ne-RUNNING.true
+pub is_own-requires : goal.is_own-requires
+is_own-requires c = save_given _ _ _ _ _ _ _ c.requires
 
-pub same_state-requires : goal.same_state-requires
-same_state-requires c =
-    let a = c.args in
-    compare_given a.table.now a.job.now a.saved.now a.budget a.work.now a.out.now a.h a.end c.requires c.if-from-ne-RUNNING.false
+pub returns-then-not-is_own : goal.returns-then-not-is_own
+returns-then-not-is_own c = other_end _ _ _ _ _ _ _ c.requires _ c.is_own.ensures.value c.if-not-is_own.true _ c.refused-answer.ensures _ _ _ c.refused.ensures
 
-pub run_steps-s-requires : goal.run_steps-s-requires
-run_steps-s-requires c =
-    let a = c.args in
-    steps_given a.table.now a.job.now a.saved.now a.budget a.work.now a.out.now a.h a.end c.requires c.if-from-ne-RUNNING.false
+pub run_steps-state-requires : goal.run_steps-state-requires
+run_steps-state-requires c = steps_given _ _ _ _ _ _ _ c.requires _ c.is_own.ensures.value c.if-not-is_own.false _ c.is_own.auto.work c.is_own.ensures.kept
 
 pub answered-requires : goal.answered-requires
-answered-requires c =
-    let a = c.args in
-    answer_given a.table.now a.job.now a.saved.now a.budget a.work.now a.out.now a.h a.end c.requires c.if-from-ne-RUNNING.false _ _ c.run_steps-s.ensures
-
-pub returns-then-same_state : goal.returns-then-same_state
-returns-then-same_state c =
-    let a = c.args in
-    on_end a.table.now a.job.now a.saved.now a.budget a.work.now a.out.now a.h a.end c.requires c.if-from-ne-RUNNING.false _ _ c.run_steps-s.ensures _ c.same_state.ensures c.if-same_state.true _ _ c.answered.ensures
+answered-requires c = answer_given _ _ _ _ _ _ _ c.requires _ c.is_own.ensures.value c.if-not-is_own.false _ c.is_own.auto.work c.is_own.ensures.kept _ _ c.run_steps-state.ensures
 
 pub returns : goal.returns
-returns c =
-    let a = c.args in
-    other_end a.table.now a.job.now a.saved.now a.budget a.work.now a.out.now a.h a.end c.requires c.if-from-ne-RUNNING.false _ c.same_state.ensures c.if-same_state.false _ c.ended.ensures
+returns c = on_end _ _ _ _ _ _ _ c.requires _ c.is_own.ensures.value c.if-not-is_own.false _ c.is_own.auto.work c.is_own.ensures.kept _ _ c.run_steps-state.ensures _ _ _ c.answered.ensures

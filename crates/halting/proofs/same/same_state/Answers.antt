@@ -1,8 +1,13 @@
 -- `same::same_state` meets its contract: by the size of the saved bytes, by their comparison with the contents, and by whether all others are zero.
 -- Assumes nothing.
-use mathlib.Core.Path.{refl, sym}
+use Prim.Native.Nat.{◌-◌}
+use mathlib.Core.Path.{refl, ap, ◌∙◌}
 use native.Mathlib.Omega.{arith}
-use Rattle.halting.proofs.StateLaws.{size_end, front_length, same_end, other_end}
+use lib.ListN.{drop, length-drop}
+use lib.Seq.{take_all}
+use Rattle.arities.specs.Layout.{space_end}
+use Rattle.halting.specs.SavedBytes.{all_zero}
+use Rattle.halting.proofs.StateLaws.{size_end, same_end, other_end}
 use Rattle.halting.proofs.same.same_state.Goals as goal
 
 pub returns-then-saved-ne-SAVED_SIZE : goal.returns-then-saved-ne-SAVED_SIZE
@@ -10,28 +15,13 @@ returns-then-saved-ne-SAVED_SIZE c =
     let a = c.args in
     size_end a.work.now a.end a.saved.now c.requires.0 c.requires.1 _ (λ q. omega (arith, c.if-saved-ne-SAVED_SIZE.true, q)) refl
 
-pub overflow_sub-n : goal.overflow_sub-n
-overflow_sub-n c = c.requires.0.above
-
-pub slice_bounds-same_bytes-end : goal.slice_bounds-same_bytes-end
-slice_bounds-same_bytes-end c =
+pub returns-then-eq : goal.returns-then-eq
+returns-then-eq c =
     let a = c.args in
-    sym (front_length a.work.now a.end a.saved.now c.requires.0 c.requires.1 (omega (arith, c.if-saved-ne-SAVED_SIZE.false)))
+    same_end a.work.now a.end a.saved.now c.requires.0 c.requires.1 (omega (arith, c.if-saved-ne-SAVED_SIZE.false)) _ c.eq.ensures c.if-eq.true _
+    (c.all_zero.ensures ∙ ap all_zero (take_all _ (drop (a.end - space_end) a.saved.now) (omega (arith, length-drop (a.end - space_end) a.saved.now))))
 
-pub same_bytes-same-requires : goal.same_bytes-same-requires
-same_bytes-same-requires c =
+pub returns-else-eq : goal.returns-else-eq
+returns-else-eq c =
     let a = c.args in
-    omega (arith, front_length a.work.now a.end a.saved.now c.requires.0 c.requires.1 (omega (arith, c.if-saved-ne-SAVED_SIZE.false)), c.requires.0.above, c.requires.1)
-
-pub zeros_from-requires : goal.zeros_from-requires
-zeros_from-requires c = omega (arith, c.if-saved-ne-SAVED_SIZE.false, c.requires.0.within)
-
-pub returns-then-same : goal.returns-then-same
-returns-then-same c =
-    let a = c.args in
-    same_end a.work.now a.end a.saved.now c.requires.0 c.requires.1 (omega (arith, c.if-saved-ne-SAVED_SIZE.false)) _ c.same_bytes-same.ensures c.if-same.true _ c.zeros_from.ensures
-
-pub returns : goal.returns
-returns c =
-    let a = c.args in
-    other_end a.work.now a.end a.saved.now c.requires.0 c.requires.1 (omega (arith, c.if-saved-ne-SAVED_SIZE.false)) _ c.same_bytes-same.ensures c.if-same.false _ refl
+    other_end a.work.now a.end a.saved.now c.requires.0 c.requires.1 (omega (arith, c.if-saved-ne-SAVED_SIZE.false)) _ c.eq.ensures c.if-eq.false
