@@ -8,11 +8,12 @@ use lib.ListN.{length}
 use borrow.Author.Tests.{lt-ltb, le-ltb}
 use Rattle.words.specs.Kept.{Kept}
 use Rattle.format.specs.Limits.{least_height, most_height, most_search_steps}
-use Rattle.format.specs.Refusals.{number, BudgetTooLarge, HeightOutside}
+use Rattle.format.specs.declared.refusals.Cause.TheVariants.{BudgetTooLarge, HeightOutside}
+use Rattle.format.specs.Refusals.{number}
 use Rattle.reading.specs.Waiting.{reading_room}
 use Rattle.tables.specs.Tables.{Table}
 use Rattle.index.specs.Build.{RulesIndexed, DefinitionsIndexed}
-use Rattle.whole_table.proofs.ReadLaws.{rules_next, definitions_next}
+use Rattle.index.proofs.IndexKept.{indexed_before}
 use Rattle.files.specs.declared.jobs.JobParts.{JobParts}
 use Rattle.files.specs.Jobs.{Job}
 use Rattle.search.specs.Answer.{search}
@@ -36,8 +37,8 @@ searches d b T j = search_end j (search T (suc d) b j.term j.goals)
 -- reading the job leaves the indexes
 pub indexed_read : (t : List ℕ) (first : ℕ) (w v : List ℕ) → length v ≡ length w → Kept w v 0 reading_room → RulesIndexed t first w rules_place → DefinitionsIndexed t first w definitions_place → TableIndexed t first v
 indexed_read t first w v e k r d = record {
-  rules = rules_next t w v rules_place first e 0 reading_room k (omega arith) r;
-  definitions = definitions_next t w v definitions_place first e 0 reading_room k (omega arith) d;
+  rules = (r.0, r.1, indexed_before 6 t r.0 w v rules_place 0 reading_room e k (omega arith) r.2);
+  definitions = (d.0, d.1, indexed_before 8 t d.0 w v definitions_place 0 reading_room e k (omega arith) d.2);
 }
 
 -- the limits
@@ -54,17 +55,14 @@ module _ (t s : List ℕ) (h b : ℕ) where
   unfolding search_outcome
   too_high x y z = rw (le-ltb most_search_steps b x, le-ltb h least_height y, lt-ltb most_height h z)
 
-  pub too_large_end : (o : List ℕ) (r : Answer) → most_search_steps < b → r ≡ said.refusal 25 0 0 0 → kept r o ≡ left_in o (search_outcome t s h b)
-  unfolding number
-  too_large_end o r x q = refuses BudgetTooLarge 25 no_file 0 0 r o refl q ∙ ap (left_in o) (sym (too_large x))
+  pub too_large_end : (o : List ℕ) (r : Answer) → most_search_steps < b → r ≡ said.refusal (number BudgetTooLarge) no_file 0 0 → kept r o ≡ left_in o (search_outcome t s h b)
+  too_large_end o r x q = refuses BudgetTooLarge (number BudgetTooLarge) no_file 0 0 r o refl q ∙ ap (left_in o) (sym (too_large x))
 
-  pub too_low_end : (o : List ℕ) (r : Answer) → b ≤ most_search_steps → h < least_height → r ≡ said.refusal 42 0 0 0 → kept r o ≡ left_in o (search_outcome t s h b)
-  unfolding number
-  too_low_end o r x y q = refuses HeightOutside 42 no_file 0 0 r o refl q ∙ ap (left_in o) (sym (too_low x y))
+  pub too_low_end : (o : List ℕ) (r : Answer) → b ≤ most_search_steps → h < least_height → r ≡ said.refusal (number HeightOutside) no_file 0 0 → kept r o ≡ left_in o (search_outcome t s h b)
+  too_low_end o r x y q = refuses HeightOutside (number HeightOutside) no_file 0 0 r o refl q ∙ ap (left_in o) (sym (too_low x y))
 
-  pub too_high_end : (o : List ℕ) (r : Answer) → b ≤ most_search_steps → least_height ≤ h → most_height < h → r ≡ said.refusal 42 0 0 0 → kept r o ≡ left_in o (search_outcome t s h b)
-  unfolding number
-  too_high_end o r x y z q = refuses HeightOutside 42 no_file 0 0 r o refl q ∙ ap (left_in o) (sym (too_high x y z))
+  pub too_high_end : (o : List ℕ) (r : Answer) → b ≤ most_search_steps → least_height ≤ h → most_height < h → r ≡ said.refusal (number HeightOutside) no_file 0 0 → kept r o ≡ left_in o (search_outcome t s h b)
+  too_high_end o r x y z q = refuses HeightOutside (number HeightOutside) no_file 0 0 r o refl q ∙ ap (left_in o) (sym (too_high x y z))
 
   -- a height is one more than the levels below
   pub height_end : (d : ℕ) (o : List ℕ) (x : Written) → suc d ≡ h → x ≡ left_in o (search_outcome t s (suc d) b) → x ≡ left_in o (search_outcome t s h b)

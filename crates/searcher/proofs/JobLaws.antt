@@ -7,7 +7,8 @@ use native.Mathlib.Omega.{arith}
 use lib.ListN.{length, drop}
 use lib.Seq.{paste}
 use Rattle.format.specs.declared.values.Goal.{Goal}
-use Rattle.format.specs.Refusals.{number, BudgetSpent, NoEvaluation}
+use Rattle.format.specs.declared.refusals.Cause.TheVariants.{BudgetSpent, NoEvaluation}
+use Rattle.format.specs.Refusals.{number}
 use Rattle.format.specs.Goals.{goals_at}
 use Rattle.format.specs.Terms.{Term, size, Hiproof}
 use Rattle.format.specs.Standing.{Stands}
@@ -23,7 +24,7 @@ use Rattle.hitac.proofs.ValidatesLaws.{validates_hiproof}
 use Rattle.evaluation.proofs.BigStep.{evaluates_validates}
 use Rattle.answers.specs.declared.Answer.{Answer}
 use Rattle.answers.specs.Answers as said
-use Rattle.entries.specs.Outcomes.{success}
+use Rattle.entries.specs.Outcomes.{success, no_file}
 use Rattle.entries.specs.Search.{search_end}
 use Rattle.entries.specs.Left.{kept, left_in}
 use Rattle.entries.proofs.LeftLaws.{refuses}
@@ -42,6 +43,7 @@ use Rattle.tactics.proofs.MemoryLaws.{only_copy, same_goals}
 use Rattle.tactics.proofs.SourceLaws.{from_job}
 use Rattle.tactics.proofs.JobLaws.{same_place, place_small, goals_few, goals_inside, term_place_lem, term_stands, goals_copied}
 use Rattle.tactics.proofs.EntryLaws as entry
+use Rattle.search_machine.specs.declared.state.Mode.TheVariants as is
 use Rattle.search_machine.specs.declared.state.State.{State}
 use Rattle.search_machine.specs.Layout.{arena_low, arena_end, space_end}
 use Rattle.search_machine.specs.Outlines.{waiting_outline}
@@ -53,7 +55,7 @@ use Rattle.searcher.specs.Jobs.{StartGiven, Starts, FoundHiproof, FinishGiven, F
 
 -- the first state
 abbrev start_state : (below : ℕ) → JobParts → State
-start_state below parts = record { mode = 0; level = below * 2 + 1; at = parts.term; start = arena_low; count = parts.goals; link = 0; choice = 0; arena = arena_low + parts.goals * 2; outline = 0; steps = 0 }
+start_state below parts = record { mode = is.Running; level = below * 2 + 1; at = parts.term; start = arena_low; count = parts.goals; link = 0; choice = 0; arena = arena_low + parts.goals * 2; outline = 0; steps = 0 }
 
 pub start_few : (below : ℕ) (job : List ℕ) (parts : JobParts) (w : List ℕ) → StartGiven below job parts w → (parts.goals ≤ 256) × (3 + parts.goals * 2 ≤ length job)
 start_few below job parts w q = (goals_few job q.the_job q.job_stands parts q.parts_are, goals_inside job q.the_job q.job_stands parts q.parts_are)
@@ -84,18 +86,18 @@ start_end below job parts w v q e =
 
 -- the end of a search, by the last state's mode
 module _ (job w : List ℕ) (s : State) (o : List ℕ) (r : Answer) where
-  pub spent_end : s.mode ≡ 0 → r ≡ said.refusal 24 0 0 s.steps → Finishes job w s o r o
-  unfolding search_end outcome number
+  pub spent_end : s.mode ≡ is.Running → r ≡ said.refusal (number BudgetSpent) no_file 0 s.steps → Finishes job w s o r o
+  unfolding search_end outcome
   spent_end m q table j κ st h f =
-      if_running table job w s (λ x. kept r o ≡ left_in o (search_end j (outcome s.steps x))) m (λ b t g k c i. refuses BudgetSpent 24 0 0 s.steps r o refl q) κ h
+      if_running table job w s (λ x. kept r o ≡ left_in o (search_end j (outcome s.steps x))) m (λ b t g k c i. refuses BudgetSpent (number BudgetSpent) no_file 0 s.steps r o refl q) κ h
 
-  pub none_end : (s.mode ≡ 1 → ⊥) → (s.mode ≡ 0 → ⊥) → r ≡ said.refusal 41 0 0 s.steps → Finishes job w s o r o
-  unfolding search_end outcome number
-  none_end n m q table j κ st h f =
-      if_nothing table job w s (λ x. kept r o ≡ left_in o (search_end j (outcome s.steps x))) m n (refuses NoEvaluation 41 0 0 s.steps r o refl q) κ h
+  pub none_end : s.mode ≡ is.Lost → r ≡ said.refusal (number NoEvaluation) no_file 0 s.steps → Finishes job w s o r o
+  unfolding search_end outcome
+  none_end l q table j κ st h f =
+      if_nothing table job w s (λ x. kept r o ≡ left_in o (search_end j (outcome s.steps x))) (λ m. cc (l, m)) (λ n. cc (l, n)) (refuses NoEvaluation (number NoEvaluation) no_file 0 s.steps r o refl q) κ h
 
 -- the end of a search that found an evaluation
-module _ (job : List ℕ) (term : ℕ) (w : List ℕ) (s : State) (m : s.mode ≡ 1) (q : FinishGiven job term w s) where
+module _ (job : List ℕ) (term : ℕ) (w : List ℕ) (s : State) (m : s.mode ≡ is.Gave) (q : FinishGiven job term w s) where
   -- its outline is all that stands at the beginning of the work space
   outlined : (table : List ℕ) (p : Term) (g : List Goal) (c : List M.Choice) → Gave table job w s p g [] c → Hiproof p → Outlined w s.outline space_end p
   unfolding waiting_outline

@@ -6,10 +6,10 @@ ghost use Rattle.entries.specs.Left.{kept, left_in};
 ghost use Rattle.search_machine.specs.Layout.{space_end};
 
 use crate::job::search_job;
-use answers::{Answer, refusal};
-use files::jobs::{JobRead, read_job};
+use answers::{Answer, File};
+use files::jobs::read_job;
+use format::refusals::Cause;
 use search_machine::layout::{RULES_PLACE, SPACE_END};
-use tables::fields::TableRead;
 use whole_table::read_table;
 use words::clear;
 
@@ -25,18 +25,12 @@ fn search_files(
     requires { (budget ≤ most_search_steps) × (below < 64) × (space_end ≤ length work.old) }
     ensures { kept result out.new ≡ left_in out.old (search_outcome table.now job.now (suc below) budget) }
 {
-    let read = read_table(table, work, 0, RULES_PLACE);
-    match read {
-        TableRead::Refused(number, place) => refusal(number, 1, place, 0),
-        TableRead::Read(_, _, first) => {
-            let file = read_job(job, work, 0);
-            match file {
-                JobRead::Refused(number, place) => refusal(number, 2, place, 0),
-                JobRead::Read(parts) => {
-                    search_job(table, first, job, parts, below, budget, work, out)
-                }
-            }
-        }
+    match read_table(table, work, 0, RULES_PLACE) {
+        Err(e) => Answer::refused(e.cause, File::Table, e.place, 0),
+        Ok(fields) => match read_job(job, work, 0) {
+            Err(e) => Answer::refused(e.cause, File::Other, e.place, 0),
+            Ok(parts) => search_job(table, fields.first, job, parts, below, budget, work, out),
+        },
     }
 }
 
@@ -53,13 +47,10 @@ fn search_limits(
     ensures { kept result out.new ≡ left_in out.old (search_outcome table.now job.now height budget) }
 {
     if 4096 < budget {
-        return refusal(25, 0, 0, 0);
+        return Answer::refused(Cause::BudgetTooLarge, File::Neither, 0, 0);
     }
-    if height < 1 {
-        return refusal(42, 0, 0, 0);
-    }
-    if 64 < height {
-        return refusal(42, 0, 0, 0);
+    if height < 1 || 64 < height {
+        return Answer::refused(Cause::HeightOutside, File::Neither, 0, 0);
     }
     search_files(table, job, (height - 1) as u16, budget as usize, work, out)
 }
@@ -78,7 +69,7 @@ pub fn search(
     ensures out_after { out.new ≡ (search_tactic table.now job.now height budget work.old out.old).out }
 {
     if work.len() < SPACE_END {
-        return refusal(29, 0, 0, 0);
+        return Answer::refused(Cause::WorkTooShort, File::Neither, 0, 0);
     }
     let answer = search_limits(table, job, height, budget, work, out);
     clear(work);

@@ -1,12 +1,14 @@
 // A job searched in a table that stands: its first state, its steps, and what its last state leaves in the output space.
 ghost use Rattle.std.specs.Prelude.{◌≡◌, ◌+◌, ◌*◌};
+ghost use Rattle.search_machine.specs.declared.state.Mode.TheVariants as is;
 ghost use Rattle.searcher.specs.Jobs.{StartGiven, Starts, FinishGiven, Finishes, JobGiven, JobRan};
 
-use answers::{Answer, refusal, wrote};
+use answers::{Answer, File};
 use files::jobs::JobParts;
+use format::refusals::Cause;
 use outline::write::write_outlined;
 use search_machine::layout::{ARENA_LOW, SPACE_END};
-use search_machine::state::{GAVE, RUNNING, State};
+use search_machine::state::{Mode, State};
 use search_machine::step::search_steps;
 use tactics::file::write_file;
 use words::copy_in;
@@ -18,7 +20,7 @@ fn start(below: u16, job: &[u8], parts: JobParts, work: &mut [u8]) -> State
 {
     copy_in(work, ARENA_LOW, job, 3, parts.goals * 2);
     State {
-        mode: RUNNING,
+        mode: Mode::Running,
         level: below * 2 + 1,
         at: parts.term,
         start: ARENA_LOW,
@@ -33,17 +35,17 @@ fn start(below: u16, job: &[u8], parts: JobParts, work: &mut [u8]) -> State
 
 // The answer of a search that found an evaluation: 26, or the proof file written.
 fn finish_found(s: State, job: &[u8], term: usize, work: &mut [u8], out: &mut [u8]) -> Answer
-    requires { (s.mode ≡ 1) × FinishGiven job.now term work.old s }
+    requires { (s.mode ≡ is.Gave) × FinishGiven job.now term work.old s }
     ensures { Finishes job.now work.old s out.old result out.new }
 {
     let from = write_outlined(work, s.outline, SPACE_END);
     let bytes = SPACE_END - from;
     let size = term + bytes + 3 + s.count * 2;
     if out.len() < size {
-        return refusal(26, 0, 0, s.steps);
+        return Answer::refused(Cause::OutputTooShort, File::Neither, 0, s.steps);
     }
     write_file(job, term, work, from, bytes, s.start, s.count, out);
-    wrote(size, s.steps)
+    Answer::wrote(size, s.steps)
 }
 
 // The answer of a search, by its last state.
@@ -51,13 +53,11 @@ fn finish(s: State, job: &[u8], term: usize, work: &mut [u8], out: &mut [u8]) ->
     requires { FinishGiven job.now term work.old s }
     ensures { Finishes job.now work.old s out.old result out.new }
 {
-    if s.mode == GAVE {
-        return finish_found(s, job, term, work, out);
+    match s.mode {
+        Mode::Gave => finish_found(s, job, term, work, out),
+        Mode::Running => Answer::refused(Cause::BudgetSpent, File::Neither, 0, s.steps),
+        Mode::Lost => Answer::refused(Cause::NoEvaluation, File::Neither, 0, s.steps),
     }
-    if s.mode == RUNNING {
-        return refusal(24, 0, 0, s.steps);
-    }
-    refusal(41, 0, 0, s.steps)
 }
 
 // A job that was read, in a table that was read.

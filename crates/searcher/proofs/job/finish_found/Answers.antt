@@ -1,6 +1,7 @@
 -- `job::finish_found` meets its contract: the hiproof written into the work space, then by the length of the output space.
 -- Assumes nothing.
 use native.Mathlib.Omega.{arith}
+use Rattle.format.specs.Refusals.{number}
 use Rattle.searcher.proofs.JobLaws.{write_given, finish_small, file_given, short_end, success_end}
 use Rattle.searcher.proofs.job.finish_found.Goals as goal
 
@@ -39,14 +40,15 @@ overflow_add-size-3 c =
     let p = c.requires in
     let z = finish_small a.job.now a.term a.work.now a.s p.0 p.1 _ c.write_outlined-from.result c.write_outlined-from.ensures in omega (arith, z)
 
-pub refusal-requires : goal.refusal-requires
-refusal-requires c = (omega arith, omega (arith, c.requires.1.few_steps))
+pub refused-requires : goal.refused-requires
+refused-requires c = (omega arith, omega (arith, c.requires.1.few_steps))
 
 pub returns-then-out-size : goal.returns-then-out-size
+unfolding number
 returns-then-out-size c =
     let a = c.args in
     let p = c.requires in
-    short_end a.job.now a.term a.work.now a.s p.0 p.1 _ c.write_outlined-from.result c.write_outlined-from.ensures a.out.now _ (omega (arith, c.if-out-size.true)) c.refusal.ensures
+    short_end a.job.now a.term a.work.now a.s p.0 p.1 _ c.write_outlined-from.result c.write_outlined-from.ensures a.out.now _ (omega (arith, c.if-out-size.true)) c.refused.ensures
 
 pub write_file-requires : goal.write_file-requires
 write_file-requires c =
