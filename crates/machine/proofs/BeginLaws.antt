@@ -74,9 +74,6 @@ unfolding held
 holds_none x k e = omega (arith, e)
 
 module _ (w : List ℕ) (s : State) (room : Room w s) where
-  pub lose_grown : (mode : Mode) (r : State) → r ≡ lost mode s → Grown w s w r
-  lose_grown mode r q = subst (λ (x : State). Grown w s w x) (sym q) (record { beyond = λ i b. refl; same_length = refl; one_step = refl })
-
   -- the term ends without a proof
   lose_holds : (mode : Mode) (table job : List ℕ) (π : M.Place) (t : Term) (g : List Goal) (k : List M.Frame) → Runs table job w s π t g k → Lost mode table job w (lost mode s) k
   lose_holds mode table job π t g k h = record {
@@ -94,9 +91,6 @@ module _ (w : List ℕ) (s : State) (room : Room w s) where
   }
 
   -- it fails
-  pub fail_grown : (r : State) → r ≡ failed s → Grown w s w r
-  fail_grown r q = lose_grown is.Failed r q
-
   pub fail_holds : (table job : List ℕ) (π : M.Place) (t : Term) (g : List Goal) (k : List M.Frame) (r : State) → r ≡ failed s → Runs table job w s π t g k → Holds table job w r (done outcome.failed k)
   unfolding Holds Ends
   fail_holds table job π t g k r q h = subst (λ (x : State). Holds table job w x (done outcome.failed k)) (sym q) (lose_holds is.Failed table job π t g k h)
@@ -199,54 +193,46 @@ module _ (w : List ℕ) (s : State) (room : Room w s) where
     gives_much full π g k i h =
         by_same w s.start s.count f (λ o. done (finished (held k) p o) k) g h.are same ∙ ap (λ (x : Ending). done x k) (within_over (held k) p g (omega (arith, one, full, i)))
 
-  pub id_fails : (r : State) → (s.count ≡ 1 → ⊥) → r ≡ failed s → Begins w s w r id id_next × Grown w s w r
-  id_fails r n q = (fail_begins id id_next (λ π g k h. by_none w s.start s.count one_goal (λ o. done (finished (held k) id o) k) g h.are (not_one_at w s.start _ s.count n)) r q, fail_grown r q)
+  pub id_fails : (r : State) → (s.count ≡ 1 → ⊥) → r ≡ failed s → Begins w s w r id id_next
+  id_fails r n q = fail_begins id id_next (λ π g k h. by_none w s.start s.count one_goal (λ o. done (finished (held k) id o) k) g h.are (not_one_at w s.start _ s.count n)) r q
 
-  pub id_exceeds : (r : State) → s.count ≡ 1 → most_held ≤ s.held → r ≡ exceeded s → Begins w s w r id id_next × Grown w s w r
-  id_exceeds r n full q = (exceed_begins id id_next (gives_much id one_id one_goal (same_one w s.start s.count n) full) r q, lose_grown is.Exceeded r q)
+  pub id_exceeds : (r : State) → s.count ≡ 1 → most_held ≤ s.held → r ≡ exceeded s → Begins w s w r id id_next
+  id_exceeds r n full q = exceed_begins id id_next (gives_much id one_id one_goal (same_one w s.start s.count n) full) r q
 
-  pub id_keeps : (v : List ℕ) (r : State) → s.count ≡ 1 → s.held < most_held → v ≡ put_header w s.out 17 0 → r ≡ kept s → Begins w s v r id id_next × Grown w s v r
+  pub id_keeps : (v : List ℕ) (r : State) → s.count ≡ 1 → s.held < most_held → v ≡ put_header w s.out 17 0 → r ≡ kept s → Begins w s v r id id_next
   id_keeps v r n fits q₁ q₂ =
-      (keep_begins 17 id id id_next stands_id three_id one_id fits (omega (arith, n)) (gives_back id one_id one_goal (same_one w s.start s.count n) fits) v r q₁ q₂, keep_grown 17 v r q₁ q₂)
+      keep_begins 17 id id id_next stands_id three_id one_id fits (omega (arith, n)) (gives_back id one_id one_goal (same_one w s.start s.count n) fits) v r q₁ q₂
 
-  pub empty_fails : (r : State) → (s.count ≡ 0 → ⊥) → r ≡ failed s → Begins w s w r empty empty_next × Grown w s w r
-  empty_fails r n q = (fail_begins empty empty_next (λ π g k h. by_none w s.start s.count no_goal (λ o. done (finished (held k) empty o) k) g h.are (not_none_at w s.start s.count n)) r q, fail_grown r q)
+  pub empty_fails : (r : State) → (s.count ≡ 0 → ⊥) → r ≡ failed s → Begins w s w r empty empty_next
+  empty_fails r n q = fail_begins empty empty_next (λ π g k h. by_none w s.start s.count no_goal (λ o. done (finished (held k) empty o) k) g h.are (not_none_at w s.start s.count n)) r q
 
-  pub empty_exceeds : (r : State) → s.count ≡ 0 → most_held ≤ s.held → r ≡ exceeded s → Begins w s w r empty empty_next × Grown w s w r
-  empty_exceeds r n full q = (exceed_begins empty empty_next (gives_much empty one_empty no_goal (none_at w s.start s.count n) full) r q, lose_grown is.Exceeded r q)
+  pub empty_exceeds : (r : State) → s.count ≡ 0 → most_held ≤ s.held → r ≡ exceeded s → Begins w s w r empty empty_next
+  empty_exceeds r n full q = exceed_begins empty empty_next (gives_much empty one_empty no_goal (none_at w s.start s.count n) full) r q
 
-  pub empty_keeps : (v : List ℕ) (r : State) → s.count ≡ 0 → s.held < most_held → v ≡ put_header w s.out 21 0 → r ≡ kept s → Begins w s v r empty empty_next × Grown w s v r
+  pub empty_keeps : (v : List ℕ) (r : State) → s.count ≡ 0 → s.held < most_held → v ≡ put_header w s.out 21 0 → r ≡ kept s → Begins w s v r empty empty_next
   empty_keeps v r n fits q₁ q₂ =
-      (keep_begins 21 empty empty empty_next stands_empty three_empty one_empty fits (omega (arith, n)) (gives_back empty one_empty no_goal (none_at w s.start s.count n) fits) v r q₁ q₂, keep_grown 21 v r q₁ q₂)
+      keep_begins 21 empty empty empty_next stands_empty three_empty one_empty fits (omega (arith, n)) (gives_back empty one_empty no_goal (none_at w s.start s.count n) fits) v r q₁ q₂
 
   abbrev Asserts : ℕ → List ℕ → State → Type 0
-  Asserts value v r = ((T : Table) (γ : Goal) → value ≡ γ.0 → Begins w s v r (assert γ) (assert_next T γ)) × Grown w s v r
+  Asserts value v r = (T : Table) (γ : Goal) → value ≡ γ.0 → Begins w s v r (assert γ) (assert_next T γ)
 
   pub assert_many_end : (value : ℕ) (r : State) → (s.count ≡ 1 → ⊥) → r ≡ failed s → Asserts value w r
-  assert_many_end value r n q = (
-    λ T γ e. fail_begins (assert γ) (assert_next T γ) (λ π g k h. by_none w s.start s.count (assert_gives T γ) (λ o. done (finished (held k) id o) k) g h.are (not_one_at w s.start _ s.count n)) r q,
-    fail_grown r q,
-  )
+  assert_many_end value r n q =
+      λ T γ e. fail_begins (assert γ) (assert_next T γ) (λ π g k h. by_none w s.start s.count (assert_gives T γ) (λ o. done (finished (held k) id o) k) g h.are (not_one_at w s.start _ s.count n)) r q
 
   pub assert_other_end : (value : ℕ) (r : State) → (word w s.start ≡ value → ⊥) → r ≡ failed s → Asserts value w r
-  assert_other_end value r n q = (
-    λ T γ e. fail_begins (assert γ) (assert_next T γ)
-        (λ π g k h. by_none w s.start s.count (assert_gives T γ) (λ o. done (finished (held k) id o) k) g h.are (assert_not_at w s.start T γ s.count (λ i. n (i ∙ sym e)))) r q,
-    fail_grown r q,
-  )
+  assert_other_end value r n q =
+      λ T γ e. fail_begins (assert γ) (assert_next T γ)
+      (λ π g k h. by_none w s.start s.count (assert_gives T γ) (λ o. done (finished (held k) id o) k) g h.are (assert_not_at w s.start T γ s.count (λ i. n (i ∙ sym e)))) r q
 
   pub assert_exceeds : (value : ℕ) (r : State) → s.count ≡ 1 → word w s.start ≡ value → most_held ≤ s.held → r ≡ exceeded s → Asserts value w r
-  assert_exceeds value r n i full q = (
-    λ T γ e. exceed_begins (assert γ) (assert_next T γ) (gives_much id one_id (assert_gives T γ) (assert_at w s.start T γ s.count n (i ∙ e)) full) r q,
-    lose_grown is.Exceeded r q,
-  )
+  assert_exceeds value r n i full q =
+      λ T γ e. exceed_begins (assert γ) (assert_next T γ) (gives_much id one_id (assert_gives T γ) (assert_at w s.start T γ s.count n (i ∙ e)) full) r q
 
   pub assert_end : (value : ℕ) (v : List ℕ) (r : State) → s.count ≡ 1 → word w s.start ≡ value → s.held < most_held → v ≡ put_header w s.out 17 0 → r ≡ kept s → Asserts value v r
-  assert_end value v r n i fits q₁ q₂ = (
-    λ T γ e. keep_begins 17 id (assert γ) (assert_next T γ) stands_id three_id one_id fits (omega (arith, n))
-        (gives_back id one_id (assert_gives T γ) (assert_at w s.start T γ s.count n (i ∙ e)) fits) v r q₁ q₂,
-    keep_grown 17 v r q₁ q₂,
-  )
+  assert_end value v r n i fits q₁ q₂ =
+      λ T γ e. keep_begins 17 id (assert γ) (assert_next T γ) stands_id three_id one_id fits (omega (arith, n))
+      (gives_back id one_id (assert_gives T γ) (assert_at w s.start T γ s.count n (i ∙ e)) fits) v r q₁ q₂
 
   -- a frame laid on the others: what lies before it stays
   module _ (y : List ℕ) (len : length y ≡ length w) (f : Frame) where
@@ -339,17 +325,15 @@ module _ (w : List ℕ) (s : State) (room : Room w s) where
       )
 
   abbrev Labels : ℕ → List ℕ → State → Type 0
-  Labels value v r = ((l : Label) (t : Term) → value ≡ l.0 → Begins w s v r (label l t) (label_next l t)) × Grown w s v r
+  Labels value v r = (l : Label) (t : Term) → value ≡ l.0 → Begins w s v r (label l t) (label_next l t)
 
   pub label_fails : (value : ℕ) (r : State) → (s.count ≡ 1 → ⊥) → r ≡ failed s → Labels value w r
-  label_fails value r n q = (
-    λ l t e. fail_begins (label l t) (label_next l t)
-        (λ π g k h. by_none w s.start s.count one_goal (λ o. enter o k (λ x. next (past π 5) t x (labelled (past π 5) l ∷ k))) g h.are (not_one_at w s.start _ s.count n)) r q,
-    fail_grown r q,
-  )
+  label_fails value r n q =
+      λ l t e. fail_begins (label l t) (label_next l t)
+      (λ π g k h. by_none w s.start s.count one_goal (λ o. enter o k (λ x. next (past π 5) t x (labelled (past π 5) l ∷ k))) g h.are (not_one_at w s.start _ s.count n)) r q
 
   pub label_end : (value : ℕ) (v : List ℕ) → s.count ≡ 1 → v ≡ put_frame (put_word (put_header w s.out 18 0) (s.out + 3) value) (s.top - 19) (label_frame s)
-      → Labels value v (entered s 5 s.count (s.out + 5))
+      → Labels value v (entered s 5 s.count (s.out + 5)) × Grown w s v (entered s 5 s.count (s.out + 5))
   unfolding Holds FrameIs Stands
   label_end value v n q =
       let y₁ = put_header w s.out 18 0 in
@@ -368,7 +352,7 @@ module _ (w : List ℕ) (s : State) (room : Room w s) where
       ∙ header_tag w s.out 18 0 (omega (arith, room.output_fits, room.space)) in
       let val : word z (s.out + 3) ≡ value = same_word y z 0 (s.out + 5) (s.out + 3) (λ i a b. push.kept.below i (omega (arith, room.output_fits, room.frames_low))) (omega arith) (omega arith)
       ∙ word_same y₁ (s.out + 3) value (omega (arith, l₁, room.output_fits, room.space)) in
-      subst (λ (x : List ℕ). Labels value x r) (sym q) (
+      subst (λ (x : List ℕ). Labels value x r × Grown w s x r) (sym q) (
         λ l t e table job π g k h.
             let one : label_next l t π g k ≡ next (past π 5) t g (labelled (past π 5) l ∷ k) =
             ap (λ (o : Option (List Goal)). enter o k (λ x. next (past π 5) t x (labelled (past π 5) l ∷ k))) (subst (λ (x : List Goal). one_goal x ≡ some x) h.goals.are (same_one w s.start s.count n)) in

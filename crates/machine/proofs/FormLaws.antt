@@ -38,14 +38,13 @@ use Rattle.tactics.proofs.FoundLaws.{rule_gives_lem, body_stands, body_placed}
 use Rattle.tactics.proofs.NumberLaws.{only_header, header_tag, header_head}
 use Rattle.tactics.specs.Source.{source}
 use Rattle.frames.specs.Frames.{put_frame}
-use Rattle.machine.specs.declared.state.Mode.TheVariants as is
 use Rattle.machine.specs.declared.state.State.{State}
 use Rattle.machine.specs.Shows.{GoalsIs, FrameIs, Ends, Config, next, done, Holds}
 use Rattle.machine.specs.Begun.{enter, Room, Begins, BeginsIn, failed, exceeded, entered, tensor_next, tensor_frame, atomic_next, rule_next, used, defined_next, unfolded}
 use Rattle.machine.specs.Step.{Grown}
 use Rattle.machine.proofs.KeepLaws.{kept-behind, frames_kept}
 use Rattle.machine.proofs.HeldLaws.{within-fits, within_over}
-use Rattle.machine.proofs.BeginLaws.{holds_none, place_on, fail_holds, fail_begins, fail_grown, lose_grown, exceed_begins, goals_stay, frames_stay, beyond_output, only_push, goals_under, push_here, enter-grown, enter-sizes}
+use Rattle.machine.proofs.BeginLaws.{holds_none, place_on, fail_holds, fail_begins, exceed_begins, goals_stay, frames_stay, beyond_output, only_push, goals_under, push_here, enter-grown, enter-sizes}
 
 -- the number that stands for an arity
 code_none : (o : Option ℕ) (n : ℕ) → n ≡ arity_code o → n ≡ 0 → o ≡ none
@@ -62,27 +61,23 @@ module _ (w : List ℕ) (s : State) (room : Room w s) where
 
   -- a tensor
   abbrev Tensors : ℕ → ℕ → List ℕ → State → Type 0
-  Tensors right n v r = ((o : Option ℕ) (t u : Term) → right ≡ s.at + 3 + size t → n ≡ arity_code o → Begins w s v r (tensor t u) (tensor_next o t u)) × Grown w s v r
+  Tensors right n v r = (o : Option ℕ) (t u : Term) → right ≡ s.at + 3 + size t → n ≡ arity_code o → Begins w s v r (tensor t u) (tensor_next o t u)
 
   pub tensor_without : (right n : ℕ) (r : State) → n ≡ 0 → r ≡ failed s → Tensors right n w r
-  tensor_without right n r z q = (
-    λ o t u e a. fail_begins w s room (tensor t u) (tensor_next o t u) (λ π g k h. ap (λ (x : Option ℕ). tensor_next x t u π g k) (code_none o n a z)) r q,
-    fail_grown w s room r q,
-  )
+  tensor_without right n r z q =
+      λ o t u e a. fail_begins w s room (tensor t u) (tensor_next o t u) (λ π g k h. ap (λ (x : Option ℕ). tensor_next x t u π g k) (code_none o n a z)) r q
 
   pub tensor_short : (right n : ℕ) (r : State) → (n ≡ 0 → ⊥) → s.count < n - 1 → r ≡ failed s → Tensors right n w r
-  tensor_short right n r z c q = (
-    λ o t u e a. fail_begins w s room (tensor t u) (tensor_next o t u)
-        (λ π g k h. ap (λ (x : Option ℕ). tensor_next x t u π g k) (code_some o n a z)
-        ∙ ap (λ (b : Bool). enter (cond b (some (split_at (n - 1) g)) none) k (λ p. next (past π 3) t p.left_goals (tensor_left (past π (3 + size t)) u p.right_goals ∷ k)))
-        (lt-leb (n - 1) (length g) (omega (arith, c, count_of g (h)))))
-        r q,
-    fail_grown w s room r q,
-  )
+  tensor_short right n r z c q =
+      λ o t u e a. fail_begins w s room (tensor t u) (tensor_next o t u)
+      (λ π g k h. ap (λ (x : Option ℕ). tensor_next x t u π g k) (code_some o n a z)
+      ∙ ap (λ (b : Bool). enter (cond b (some (split_at (n - 1) g)) none) k (λ p. next (past π 3) t p.left_goals (tensor_left (past π (3 + size t)) u p.right_goals ∷ k)))
+      (lt-leb (n - 1) (length g) (omega (arith, c, count_of g (h)))))
+      r q
 
   pub tensor_split : (right n : ℕ) (v : List ℕ) (r : State) → (n ≡ 0 → ⊥)
-      → ((t u : Term) → right ≡ s.at + 3 + size t → Begins w s v r (tensor t u) (tensor_next (some (n - 1)) t u)) → Grown w s v r → Tensors right n v r
-  tensor_split right n v r z b gr = (λ o t u e a. subst (λ (x : Option ℕ). Begins w s v r (tensor t u) (tensor_next x t u)) (sym (code_some o n a z)) (b t u e), gr)
+      → ((t u : Term) → right ≡ s.at + 3 + size t → Begins w s v r (tensor t u) (tensor_next (some (n - 1)) t u)) → Tensors right n v r
+  tensor_split right n v r z b = λ o t u e a. subst (λ (x : Option ℕ). Begins w s v r (tensor t u) (tensor_next x t u)) (sym (code_some o n a z)) (b t u e)
 
   pub split_end : (right n : ℕ) (v : List ℕ) → n ≤ s.count → v ≡ put_frame (put_header w s.out 20 0) (s.top - 19) (tensor_frame s right n)
       → ((t u : Term) → right ≡ s.at + 3 + size t → Begins w s v (entered s 3 n (s.out + 3)) (tensor t u) (tensor_next (some n) t u)) × Grown w s v (entered s 3 n (s.out + 3))
@@ -127,12 +122,10 @@ module _ (w : List ℕ) (s : State) (room : Room w s) where
 
   -- a rule whose field cannot be held
   pub use_exceeds : (b : List ℕ) (place n name : ℕ) (r : State) → most_held ≤ s.held → r ≡ exceeded s
-      → ((a : RuleName) → name ≡ a.0 → Begins w s w r (atomic a) (atomic_next a (some (goals_at b place n)))) × Grown w s w r
-  use_exceeds b place n name r full q = (
-    λ a e. exceed_begins w s room (atomic a) (atomic_next a (some (goals_at b place n)))
-        (λ π g k i h. ap (λ (x : Ending). done x k) (within_over (held k) (atomic a) (goals_at b place n) (omega (arith, one_atomic a, full, i)))) r q,
-    lose_grown w s room is.Exceeded r q,
-  )
+      → (a : RuleName) → name ≡ a.0 → Begins w s w r (atomic a) (atomic_next a (some (goals_at b place n)))
+  use_exceeds b place n name r full q =
+      λ a e. exceed_begins w s room (atomic a) (atomic_next a (some (goals_at b place n)))
+      (λ π g k i h. ap (λ (x : Ending). done x k) (within_over (held k) (atomic a) (goals_at b place n) (omega (arith, one_atomic a, full, i)))) r q
 
   -- a rule used
   pub use_end : (b : List ℕ) (place n name : ℕ) (y₁ y v : List ℕ) → s.held < most_held → n ≤ 8 → place + n * 2 ≤ length b
@@ -190,64 +183,54 @@ module _ (w : List ℕ) (s : State) (room : Room w s) where
   -- an atomic term
   module _ (bytes : List ℕ) (first : ℕ) (name : RuleName) where
     abbrev UsesRule : List ℕ → State → Type 0
-    UsesRule v r = ((T : Table) (a : RuleName) → TableStands bytes first T → name.0 ≡ a.0 → Begins w s v r (atomic a) (rule_next T a)) × Grown w s v r
+    UsesRule v r = (T : Table) (a : RuleName) → TableStands bytes first T → name.0 ≡ a.0 → Begins w s v r (atomic a) (rule_next T a)
 
     pub rule_fails : (r : State) → (s.count ≡ 1 → ⊥) → r ≡ failed s → UsesRule w r
-    rule_fails r c q = (
-      λ T a st e. fail_begins w s room (atomic a) (rule_next T a) (λ π g k h. by_none w s.start s.count (rule_gives T a) (λ o. done (finished (held k) (atomic a) o) k) g h.are (not_one_at w s.start _ s.count c)) r q,
-      fail_grown w s room r q,
-    )
+    rule_fails r c q =
+        λ T a st e. fail_begins w s room (atomic a) (rule_next T a) (λ π g k h. by_none w s.start s.count (rule_gives T a) (λ o. done (finished (held k) (atomic a) o) k) g h.are (not_one_at w s.start _ s.count c)) r q
 
     module _ (goal : Goal) (o : std.Option RuleFound) (c : s.count ≡ 1) (e : goal.0 ≡ word w s.start) (f : FindsRule bytes first name goal o) where
       pub rule_missing_lem : (r : State) → o ≡ None → r ≡ failed s → UsesRule w r
       unfolding rule_found
-      rule_missing_lem r m q = (
-        λ T a st i. fail_begins w s room (atomic a) (rule_next T a)
-            (λ π g k h. ap (λ (x : Option (List Goal)). done (finished (held k) (atomic a) x) k) (rule_gives_lem bytes first name goal o f w s.start s.count c e T a g st i h.are ∙ ap (λ (x : std.Option RuleFound). found_premises (rule_found bytes x)) m)) r q,
-        fail_grown w s room r q,
-      )
+      rule_missing_lem r m q =
+          λ T a st i. fail_begins w s room (atomic a) (rule_next T a)
+          (λ π g k h. ap (λ (x : Option (List Goal)). done (finished (held k) (atomic a) x) k) (rule_gives_lem bytes first name goal o f w s.start s.count c e T a g st i h.are ∙ ap (λ (x : std.Option RuleFound). found_premises (rule_found bytes x)) m)) r q
 
       module _ (rule : RuleFound) (m : o ≡ Some rule) where
-        pub rule_used : (v : List ℕ) (r : State) → ((a : RuleName) → name.0 ≡ a.0 → Begins w s v r (atomic a) (atomic_next a (some (goals_at bytes rule.place rule.count)))) → Grown w s v r → UsesRule v r
+        pub rule_used : (v : List ℕ) (r : State) → ((a : RuleName) → name.0 ≡ a.0 → Begins w s v r (atomic a) (atomic_next a (some (goals_at bytes rule.place rule.count)))) → UsesRule v r
         unfolding rule_found
-        rule_used v r b gr = (
-          λ T a st i table job π g k h. subst (λ (x : Option (List Goal)). Holds table job v r (done (finished (held k) (atomic a) x) k))
-              (sym (rule_gives_lem bytes first name goal o f w s.start s.count c e T a g st i h.goals.are ∙ ap (λ (x : std.Option RuleFound). found_premises (rule_found bytes x)) m)) (b a i table job π g k h),
-          gr,
-        )
+        rule_used v r b =
+            λ T a st i table job π g k h. subst (λ (x : Option (List Goal)). Holds table job v r (done (finished (held k) (atomic a) x) k))
+            (sym (rule_gives_lem bytes first name goal o f w s.start s.count c e T a g st i h.goals.are ∙ ap (λ (x : std.Option RuleFound). found_premises (rule_found bytes x)) m)) (b a i table job π g k h)
 
   -- a defined tactic
   module _ (bytes : List ℕ) (first : ℕ) (number : TacticNo) (o : std.Option ℕ) (f : FindsBody bytes first number o) where
     abbrev Unfolds : State → Type 0
-    Unfolds r = ((T : Table) (d : TacticNo) (job : List ℕ) → TableStands bytes first T → number.0 ≡ d.0 → BeginsIn bytes job w s w r (defined d) (defined_next T d)) × Grown w s w r
+    Unfolds r = (T : Table) (d : TacticNo) (job : List ℕ) → TableStands bytes first T → number.0 ≡ d.0 → BeginsIn bytes job w s w r (defined d) (defined_next T d)
 
     pub body_missing : (r : State) → o ≡ None → r ≡ failed s → Unfolds r
     unfolding BodyStands BodyPlaced
-    body_missing r m q = (
-      λ T d job st i π g k h. subst (λ (x : Option Term). Holds bytes job w r (enter x k (λ t. next (record { file = 0; at = body_place T d }) t g k))) (sym (body_stands bytes first number o f T d None st i m)) (fail_holds w s room bytes job π (defined d) g k r q h),
-      fail_grown w s room r q,
-    )
+    body_missing r m q =
+        λ T d job st i π g k h. subst (λ (x : Option Term). Holds bytes job w r (enter x k (λ t. next (record { file = 0; at = body_place T d }) t g k))) (sym (body_stands bytes first number o f T d None st i m)) (fail_holds w s room bytes job π (defined d) g k r q h)
 
     pub body_found : (place : ℕ) → o ≡ Some place → Unfolds (unfolded s place)
     unfolding BodyStands BodyPlaced Holds
-    body_found place m = (
-      λ T d job st i π g k h.
-          let b = body_stands bytes first number o f T d (Some place) st i m in
-          subst (λ (x : Option Term). Holds bytes job w (unfolded s place) (enter x k (λ t. next (record { file = 0; at = body_place T d }) t g k))) (sym b.1)
-          (record {
-            mode_is = refl;
-            place_is = ap (λ (x : ℕ). record { file = 0; at = x }) (body_placed bytes first number o f T d (Some place) st i m);
-            stands = b.2;
-            goals = h.goals;
-            frames = h.frames;
-            held_is = h.held_is;
-            sizes = record {
-              output_fits = omega (arith, h.sizes.output_fits);
-              held_fits = h.sizes.held_fits;
-              goals_low = h.sizes.goals_low;
-              goals_fit = h.sizes.goals_fit;
-              frames_fit = omega (arith, h.sizes.frames_fit);
-            };
-          }),
-      record { beyond = λ i b. refl; same_length = refl; one_step = refl },
-    )
+    body_found place m =
+        λ T d job st i π g k h.
+        let b = body_stands bytes first number o f T d (Some place) st i m in
+        subst (λ (x : Option Term). Holds bytes job w (unfolded s place) (enter x k (λ t. next (record { file = 0; at = body_place T d }) t g k))) (sym b.1)
+        (record {
+          mode_is = refl;
+          place_is = ap (λ (x : ℕ). record { file = 0; at = x }) (body_placed bytes first number o f T d (Some place) st i m);
+          stands = b.2;
+          goals = h.goals;
+          frames = h.frames;
+          held_is = h.held_is;
+          sizes = record {
+            output_fits = omega (arith, h.sizes.output_fits);
+            held_fits = h.sizes.held_fits;
+            goals_low = h.sizes.goals_low;
+            goals_fit = h.sizes.goals_fit;
+            frames_fit = omega (arith, h.sizes.frames_fit);
+          };
+        })

@@ -32,7 +32,7 @@ use Rattle.machine.specs.Popping.{pop, Fits, Smaller, Loaded, Joins, Popped, joi
 use Rattle.machine.proofs.KeepLaws.{kept_output, kept-behind, frames_kept}
 use Rattle.machine.proofs.WaitingLaws.{by_kind, if_proved, under, innermost}
 use Rattle.machine.proofs.HeldLaws.{within-fits, within_over}
-use Rattle.machine.proofs.PopLaws.{lost_under, leave_smaller}
+use Rattle.machine.proofs.PopLaws.{lost_under}
 
 module _ (w : List ℕ) (s : State) (f : Frame) (load : Loaded w s f) (n : f.kind ≡ 5) where
   fits : Fits w s
@@ -100,30 +100,28 @@ module _ (w : List ℕ) (s : State) (f : Frame) (load : Loaded w s f) (n : f.kin
   joined_or_not kept q p i g t h = ap (λ (b : Bool). cond b (within kept (tensor q p) (i ++ g)) (ended JoinedTooLong)) h
 
   -- too many goals
-  pub overflow_end : (r : State) → 256 < f.count + s.count → r ≡ ended_by is.Overflowed s → Popped w s w r × Smaller w s w r
+  pub overflow_end : (r : State) → 256 < f.count + s.count → r ≡ ended_by is.Overflowed s → Popped w s w r
   unfolding Ends Holds pop
   overflow_end r c o =
-      subst (λ (y : State). Popped w s w y × Smaller w s w y) (sym o) (
-        λ table job z x k h. if_beside (λ y j. Holds table job w (ended_by is.Overflowed s) (pop y j k)) table job k
-            (λ π q i p g b.
-            subst (λ (y : Ending). Ends table job w (ended_by is.Overflowed s) y k)
-            (sym (joined_or_not (held k) q p i g false (lt-leb (length (i ++ g)) 256 (omega (arith, c, counted i g b.gave b.goals)))))
-            (record { limit = overflows; lost = b.lost is.Overflowed })) z x h,
-        leave_smaller w s is.Overflowed,
+      subst (λ (y : State). Popped w s w y) (sym o) (
+      λ table job z x k h. if_beside (λ y j. Holds table job w (ended_by is.Overflowed s) (pop y j k)) table job k
+      (λ π q i p g b.
+      subst (λ (y : Ending). Ends table job w (ended_by is.Overflowed s) y k)
+      (sym (joined_or_not (held k) q p i g false (lt-leb (length (i ++ g)) 256 (omega (arith, c, counted i g b.gave b.goals)))))
+      (record { limit = overflows; lost = b.lost is.Overflowed })) z x h
       )
 
   -- not too many: a field more than may be held
-  pub exceed_end : (r : State) → f.count + s.count ≤ 256 → most_held ≤ s.held → r ≡ ended_by is.Exceeded s → Popped w s w r × Smaller w s w r
+  pub exceed_end : (r : State) → f.count + s.count ≤ 256 → most_held ≤ s.held → r ≡ ended_by is.Exceeded s → Popped w s w r
   unfolding Ends Holds pop fields
   exceed_end r c over o =
-      subst (λ (y : State). Popped w s w y × Smaller w s w y) (sym o) (
-        λ table job z x k h. if_beside (λ y j. Holds table job w (ended_by is.Exceeded s) (pop y j k)) table job k
-            (λ π q i p g b.
-            subst (λ (y : Ending). Ends table job w (ended_by is.Exceeded s) y k)
-            (sym (joined_or_not (held k) q p i g true (le-leb (length (i ++ g)) 256 (omega (arith, c, counted i g b.gave b.goals)))
-            ∙ within_over (held k) (tensor q p) (i ++ g) (omega (arith, over, b.held_is))))
-            (record { limit = exceeds; lost = b.lost is.Exceeded })) z x h,
-        leave_smaller w s is.Exceeded,
+      subst (λ (y : State). Popped w s w y) (sym o) (
+      λ table job z x k h. if_beside (λ y j. Holds table job w (ended_by is.Exceeded s) (pop y j k)) table job k
+      (λ π q i p g b.
+      subst (λ (y : Ending). Ends table job w (ended_by is.Exceeded s) y k)
+      (sym (joined_or_not (held k) q p i g true (le-leb (length (i ++ g)) 256 (omega (arith, c, counted i g b.gave b.goals)))
+      ∙ within_over (held k) (tensor q p) (i ++ g) (omega (arith, over, b.held_is))))
+      (record { limit = exceeds; lost = b.lost is.Exceeded })) z x h
       )
 
   module _ (c : f.count + s.count ≤ 256) (under-most : s.held < most_held) (y : List ℕ) (jo : Joined w y f.arena s.arena f.start f.count s.start s.count) where

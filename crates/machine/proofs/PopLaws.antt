@@ -88,14 +88,11 @@ module _ (w : List ℕ) (s : State) where
         sizes = record { output_fits = z.output_fits; held_fits = z.held_fits; goals_low = z.goals_low; goals_fit = z.goals_fit; frames_fit = z.frames_fit };
       }
 
-  pub leave_smaller : (mode : Mode) → Smaller w s w (ended_by mode s)
-  leave_smaller mode = record { beyond = λ i b. refl; same_length = refl; same_steps = refl; further = λ n. omega arith }
-
-  leave_end : (r : State) → r ≡ leave s → Popped w s w (leave s) → Popped w s w r × Smaller w s w r
-  leave_end r e p = subst (λ (x : State). Popped w s w x × Smaller w s w x) (sym e) (p, leave_smaller s.mode)
+  leave_end : (r : State) → r ≡ leave s → Popped w s w (leave s) → Popped w s w r
+  leave_end r e p = subst (λ (x : State). Popped w s w x) (sym e) p
 
   -- a limit passes every frame
-  pub ended_end : (r : State) → (s.mode ≡ is.Proved → ⊥) → (s.mode ≡ is.Failed → ⊥) → r ≡ leave s → Popped w s w r × Smaller w s w r
+  pub ended_end : (r : State) → (s.mode ≡ is.Proved → ⊥) → (s.mode ≡ is.Failed → ⊥) → r ≡ leave s → Popped w s w r
   unfolding Ends Holds
   ended_end r a b q = leave_end r q (λ table job e x k h.
       if_ended table job w s (x ∷ k) (λ y. Holds table job w (leave s) (pop y x k)) a b
@@ -103,7 +100,7 @@ module _ (w : List ℕ) (s : State) where
       (record { limit = o.limit; lost = lost_under s.mode table job x k (under table job w s (ended c) (x ∷ k) o) })) e h)
 
   module _ (f : Frame) (e : f ≡ frame_at w s.top) where
-    pub failed_end : (r : State) → s.mode ≡ is.Failed → (f.kind ≡ 6 → ⊥) → r ≡ leave s → Popped w s w r × Smaller w s w r
+    pub failed_end : (r : State) → s.mode ≡ is.Failed → (f.kind ≡ 6 → ⊥) → r ≡ leave s → Popped w s w r
     unfolding Ends Holds
     failed_end r m n q = leave_end r q (λ table job z x k h.
         if_failed table job w s (x ∷ k) (λ y. Holds table job w (leave s) (pop y x k)) m
@@ -112,33 +109,31 @@ module _ (w : List ℕ) (s : State) where
         (subst (λ (y : Mode). Lost y table job w (leave s) k) m (lost_under s.mode table job x k (under table job w s failed (x ∷ k) l)))) z h)
 
     -- the right term of an alternation, on the same goals; output, goals and fields held are what they were
-    pub alternative_end : s.mode ≡ is.Failed → f.kind ≡ 6 → Popped w s w (alternative s f) × Smaller w s w (alternative s f)
+    pub alternative_end : s.mode ≡ is.Failed → f.kind ≡ 6 → Popped w s w (alternative s f)
     unfolding Ends Holds pop FrameIs
-    alternative_end m n = (
-      λ table job z x k h.
-          if_failed table job w s (x ∷ k) (λ y. Holds table job w (alternative s f) (pop y x k)) m
-          (λ l. let i = innermost table job w s f l.from x k e l.frames in
-          by_kind (λ y. FrameIs table job w s.arena f l.from y → Holds table job w (alternative s f) (pop failed y k)) 6
-          (λ π u g t. record {
-            mode_is = refl;
-            place_is = t.4;
-            stands = t.2;
-            goals = t.3;
-            frames = i.rest;
-            held_is = i.began.held_is;
-            sizes = record {
-              output_fits = omega (arith, t.1, l.below, l.sizes.output_fits);
-              held_fits = i.began.held_fits;
-              goals_low = i.began.goals_low;
-              goals_fit = i.began.goals_fit;
-              frames_fit = omega (arith, l.sizes.frames_fit);
-            };
-          }) x (sym n ∙ i.kind) i.frame) z h,
-      record { beyond = λ i b. refl; same_length = refl; same_steps = refl; further = λ y. absurd (y refl) },
-    )
+    alternative_end m n =
+        λ table job z x k h.
+        if_failed table job w s (x ∷ k) (λ y. Holds table job w (alternative s f) (pop y x k)) m
+        (λ l. let i = innermost table job w s f l.from x k e l.frames in
+        by_kind (λ y. FrameIs table job w s.arena f l.from y → Holds table job w (alternative s f) (pop failed y k)) 6
+        (λ π u g t. record {
+          mode_is = refl;
+          place_is = t.4;
+          stands = t.2;
+          goals = t.3;
+          frames = i.rest;
+          held_is = i.began.held_is;
+          sizes = record {
+            output_fits = omega (arith, t.1, l.below, l.sizes.output_fits);
+            held_fits = i.began.held_fits;
+            goals_low = i.began.goals_low;
+            goals_fit = i.began.goals_fit;
+            frames_fit = omega (arith, l.sizes.frames_fit);
+          };
+        }) x (sym n ∙ i.kind) i.frame) z h
 
     -- "Once the left has succeeded the choice stands"
-    pub chosen_end : (r : State) → s.mode ≡ is.Proved → f.kind ≡ 6 → r ≡ leave s → Popped w s w r × Smaller w s w r
+    pub chosen_end : (r : State) → s.mode ≡ is.Proved → f.kind ≡ 6 → r ≡ leave s → Popped w s w r
     unfolding Ends Holds pop FrameIs held
     chosen_end r m n q = leave_end r q (λ table job z x k h.
         if_proved table job w s (x ∷ k) (λ y. Holds table job w (leave s) (pop y x k)) m
@@ -183,20 +178,19 @@ module _ (w : List ℕ) (s : State) where
     fits = load.fits
 
     -- one field more than may be held
-    pub exceed_end : (r : State) → most_held ≤ s.held → r ≡ ended_by is.Exceeded s → Popped w s w r × Smaller w s w r
+    pub exceed_end : (r : State) → most_held ≤ s.held → r ≡ ended_by is.Exceeded s → Popped w s w r
     unfolding Ends Holds pop held fields
     exceed_end r over q =
-        subst (λ (y : State). Popped w s w y × Smaller w s w y) (sym q) (
-          λ table job z x k h.
-              if_proved table job w s (x ∷ k) (λ y. Holds table job w (ended_by is.Exceeded s) (pop y x k)) load.mode_is
-              (λ p g a. let i = innermost table job w s f a.from x k load.frame_is a.frames in
-              let lost : Lost is.Exceeded table job w (ended_by is.Exceeded s) k = lost_under is.Exceeded table job x k (under table job w s (proved p g) (x ∷ k) a) in
-              if_closing (λ y. Proved table job w s p g (y ∷ k) → Holds table job w (ended_by is.Exceeded s) (pop (proved p g) y k))
-              (λ π l b. subst (λ (y : Ending). Ends table job w (ended_by is.Exceeded s) y k)
-              (sym (within_over (held k) (label l p) g (omega (arith, over, b.held_is)))) (record { limit = exceeds; lost = lost }))
-              (λ π t b. subst (λ (y : Ending). Ends table job w (ended_by is.Exceeded s) y k)
-              (sym (within_over (held k) (sequence t p) g (omega (arith, over, b.held_is)))) (record { limit = exceeds; lost = lost })) x i.kind a) z h,
-          leave_smaller is.Exceeded,
+        subst (λ (y : State). Popped w s w y) (sym q) (
+        λ table job z x k h.
+        if_proved table job w s (x ∷ k) (λ y. Holds table job w (ended_by is.Exceeded s) (pop y x k)) load.mode_is
+        (λ p g a. let i = innermost table job w s f a.from x k load.frame_is a.frames in
+        let lost : Lost is.Exceeded table job w (ended_by is.Exceeded s) k = lost_under is.Exceeded table job x k (under table job w s (proved p g) (x ∷ k) a) in
+        if_closing (λ y. Proved table job w s p g (y ∷ k) → Holds table job w (ended_by is.Exceeded s) (pop (proved p g) y k))
+        (λ π l b. subst (λ (y : Ending). Ends table job w (ended_by is.Exceeded s) y k)
+        (sym (within_over (held k) (label l p) g (omega (arith, over, b.held_is)))) (record { limit = exceeds; lost = lost }))
+        (λ π t b. subst (λ (y : Ending). Ends table job w (ended_by is.Exceeded s) y k)
+        (sym (within_over (held k) (sequence t p) g (omega (arith, over, b.held_is)))) (record { limit = exceeds; lost = lost })) x i.kind a) z h
         )
 
     abbrev v : List ℕ

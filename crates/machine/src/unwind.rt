@@ -129,6 +129,7 @@ impl State {
     }
 
     // A tensor's right term proved its goals: the two lists are joined and its field is closed; 22 if they are too many, 40 if one more field cannot be held.
+    #[tactic(auto, using(crate::proofs::JoinLaws::overflow_end, crate::proofs::JoinLaws::exceed_end))]
     fn join(self, work: &mut [u8], f: Frame) -> State
         requires { Loaded work.old self f × (f.kind ≡ 5) × Joins self f }
         ensures popped { Popped work.old self work.new result }

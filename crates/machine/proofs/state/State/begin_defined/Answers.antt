@@ -4,14 +4,12 @@ use mathlib.Core.Path.{refl}
 use Rattle.machine.proofs.FormLaws.{body_missing, body_found}
 use Rattle.machine.proofs.state.State.begin_defined.Goals as goal
 
-pub returns-in-None : goal.returns-in-None
-returns-in-None c =
+pub returns-in-None-clause-begun : goal.returns-in-None-clause-begun
+returns-in-None-clause-begun c =
     let a = c.args in
-    let e = body_missing a.work.now a.self c.requires.0.room a.table.now a.first a.number _ c.in-None.ensures _ refl c.lose.ensures in
-    record { begun = e.0; grown = e.1 }
+    body_missing a.work.now a.self c.requires.0.room a.table.now a.first a.number _ c.in-None.ensures _ refl c.lose.ensures
 
-pub returns-in-Some : goal.returns-in-Some
-returns-in-Some c =
+pub returns-in-Some-clause-begun : goal.returns-in-Some-clause-begun
+returns-in-Some-clause-begun c =
     let a = c.args in
-    let e = body_found a.work.now a.self c.requires.0.room a.table.now a.first a.number _ c.in-Some.ensures _ refl in
-    record { begun = e.0; grown = e.1 }
+    body_found a.work.now a.self c.requires.0.room a.table.now a.first a.number _ c.in-Some.ensures _ refl

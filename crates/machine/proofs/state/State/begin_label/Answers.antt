@@ -4,11 +4,10 @@ use native.Mathlib.Omega.{arith}
 use Rattle.machine.proofs.BeginLaws.{may_enter, label_fails, label_end}
 use Rattle.machine.proofs.state.State.begin_label.Goals as goal
 
-pub returns-then-self-ne1 : goal.returns-then-self-ne1
-returns-then-self-ne1 c =
+pub returns-then-self-ne1-clause-begun : goal.returns-then-self-ne1-clause-begun
+returns-then-self-ne1-clause-begun c =
     let a = c.args in
-    let e = label_fails a.work.now a.self c.requires.0.room a.name.0 _ c.if-self-ne1.true c.lose.ensures in
-    record { begun = e.0; grown = e.1 }
+    label_fails a.work.now a.self c.requires.0.room a.name.0 _ c.if-self-ne1.true c.lose.ensures
 
 pub enter-next-requires : goal.enter-next-requires
 enter-next-requires c = may_enter c.args.work.now c.args.self c.requires.0 5 (omega arith)

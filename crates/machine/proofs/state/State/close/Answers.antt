@@ -4,12 +4,11 @@ use native.Mathlib.Omega.{arith}
 use Rattle.machine.proofs.PopLaws.{exceed_end, close_end}
 use Rattle.machine.proofs.state.State.close.Goals as goal
 
-pub returns-then-held-gt-MOST_HELD : goal.returns-then-held-gt-MOST_HELD
-returns-then-held-gt-MOST_HELD c =
+pub returns-then-held-gt-MOST_HELD-clause-popped : goal.returns-then-held-gt-MOST_HELD-clause-popped
+returns-then-held-gt-MOST_HELD-clause-popped c =
     let a = c.args in
     let p = c.requires in
-    let e = exceed_end a.work.now a.self a.f p.0 p.1 _ (omega (arith, c.if-held-gt-MOST_HELD.true)) c.limit.ensures in
-    record { popped = e.0; smaller = e.1 }
+    exceed_end a.work.now a.self a.f p.0 p.1 _ (omega (arith, c.if-held-gt-MOST_HELD.true)) c.limit.ensures
 
 pub returns : goal.returns
 returns c =

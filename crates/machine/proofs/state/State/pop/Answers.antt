@@ -7,7 +7,5 @@ use Rattle.machine.proofs.state.State.pop.Goals as goal
 pub leave-requires : goal.leave-requires
 leave-requires c = (waiting-fits c.args.work.now c.args.self c.requires).frames_high
 
-pub returns-in_default : goal.returns-in_default
-returns-in_default c =
-    let e = ended_end c.args.work.now c.args.self _ c.in_default.not-Proved c.in_default.not-Failed c.leave.ensures in
-    record { popped = e.0; smaller = e.1 }
+pub returns-in_default-clause-popped : goal.returns-in_default-clause-popped
+returns-in_default-clause-popped c = ended_end c.args.work.now c.args.self _ c.in_default.not-Proved c.in_default.not-Failed c.leave.ensures

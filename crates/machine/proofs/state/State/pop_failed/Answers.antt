@@ -11,17 +11,15 @@ load_frame-f-requires c = let p = c.requires.1 in omega (arith, waiting_top c.ar
 pub leave-requires : goal.leave-requires
 leave-requires c = (waiting-fits c.args.work.now c.args.self c.requires.1).frames_high
 
-pub returns-then-f-ne-ALTERNATION_LEFT : goal.returns-then-f-ne-ALTERNATION_LEFT
-returns-then-f-ne-ALTERNATION_LEFT c =
+pub returns-then-f-ne-ALTERNATION_LEFT-clause-popped : goal.returns-then-f-ne-ALTERNATION_LEFT-clause-popped
+returns-then-f-ne-ALTERNATION_LEFT-clause-popped c =
     let a = c.args in
-    let e = failed_end a.work.now a.self c.load_frame-f.result c.load_frame-f.ensures _ c.requires.0 c.if-f-ne-ALTERNATION_LEFT.true c.leave.ensures in
-    record { popped = e.0; smaller = e.1 }
+    failed_end a.work.now a.self c.load_frame-f.result c.load_frame-f.ensures _ c.requires.0 c.if-f-ne-ALTERNATION_LEFT.true c.leave.ensures
 
 pub overflow_add-result : goal.overflow_add-result
 overflow_add-result c = omega (arith, waiting_top c.args.work.now c.args.self c.requires.1)
 
-pub returns : goal.returns
-returns c =
+pub returns-clause-popped : goal.returns-clause-popped
+returns-clause-popped c =
     let a = c.args in
-    let e = alternative_end a.work.now a.self c.load_frame-f.result c.load_frame-f.ensures c.requires.0 c.if-f-ne-ALTERNATION_LEFT.false in
-    record { popped = e.0; smaller = e.1 }
+    alternative_end a.work.now a.self c.load_frame-f.result c.load_frame-f.ensures c.requires.0 c.if-f-ne-ALTERNATION_LEFT.false

@@ -24,11 +24,10 @@ join-requires c =
 pub leave-requires : goal.leave-requires
 leave-requires c = (waiting-fits c.args.work.now c.args.self c.requires.1).frames_high
 
-pub returns-in-6 : goal.returns-in-6
-returns-in-6 c =
+pub returns-in-6-clause-popped : goal.returns-in-6-clause-popped
+returns-in-6-clause-popped c =
     let a = c.args in
-    let e = chosen_end a.work.now a.self c.load_frame-f.result c.load_frame-f.ensures _ c.requires.0 c.in-6.is c.leave.ensures in
-    record { popped = e.0; smaller = e.1 }
+    chosen_end a.work.now a.self c.load_frame-f.result c.load_frame-f.ensures _ c.requires.0 c.in-6.is c.leave.ensures
 
 pub close-requires : goal.close-requires
 close-requires c =

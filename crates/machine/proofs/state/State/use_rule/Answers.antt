@@ -4,11 +4,10 @@ use native.Mathlib.Omega.{arith}
 use Rattle.machine.proofs.FormLaws.{use_exceeds, use_end}
 use Rattle.machine.proofs.state.State.use_rule.Goals as goal
 
-pub returns-then-self-ge-MOST_HELD : goal.returns-then-self-ge-MOST_HELD
-returns-then-self-ge-MOST_HELD c =
+pub returns-then-self-ge-MOST_HELD-clause-begun : goal.returns-then-self-ge-MOST_HELD-clause-begun
+returns-then-self-ge-MOST_HELD-clause-begun c =
     let a = c.args in
-    let e = use_exceeds a.work.now a.self c.requires.0.room a.table.now a.rule.place a.rule.count a.name.0 _ c.if-self-ge-MOST_HELD.true c.lose.ensures in
-    record { begun = e.0; grown = e.1 }
+    use_exceeds a.work.now a.self c.requires.0.room a.table.now a.rule.place a.rule.count a.name.0 _ c.if-self-ge-MOST_HELD.true c.lose.ensures
 
 pub returns : goal.returns
 returns c =
