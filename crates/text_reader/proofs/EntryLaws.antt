@@ -1,17 +1,19 @@
 -- What the entry read_text comes to, by what the scan tells.
 -- Assumes nothing.
+use Rattle.std.specs.Prelude.{Ok, Err}
+use Rattle.std.specs.Prelude as std
 use mathlib.Core.Path.{◌≡◌, refl, sym, ap, ◌∙◌, subst}
 use mathlib.Core.List.{List, [], ◌∷◌, ◌++◌}
 use mathlib.Core.Option.{Option, none, some}
-use Prim.Native.Nat.{ℕ, ◌+◌, ◌-◌, ◌≤◌, ◌<◌}
+use Prim.Native.Nat.{ℕ, ◌+◌, ◌≤◌, ◌<◌}
 use native.Mathlib.Omega.{arith}
 use lib.ListN.{length, take, drop}
 use lib.Seq.{length-take-le}
 use borrow.Author.Tests.{lt-ltb, le-ltb}
-use borrow.Rule.Slice.PartMut.{put_mid}
 use Rattle.format.specs.Limits.{most_bytes}
-use Rattle.format.specs.Refusals.{Cause, number}
-use Rattle.format.specs.Results.{Result, gives, refused, and_then, told}
+use Rattle.format.specs.declared.refusals.Refusal.{Refusal}
+use Rattle.format.specs.Refusals.{number}
+use Rattle.format.specs.Results.{gives, refused, and_then}
 use Rattle.format.specs.Encoding.{term_bytes}
 use Rattle.format.proofs.Encoded.{length-term_bytes}
 use Rattle.files.proofs.Sizes.{size_most}
@@ -30,19 +32,19 @@ use Rattle.notation.proofs.PassingLaws.{reads-size}
 use Rattle.notation.proofs.MeetLaws.{FitsIn}
 use Rattle.notation.proofs.ReaderLaws.{Told, text_told}
 use Rattle.notation.proofs.ParseLaws.{verdict_place}
-use Rattle.text_reader.specs.declared.scan.ScanRead.{ScanRead}
-use Rattle.text_reader.specs.declared.scan.ScanRead.TheVariants as R
+use Rattle.files.proofs.ToldLaws.{answers_tell, told_value, told_cause}
+use Rattle.text_reader.specs.declared.scan.Scanned.{Scanned}
 use Rattle.text_reader.specs.Shapes.{scan_shape}
 use Rattle.text_reader.specs.MarkList.{MarksStand}
 use Rattle.text_reader.specs.Held.{frames_end, Prepared}
 use Rattle.text_reader.proofs.WholeLaws.{prepared_size}
 
 -- a part at the beginning that was lent
-pub front_placed : (size : ℕ) (o l z : List ℕ) → size ≡ length z → l ≡ z → put_mid 0 (size - 0) o l ≡ z ++ drop (length z) o
-front_placed size o l z e f = let n : size - 0 ≡ length z = omega arith in ap (λ (x : List ℕ). x ++ drop (size - 0) (drop 0 o)) f ∙ ap (λ (i : ℕ). z ++ drop i o) n
+pub front_placed : (size : ℕ) (o l z : List ℕ) → size ≡ length z → l ≡ z → l ++ drop size o ≡ z ++ drop (length z) o
+front_placed size o l z e f = λ i. f i ++ drop (e i) o
 
-pub part_length : (size : ℕ) (o : List ℕ) → size ≤ length o → size ≡ length (take (size - 0) (drop 0 o))
-part_length size o h = let e : size - 0 ≡ size = omega arith in sym (ap (λ (n : ℕ). length (take n o)) e ∙ length-take-le size o h)
+pub part_length : (size : ℕ) (o : List ℕ) → size ≤ length o → size ≡ length (take size o)
+part_length size o h = sym (length-take-le size o h)
 
 -- a text has no more marks than bytes
 with_few : (o : Option Mark) (ms : List Mark) → length (with_mark o ms) ≤ 1 + length ms
@@ -60,17 +62,6 @@ pub long_text : (text out : List ℕ) → most_bytes < length text → kept (ref
 unfolding read_text_outcome parse write_out number
 long_text text out h = rw (lt-ltb most_bytes (length text) h)
 
--- what a refusal of the scan tells
-record Refuses (text : List ℕ) (k p : ℕ) : Type 0 where
-  cause : Cause
-  is : scan start 0 text ≡ refused cause p
-  same : number cause ≡ k
-
-refuses : (text : List ℕ) (n : ℕ) (x : Result Scan) (k p : ℕ) → scan start 0 text ≡ x → scan_shape n x ≡ R.Refused k p → Refuses text k p
-unfolding scan_shape told
-refuses text n (gives σ) k p e h = let z : ◌≡◌ {A = ℕ} 0 1 = cc in absurd (omega arith)
-refuses text n (refused c q) k p e h = let a : q ≡ p = cc in record { cause = c; is = e ∙ ap (refused c) a; same = cc }
-
 -- what a success of the scan tells
 record Gives (text : List ℕ) (n count z : ℕ) : Type 0 where
   state : Scan
@@ -78,23 +69,27 @@ record Gives (text : List ℕ) (n count z : ℕ) : Type 0 where
   count_is : count ≡ n
   size_is : state.size ≡ z
 
-found_size : (text : List ℕ) (n : ℕ) (x : Result Scan) (count z : ℕ) → scan start 0 text ≡ x → scan_shape n x ≡ R.Read count z → Gives text n count z
-unfolding scan_shape told
-found_size text n (gives σ) count z e h = record { state = σ; is = e; count_is = cc; size_is = cc }
-found_size text n (refused c q) count z e h = let k : ◌≡◌ {A = ℕ} 0 1 = cc in absurd (omega arith)
-
 module _ (text : List ℕ) where
-  abbrev shape : ScanRead
+  abbrev shape : std.Result Scanned Refusal
   shape = scan_shape (length (marks_in text)) (scan start 0 text)
 
-  pub refused_place : (k p : ℕ) → shape ≡ R.Refused k p → p ≤ length text
-  refused_place k p h = let r = refuses text _ (scan start 0 text) k p refl h in verdict_place (subst (Told text) r.is (text_told text))
+  -- a refusal of the scan, and what a success of it tells
+  scan_refused : (r : Refusal) → shape ≡ Err r → scan start 0 text ≡ refused r.cause r.place
+  unfolding scan_shape
+  scan_refused r h = told_cause answers_tell (λ (σ : Scan). record { count = length (marks_in text); size = σ.size }) (scan start 0 text) r.cause r.place h
 
-  pub refused_text_lem : (out : List ℕ) (k p : ℕ) → length text ≤ most_bytes → shape ≡ R.Refused k p → kept (refusal k other_file p 0) out ≡ left_in out (read_text_outcome text)
+  scan_gives : (r : Scanned) → shape ≡ Ok r → Gives text (length (marks_in text)) r.count r.size
+  unfolding scan_shape
+  scan_gives r h =
+      let v = told_value answers_tell (λ (σ : Scan). record { count = length (marks_in text); size = σ.size }) (scan start 0 text) r h in
+      record { state = v.0; is = v.1; count_is = sym (ap (λ (t : Scanned). t.count) v.2); size_is = ap (λ (t : Scanned). t.size) v.2 }
+
+  pub refused_place : (r : Refusal) → shape ≡ Err r → r.place ≤ length text
+  refused_place r h = verdict_place (subst (Told text) (scan_refused r h) (text_told text))
+
+  pub refused_text_lem : (out : List ℕ) (r : Refusal) → length text ≤ most_bytes → shape ≡ Err r → kept (refusal (number r.cause) other_file r.place 0) out ≡ left_in out (read_text_outcome text)
   unfolding read_text_outcome parse write_out and_then
-  refused_text_lem out k p l h =
-      let r = refuses text _ (scan start 0 text) k p refl h in
-      rw (le-ltb most_bytes (length text) l, r.is, r.same) refl
+  refused_text_lem out r l h = rw (le-ltb most_bytes (length text) l, scan_refused r h)
 
   fits_prepared : {f z count : ℕ} (work : List ℕ) → FitsIn text f z → count ≡ length (marks_in text) → MarksStand work (marks_in text) count → length text ≤ most_bytes → frames_end ≤ length work → Prepared (marks_in text) work count z
   fits_prepared {f} {z} {count} work x all stand l space =
@@ -113,16 +108,16 @@ module _ (text : List ℕ) where
         short = omega (arith, size_most y.term);
       }
 
-  pub found_prepared : (work : List ℕ) (count z : ℕ) → shape ≡ R.Read count z → MarksStand work (marks_in text) count → length text ≤ most_bytes → frames_end ≤ length work → Prepared (marks_in text) work count z
-  found_prepared work count z h stand l space =
-      let g = found_size text _ (scan start 0 text) count z refl h in
+  pub found_prepared : (work : List ℕ) (r : Scanned) → shape ≡ Ok r → MarksStand work (marks_in text) r.count → length text ≤ most_bytes → frames_end ≤ length work → Prepared (marks_in text) work r.count r.size
+  found_prepared work r h stand l space =
+      let g = scan_gives r h in
       let x : FitsIn text g.state.fields g.state.size = subst (Told text) g.is (text_told text) in
-      subst (λ (n : ℕ). Prepared (marks_in text) work count n) g.size_is (fits_prepared work x g.count_is stand l space)
+      subst (λ (n : ℕ). Prepared (marks_in text) work r.count n) g.size_is (fits_prepared work x g.count_is stand l space)
 
-  pub found_text : (out work : List ℕ) (count z : ℕ) → length text ≤ most_bytes → shape ≡ R.Read count z → (p : Prepared (marks_in text) work count z) → left_in out (read_text_outcome text) ≡ left_in out (done (term_bytes p.term))
+  pub found_text : (out work : List ℕ) (r : Scanned) → length text ≤ most_bytes → shape ≡ Ok r → (p : Prepared (marks_in text) work r.count r.size) → left_in out (read_text_outcome text) ≡ left_in out (done (term_bytes p.term))
   unfolding read_text_outcome parse and_then term_found
-  found_text out work count z l h p =
-      let g = found_size text _ (scan start 0 text) count z refl h in
+  found_text out work r l h p =
+      let g = scan_gives r h in
       let f = p.found in
       rw (le-ltb most_bytes (length text) l, g.is, f) refl
 

@@ -8,7 +8,7 @@ use lib.Dec.{leb, ltb, eqb}
 use lib.ListN.{get_or}
 use borrow.Author.Tests.{eq-eqb, ne_eqb, eqb-true}
 use Rattle.format.specs.Limits.{most_term_fields}
-use Rattle.format.specs.Refusals.{LimitPassed, TextWrong}
+use Rattle.format.specs.declared.refusals.Cause.TheVariants.{LimitPassed, TextWrong}
 use Rattle.format.specs.Results.{gives, refused, and_then}
 use Rattle.words.specs.Word.{word}
 use Rattle.notation.specs.Letters.{is_digit}

@@ -2,6 +2,7 @@
 -- Assumes nothing.
 use mathlib.Core.Path.{◌≡◌, refl, sym, ap, ◌∙◌, subst}
 use mathlib.Core.Bool.{Bool, true, false}
+use mathlib.Core.Logic.{◌⊎◌, inl, inr}
 use mathlib.Core.List.{List, ◌∷◌, ◌++◌}
 use Prim.Native.Nat.{ℕ, ◌+◌, ◌*◌, ◌-◌, ◌≤◌}
 use native.Mathlib.Omega.{arith}
@@ -17,7 +18,7 @@ use Rattle.notation.specs.Passing.{mark_size, sizes}
 use Rattle.notation.specs.FromRight.{Frame, waiting, bracket, State, due, had, stuck, reduced_term, reduced_frames, unbracket, on_mark, state_of}
 use Rattle.text_reader.specs.MarkList.{MarkStands}
 use Rattle.notation.specs.Signs.{is_pair}
-use Rattle.text_reader.specs.Held.{frames_end, sign_tag, rest_bytes, waits, Stacked, ShownDue, ShownHad, Shown, NotStuck, frames_of, is_plain, MarkReady}
+use Rattle.text_reader.specs.Held.{frames_end, sign_tag, rest_bytes, waits, Stacked, ShownDue, ShownHad, Shown, NotStuck, frames_of, MarkReady}
 use Rattle.text_reader.proofs.HeldLaws.{needs, mark_size_lem, state_size, few_frames}
 use Rattle.text_reader.proofs.StoreLaws.{stacked_end, had_lengths}
 
@@ -195,23 +196,23 @@ module _ (w : List ℕ) (at k : ℕ) (first : k ≡ get_or w at 0) where
     pub bytes : term_bytes (leaf_term one) ≡ k ∷ word_bytes 0
     pub size_is : mark_size (leaf one) ≡ 3
 
-  -- by a computed test of the byte
-  not_plain : (n : ℕ) → k ≡ n → is_plain n ≡ false → is_plain k ≡ true → ⊥
-  not_plain n e f t = let b : ◌≡◌ {A = Bool} false true = sym f ∙ ap is_plain (sym e) ∙ t in let z : ◌≡◌ {A = ℕ} 0 1 = cc in omega arith
+  not_plain : (n : ℕ) → k ≡ n → (k ≡ 17) ⊎ (k ≡ 21) → (n ≡ 17 → ⊥) → (n ≡ 21 → ⊥) → ⊥
+  not_plain n e (inl p) a b = a (sym e ∙ p)
+  not_plain n e (inr p) a b = b (sym e ∙ p)
 
-  pub is_plain_lem : (m : Mark) → MarkStands w at m → is_plain k ≡ true → Plain m
-  unfolding MarkStands is_plain term_bytes mark_size
-  is_plain_lem (leaf (rule_leaf n)) h z = absurd (not_plain 16 (first ∙ h.0) refl z)
-  is_plain_lem (leaf id_leaf) h z = record { one = id_leaf; is = refl; bytes = ap (λ (i : ℕ). i ∷ word_bytes 0) (sym (first ∙ h)); size_is = refl }
-  is_plain_lem (leaf empty_leaf) h z = record { one = empty_leaf; is = refl; bytes = ap (λ (i : ℕ). i ∷ word_bytes 0) (sym (first ∙ h)); size_is = refl }
-  is_plain_lem (leaf (goal_leaf n)) h z = absurd (not_plain 23 (first ∙ h.0) refl z)
-  is_plain_lem (leaf (tactic_leaf n)) h z = absurd (not_plain 24 (first ∙ h.0) refl z)
-  is_plain_lem (label_mark n) h z = absurd (not_plain 18 (first ∙ h.0) refl z)
-  is_plain_lem (sign semicolon) h z = absurd (not_plain 19 (first ∙ h) refl z)
-  is_plain_lem (sign bar) h z = absurd (not_plain 22 (first ∙ h) refl z)
-  is_plain_lem (sign star) h z = absurd (not_plain 20 (first ∙ h) refl z)
-  is_plain_lem opening h z = absurd (not_plain 1 (first ∙ h) refl z)
-  is_plain_lem closing h z = absurd (not_plain 0 (first ∙ h) refl z)
+  pub is_plain : (m : Mark) → MarkStands w at m → (k ≡ 17) ⊎ (k ≡ 21) → Plain m
+  unfolding MarkStands term_bytes mark_size
+  is_plain (leaf (rule_leaf n)) h z = absurd (not_plain 16 (first ∙ h.0) z (λ e. omega arith) (λ e. omega arith))
+  is_plain (leaf id_leaf) h z = record { one = id_leaf; is = refl; bytes = ap (λ (i : ℕ). i ∷ word_bytes 0) (sym (first ∙ h)); size_is = refl }
+  is_plain (leaf empty_leaf) h z = record { one = empty_leaf; is = refl; bytes = ap (λ (i : ℕ). i ∷ word_bytes 0) (sym (first ∙ h)); size_is = refl }
+  is_plain (leaf (goal_leaf n)) h z = absurd (not_plain 23 (first ∙ h.0) z (λ e. omega arith) (λ e. omega arith))
+  is_plain (leaf (tactic_leaf n)) h z = absurd (not_plain 24 (first ∙ h.0) z (λ e. omega arith) (λ e. omega arith))
+  is_plain (label_mark n) h z = absurd (not_plain 18 (first ∙ h.0) z (λ e. omega arith) (λ e. omega arith))
+  is_plain (sign semicolon) h z = absurd (not_plain 19 (first ∙ h) z (λ e. omega arith) (λ e. omega arith))
+  is_plain (sign bar) h z = absurd (not_plain 22 (first ∙ h) z (λ e. omega arith) (λ e. omega arith))
+  is_plain (sign star) h z = absurd (not_plain 20 (first ∙ h) z (λ e. omega arith) (λ e. omega arith))
+  is_plain opening h z = absurd (not_plain 1 (first ∙ h) z (λ e. omega arith) (λ e. omega arith))
+  is_plain closing h z = absurd (not_plain 0 (first ∙ h) z (λ e. omega arith) (λ e. omega arith))
 
   -- a sign
   pub record Paired (m : Mark) : Type 0 where
@@ -243,25 +244,22 @@ module _ (w : List ℕ) (at k : ℕ) (first : k ≡ get_or w at 0) where
     pub bytes : term_bytes (leaf_term one) ≡ k ∷ (word_bytes 2 ++ word_bytes v)
     pub size_is : mark_size (leaf one) ≡ 5
 
-  plain_yes : (n : ℕ) → k ≡ n → is_plain n ≡ true → is_plain k ≡ false → ⊥
-  plain_yes n e f t = let b : ◌≡◌ {A = Bool} false true = sym t ∙ ap is_plain e ∙ f in let z : ◌≡◌ {A = ℕ} 0 1 = cc in omega arith
-
   pair_yes : (n : ℕ) → k ≡ n → is_pair n ≡ true → is_pair k ≡ false → ⊥
   pair_yes n e f t = let b : ◌≡◌ {A = Bool} false true = sym t ∙ ap is_pair e ∙ f in let z : ◌≡◌ {A = ℕ} 0 1 = cc in omega arith
 
   valued : (tag v n : ℕ) → tag ≡ k → n ≡ v → tag ∷ (word_bytes 2 ++ word_bytes n) ≡ k ∷ (word_bytes 2 ++ word_bytes v)
   valued tag v n e f = ap (λ (i : ℕ). i ∷ (word_bytes 2 ++ word_bytes n)) e ∙ ap (λ (i : ℕ). k ∷ (word_bytes 2 ++ word_bytes i)) f
 
-  pub is_valued : (m : Mark) (v : ℕ) → MarkStands w at m → (k ≡ 0 → ⊥) → (k ≡ 1 → ⊥) → is_plain k ≡ false → is_pair k ≡ false → (k ≡ 18 → ⊥) → v ≡ word w (at + 1) → Valued m v
-  unfolding MarkStands is_plain is_pair term_bytes mark_size
-  is_valued (leaf (rule_leaf n)) v h a b c d f e = record { one = rule_leaf n; is = refl; bytes = valued 16 v n (sym (first ∙ h.0)) (sym (e ∙ h.1)); size_is = refl }
-  is_valued (leaf id_leaf) v h a b c d f e = absurd (plain_yes 17 (first ∙ h) refl c)
-  is_valued (leaf empty_leaf) v h a b c d f e = absurd (plain_yes 21 (first ∙ h) refl c)
-  is_valued (leaf (goal_leaf n)) v h a b c d f e = record { one = goal_leaf n; is = refl; bytes = valued 23 v n (sym (first ∙ h.0)) (sym (e ∙ h.1)); size_is = refl }
-  is_valued (leaf (tactic_leaf n)) v h a b c d f e = record { one = tactic_leaf n; is = refl; bytes = valued 24 v n (sym (first ∙ h.0)) (sym (e ∙ h.1)); size_is = refl }
-  is_valued (label_mark n) v h a b c d f e = absurd (f (first ∙ h.0))
-  is_valued (sign semicolon) v h a b c d f e = absurd (pair_yes 19 (first ∙ h) refl d)
-  is_valued (sign bar) v h a b c d f e = absurd (pair_yes 22 (first ∙ h) refl d)
-  is_valued (sign star) v h a b c d f e = absurd (pair_yes 20 (first ∙ h) refl d)
-  is_valued opening v h a b c d f e = absurd (b (first ∙ h))
-  is_valued closing v h a b c d f e = absurd (a (first ∙ h))
+  pub is_valued : (m : Mark) (v : ℕ) → MarkStands w at m → (k ≡ 0 → ⊥) → (k ≡ 1 → ⊥) → (k ≡ 17 → ⊥) → (k ≡ 21 → ⊥) → is_pair k ≡ false → (k ≡ 18 → ⊥) → v ≡ word w (at + 1) → Valued m v
+  unfolding MarkStands is_pair term_bytes mark_size
+  is_valued (leaf (rule_leaf n)) v h a b p q d f e = record { one = rule_leaf n; is = refl; bytes = valued 16 v n (sym (first ∙ h.0)) (sym (e ∙ h.1)); size_is = refl }
+  is_valued (leaf id_leaf) v h a b p q d f e = absurd (p (first ∙ h))
+  is_valued (leaf empty_leaf) v h a b p q d f e = absurd (q (first ∙ h))
+  is_valued (leaf (goal_leaf n)) v h a b p q d f e = record { one = goal_leaf n; is = refl; bytes = valued 23 v n (sym (first ∙ h.0)) (sym (e ∙ h.1)); size_is = refl }
+  is_valued (leaf (tactic_leaf n)) v h a b p q d f e = record { one = tactic_leaf n; is = refl; bytes = valued 24 v n (sym (first ∙ h.0)) (sym (e ∙ h.1)); size_is = refl }
+  is_valued (label_mark n) v h a b p q d f e = absurd (f (first ∙ h.0))
+  is_valued (sign semicolon) v h a b p q d f e = absurd (pair_yes 19 (first ∙ h) refl d)
+  is_valued (sign bar) v h a b p q d f e = absurd (pair_yes 22 (first ∙ h) refl d)
+  is_valued (sign star) v h a b p q d f e = absurd (pair_yes 20 (first ∙ h) refl d)
+  is_valued opening v h a b p q d f e = absurd (b (first ∙ h))
+  is_valued closing v h a b p q d f e = absurd (a (first ∙ h))

@@ -8,12 +8,14 @@ use Prim.Native.Nat.{ℕ, ◌+◌, ◌*◌, ◌-◌, ◌≤◌, ◌<◌}
 use native.Mathlib.Decide.{dec_lt}
 use native.Mathlib.Numerals.{add-one}
 use native.Mathlib.Omega.{arith}
+use Rattle.std.specs.Char.{is_ascii_digit}
+use Rattle.std.proofs.lemmas.Bool.Decides.{nat_tests}
 use lib.Dec.{ltb}
 use lib.ListN.{length, get_or, drop, drop_of_length-le}
 use lib.Seq.{drop-cons}
 use borrow.Author.Tests.{ltb-true, ltb-false}
 use Rattle.format.specs.Results.{refused, and_then}
-use Rattle.format.specs.Refusals.{TextWrong}
+use Rattle.format.specs.declared.refusals.Cause.TheVariants.{TextWrong}
 use Rattle.notation.specs.Letters.{is_digit}
 use Rattle.notation.specs.Marks.{Mark}
 use Rattle.notation.specs.Meets.{NoDigit}
@@ -23,7 +25,7 @@ use Rattle.notation.specs.Scans.{most_value, scanned, on_due, on_had, digit_more
 use Rattle.notation.proofs.TextLaws.{digit_none}
 use Rattle.notation.proofs.MeetLaws.{digit_is}
 use Rattle.notation.proofs.ScanLaws.{mode_of}
-use Rattle.text_reader.specs.Places.{Skipped, Passed, NumeralRead}
+use Rattle.text_reader.specs.Places.{Passed, NumeralRead}
 
 -- the byte at a place, and those behind it
 pub here : (s : List ℕ) (at : ℕ) → at < length s → drop at s ≡ get_or s at 0 ∷ drop (at + 1) s
@@ -33,41 +35,19 @@ pub at_end_lem : (s : List ℕ) (at : ℕ) → length s ≤ at → drop at s ≡
 at_end_lem s at h = drop_of_length-le s h
 
 -- a blank
-blank-scan : (due : Bool) (k d f z at : ℕ) (r : List ℕ) → scan (scanned (mode_of due) k d f z) at (32 ∷ r) ≡ scan (scanned (mode_of due) k d f z) (at + 1) r
+pub blank-scan : (due : Bool) (k d f z at : ℕ) (r : List ℕ) → scan (scanned (mode_of due) k d f z) at (32 ∷ r) ≡ scan (scanned (mode_of due) k d f z) (at + 1) r
 unfolding scan step step_in on_due on_had and_then
 blank-scan true k d f z at r = refl
 blank-scan false k d f z at r = refl
 
-blank_marks : (r : List ℕ) → marks_in (32 ∷ r) ≡ marks_in r
+pub blank_marks : (r : List ℕ) → marks_in (32 ∷ r) ≡ marks_in r
 unfolding marks_in mark_at with_mark
 blank_marks r = refl
 
-at_blank : (s : List ℕ) (at : ℕ) → at < length s → get_or s at 0 ≡ 32 → drop at s ≡ 32 ∷ drop (at + 1) s
-at_blank s at h e = here s at h ∙ ap {B = List ℕ} (λ b. b ∷ drop (at + 1) s) e
-
-pub skipped_none : (s : List ℕ) (from : ℕ) → from ≤ length s → Skipped s from from
-skipped_none s from h = record { rises = omega arith; placed = h; scans = λ due k d f z. refl; marks = refl }
-
-pub skipped_more : (s : List ℕ) (from at : ℕ) → Skipped s from at → at < length s → get_or s at 0 ≡ 32 → Skipped s from (at + 1)
-skipped_more s from at x h e =
-    let up = x.rises in
-    record {
-      rises = omega arith;
-      placed = omega arith;
-      scans = λ due k d f z. x.scans due k d f z ∙ ap (scan (scanned (mode_of due) k d f z) at) (at_blank s at h e) ∙ blank-scan due k d f z at (drop (at + 1) s);
-      marks = x.marks ∙ ap marks_in (at_blank s at h e) ∙ blank_marks (drop (at + 1) s);
-    }
-
--- a blank in front of blanks
-pub skipped_first : (s : List ℕ) (at to : ℕ) → at < length s → get_or s at 0 ≡ 32 → Skipped s (at + 1) to → Skipped s at to
-skipped_first s at to h e x =
-    let up = x.rises in
-    record {
-      rises = omega arith;
-      placed = x.placed;
-      scans = λ due k d f z. ap (scan (scanned (mode_of due) k d f z) at) (at_blank s at h e) ∙ blank-scan due k d f z at (drop (at + 1) s) ∙ x.scans due k d f z;
-      marks = ap marks_in (at_blank s at h e) ∙ blank_marks (drop (at + 1) s) ∙ x.marks;
-    }
+-- the library's test of a digit is that of the notation
+pub digit_same : (b : ℕ) → is_ascii_digit b ≡ is_digit b
+unfolding is_digit
+digit_same b = grind (arith, nat_tests)
 
 -- a digit
 module _ (b : ℕ) (e : is_digit b ≡ true) where
@@ -166,13 +146,12 @@ module _ (s : List ℕ) (from v at : ℕ) (x : Passed s from v at) (h : at < len
         value = value_more;
       }
 
--- by the byte and the value that the code has
-pub passed_next : (s : List ℕ) (from v at b v' : ℕ) → Passed s from v at → at < length s → b ≡ get_or s at 0 → is_digit b ≡ true → v' ≡ digit_more v b → Passed s from v' (at + 1)
-passed_next s from v at b v' x h e digit told =
-    subst (λ (i : ℕ). Passed s from i (at + 1)) (ap (digit_more v) (sym e) ∙ sym told) (passed_more s from v at x h (ap is_digit (sym e) ∙ digit))
+-- by the value that the code has
+pub passed_next : (s : List ℕ) (from v at v' : ℕ) → Passed s from v at → at < length s → is_digit (get_or s at 0) ≡ true → v' ≡ digit_more v (get_or s at 0) → Passed s from v' (at + 1)
+passed_next s from v at v' x h digit told = subst (λ (i : ℕ). Passed s from i (at + 1)) (sym told) (passed_more s from v at x h digit)
 
-pub no_digit : (s : List ℕ) (at b : ℕ) → at < length s → b ≡ get_or s at 0 → is_digit b ≡ false → NoDigit (drop at s)
-no_digit s at b h e digit = subst NoDigit (sym (here s at h)) (ap is_digit (sym e) ∙ digit)
+pub no_digit : (s : List ℕ) (at : ℕ) → at < length s → is_digit (get_or s at 0) ≡ false → NoDigit (drop at s)
+no_digit s at h digit = subst NoDigit (sym (here s at h)) digit
 
 pub no_more : (s : List ℕ) (at : ℕ) → length s ≤ at → NoDigit (drop at s)
 no_more s at h = subst NoDigit (sym (at_end_lem s at h)) tt

@@ -122,8 +122,8 @@ module _ (t : Term) (s : Sign) (u : Term) (fs : List Frame) (w o : List ℕ) (fr
       ends_at : {end : ℕ} → end ≡ front + (size t + size u) → end + length (rest_bytes fs) ≡ length o
       ends_at e = omega (arith, lengths)
 
-pub taken_start : (n : ℕ) (t : Term) (fs : List Frame) (w o : List ℕ) (front stop low : ℕ) (more : Bool) → ShownHad t fs w o front stop low → 3 * waits fs ≤ front → more ≡ reduces_more n fs → Reduced n t fs w o front stop low more
-taken_start n t fs w o front stop low more x h m = record { term = t; frames = fs; shown = x; reduced_same = refl; left_same = refl; is_more = m; ahead = h }
+pub taken_start : (n : ℕ) (t : Term) (fs : List Frame) (w o : List ℕ) (front stop low : ℕ) → ShownHad t fs w o front stop low → 3 * waits fs ≤ front → Reduced n t fs w o front stop low
+taken_start n t fs w o front stop low x h = record { term = t; frames = fs; shown = x; reduced_same = refl; left_same = refl; ahead = h }
 
 -- where more is to be taken, the first frame is a sign
 pub record First (n : ℕ) (fs : List Frame) : Type 0 where
@@ -133,15 +133,15 @@ pub record First (n : ℕ) (fs : List Frame) : Type 0 where
   pub is : fs ≡ waiting sign term ∷ rest
   pub tight : leb n (rank sign) ≡ true
 
-pub first_of : (n : ℕ) (fs : List Frame) (more : Bool) → more ≡ reduces_more n fs → more ≡ true → First n fs
+pub first_of : (n : ℕ) (fs : List Frame) → true ≡ reduces_more n fs → First n fs
 unfolding reduces_more
-first_of n [] more m e = let z : ◌≡◌ {A = Bool} false true = sym m ∙ e in let k : ◌≡◌ {A = ℕ} 0 1 = cc in absurd (omega arith)
-first_of n (bracket ∷ fs) more m e = let z : ◌≡◌ {A = Bool} false true = sym m ∙ e in let k : ◌≡◌ {A = ℕ} 0 1 = cc in absurd (omega arith)
-first_of n (waiting s u ∷ fs) more m e = record { sign = s; term = u; rest = fs; is = refl; tight = sym m ∙ e }
+first_of n [] m = cc
+first_of n (bracket ∷ fs) m = cc
+first_of n (waiting s u ∷ fs) m = record { sign = s; term = u; rest = fs; is = refl; tight = sym m }
 
-module _ (n : ℕ) (t : Term) (fs : List Frame) (w o : List ℕ) (front stop low : ℕ) (more : Bool) (x : Reduced n t fs w o front stop low more) (e : more ≡ true) where
+module _ (n : ℕ) (t : Term) (fs : List Frame) (w o : List ℕ) (front stop low : ℕ) (x : Reduced n t fs w o front stop low) (e : true ≡ reduces_more n x.frames) where
   pub taken_first : First n x.frames
-  taken_first = first_of n x.frames more x.is_more e
+  taken_first = first_of n x.frames e
 
   pub taken_shown : ShownHad x.term (waiting taken_first.sign taken_first.term ∷ taken_first.rest) w o front stop low
   taken_shown = subst (λ (gs : List Frame). ShownHad x.term gs w o front stop low) taken_first.is x.shown
@@ -153,9 +153,9 @@ module _ (n : ℕ) (t : Term) (fs : List Frame) (w o : List ℕ) (front stop low
   pub taken_ahead : 3 ≤ front
   taken_ahead = let h = x.ahead in omega (arith, waits_first)
 
-  pub taken_next : (o' : List ℕ) (front' stop' low' : ℕ) (more' : Bool) → ShownHad (sign_term taken_first.sign x.term taken_first.term) taken_first.rest w o' front' stop' low' → front' + 3 ≡ front → more' ≡ reduces_more n taken_first.rest → Reduced n t fs w o' front' stop' low' more'
+  pub taken_next : (o' : List ℕ) (front' stop' low' : ℕ) → ShownHad (sign_term taken_first.sign x.term taken_first.term) taken_first.rest w o' front' stop' low' → front' + 3 ≡ front → Reduced n t fs w o' front' stop' low'
   unfolding reduced_term reduced_frames
-  taken_next o' front' stop' low' more' y f m =
+  taken_next o' front' stop' low' y f =
       let p = taken_first in
       let h = x.ahead in
       record {
@@ -164,7 +164,6 @@ module _ (n : ℕ) (t : Term) (fs : List Frame) (w o : List ℕ) (front stop low
         shown = y;
         reduced_same = sym (ap (λ (b : Bool). cond b (reduced_term n (sign_term p.sign x.term p.term) p.rest) x.term) p.tight) ∙ sym (ap (reduced_term n x.term) p.is) ∙ x.reduced_same;
         left_same = sym (ap (λ (b : Bool). cond b (reduced_frames n p.rest) (waiting p.sign p.term ∷ p.rest)) p.tight) ∙ sym (ap (reduced_frames n) p.is) ∙ x.left_same;
-        is_more = m;
         ahead = omega (arith, waits_first);
       }
 
@@ -174,9 +173,9 @@ none_taken n t [] e = (refl, refl)
 none_taken n t (bracket ∷ fs) e = (refl, refl)
 none_taken n t (waiting s u ∷ fs) e = (ap (λ (b : Bool). cond b (reduced_term n (sign_term s t u) fs) t) (sym e), ap (λ (b : Bool). cond b (reduced_frames n fs) (waiting s u ∷ fs)) (sym e))
 
-pub taken_all : (n : ℕ) (t : Term) (fs : List Frame) (w o : List ℕ) (front stop low : ℕ) (more : Bool) → Reduced n t fs w o front stop low more → more ≡ false → ShownHad (reduced_term n t fs) (reduced_frames n fs) w o front stop low
-taken_all n t fs w o front stop low more x e =
-    let p = none_taken n x.term x.frames (sym e ∙ x.is_more) in
+pub taken_all : (n : ℕ) (t : Term) (fs : List Frame) (w o : List ℕ) (front stop low : ℕ) (x : Reduced n t fs w o front stop low) → false ≡ reduces_more n x.frames → ShownHad (reduced_term n t fs) (reduced_frames n fs) w o front stop low
+taken_all n t fs w o front stop low x e =
+    let p = none_taken n x.term x.frames e in
     subst (λ (u : Term). ShownHad u (reduced_frames n fs) w o front stop low) (sym p.0 ∙ x.reduced_same)
     (subst (λ (gs : List Frame). ShownHad x.term gs w o front stop low) (sym p.1 ∙ x.left_same) x.shown)
 

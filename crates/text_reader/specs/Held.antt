@@ -1,5 +1,5 @@
 -- How the code holds a state of the reading from the right: the bytes of the terms at the end of the output space, and the frames at the end of the work space, three bytes each, the last met lowest.
-use Rattle.std.specs.Prelude.{ℕ, ◌+◌, ◌*◌, ◌≤◌, ◌<◌, ◌≡◌, Bool, true, false, cond, List, [], ◌∷◌, ◌++◌, eqb, leb, length, get_or, drop}
+use Rattle.std.specs.Prelude.{ℕ, ◌+◌, ◌*◌, ◌≤◌, ◌<◌, ◌≡◌, Bool, false, List, [], ◌∷◌, ◌++◌, leb, length, get_or, drop}
 use Rattle.std.proofs.Math.Option.{some}
 use Rattle.words.specs.Word.{word}
 use Rattle.format.specs.Terms.{Term}
@@ -74,18 +74,13 @@ reduces_more n (bracket ∷ fs) = false
 reduces_more n (waiting s u ∷ fs) = leb n (rank s)
 
 -- signs are taken, so far
-pub record Reduced (n : ℕ) (t : Term) (fs : List Frame) (work out : List ℕ) (front stop low : ℕ) (more : Bool) : Type 0 where
+pub record Reduced (n : ℕ) (t : Term) (fs : List Frame) (work out : List ℕ) (front stop low : ℕ) : Type 0 where
   pub term : Term
   pub frames : List Frame
   pub shown : ShownHad term frames work out front stop low
   pub reduced_same : reduced_term n term frames ≡ reduced_term n t fs
   pub left_same : reduced_frames n frames ≡ reduced_frames n fs
-  pub is_more : more ≡ reduces_more n frames
   pub ahead : 3 * waits frames ≤ front
-
--- the tags of `id` and `<>`
-unfoldable pub is_plain : ℕ → Bool
-is_plain k = cond (eqb k 17) true (eqb k 21)
 
 -- bytes below a place are as they were
 abbrev pub SameBelow : (low : ℕ) → (w w' : List ℕ) → Type 0

@@ -1,14 +1,17 @@
 -- The scan of a text in the code, mark by mark: what holds where it stands between two marks, and what brackets, a numeral and a mark come to.
-use Rattle.std.specs.Prelude.{ℕ, ◌+◌, ◌*◌, ◌≤◌, ◌<◌, ◌≡◌, Bool, cond, List, leb, length, get_or, drop}
+use Rattle.std.specs.Prelude.{ℕ, Some, None, Option, Ok, Err, ◌+◌, ◌*◌, ◌≤◌, ◌<◌, ◌≡◌, ◌⊎◌, Bool, false, cond, List, leb, length, get_or, drop}
+use Rattle.std.specs.Prelude as std
 use Rattle.format.specs.Limits.{most_term_fields}
-use Rattle.format.specs.Refusals.{Cause, number}
-use Rattle.format.specs.Results.{refused}
+use Rattle.format.specs.declared.refusals.Cause.TheVariants.{LimitPassed, TextWrong, ValueTooLarge}
+use Rattle.format.specs.declared.refusals.Refusal.{Refusal}
+use Rattle.format.specs.Results.{refused, refused_at}
 use Rattle.notation.specs.Meets.{NoDigit}
 use Rattle.notation.specs.MarksIn.{number_in, marks_in}
-use Rattle.notation.specs.Scans.{most_value, scanned, start, scan}
+use Rattle.notation.specs.Scans.{most_value, scanned, begins_numbered, is_sign, start, scan}
 use Rattle.notation.specs.Scans as M
 use Rattle.notation.proofs.ScanLaws.{mode_of}
 use Rattle.text_reader.specs.MarkList.{MarksStand}
+use Rattle.text_reader.specs.declared.scan.Numeral.{Numeral}
 use Rattle.text_reader.specs.declared.scan.ScanState.{ScanState}
 
 -- The marks before a place are in the list; those that are left are the marks of the bytes from there on.
@@ -35,38 +38,27 @@ pub record Ready (s w : List ℕ) (p : ScanState) : Type 0 where
   pub short : length s < 65536
   pub room : 3 * length s ≤ length w
 
--- the text is refused, by a cause of that number
-pub record Refuses (s : List ℕ) (told place : ℕ) : Type 0 where
-  pub cause : Cause
-  pub is : told ≡ number cause
-  pub scans : scan start 0 s ≡ refused cause place
-
 -- Behind what begins at a place: the scan stands further on, or the text is refused.
-pub record After (s w : List ℕ) (from : ℕ) (r : ScanState) : Type 0 where
-  pub goes : r.number ≡ 0 → Standing s w r
-  pub further : r.number ≡ 0 → from < r.at
-  pub refuses : (r.number ≡ 0 → ⊥) → Refuses s r.number r.place
-
-abbrev pub refusing : ScanState → (told place : ℕ) → ScanState
-refusing p told place = record { at = p.at; due = p.due; depth = p.depth; fields = p.fields; size = p.size; count = p.count; number = told; place = place }
+abbrev pub After : (s w : List ℕ) (from : ℕ) → std.Result ScanState Refusal → Type 0
+After s w from (Ok r) = Standing s w r × (from < r.at)
+After s w from (Err e) = scan start 0 s ≡ refused e.cause e.place
 
 -- A mark that makes a field is complete, and the next byte is at a place: a field too many is refused where the mark began.
-unfoldable pub completed : ScanState → (next : ℕ) → (due : Bool) → (bytes : ℕ) → ScanState
+unfoldable pub completed : ScanState → (next : ℕ) → (due : Bool) → (bytes : ℕ) → std.Result ScanState Refusal
 completed p next due bytes =
     cond (leb most_term_fields p.fields)
-    (refusing p 5 p.at)
-    (record { at = next; due = due; depth = p.depth; fields = p.fields + 1; size = p.size + bytes; count = p.count + 1; number = 0; place = 0 })
+    (refused_at LimitPassed p.at)
+    (Ok (record { at = next; due = due; depth = p.depth; fields = p.fields + 1; size = p.size + bytes; count = p.count + 1 }))
 
 -- further on, with so many brackets not closed and so many marks in the list
 abbrev pub moved_to : ScanState → (at depth count : ℕ) → ScanState
-moved_to p at depth count = record { at = at; due = p.due; depth = depth; fields = p.fields; size = p.size; count = count; number = 0; place = 0 }
+moved_to p at depth count = record { at = at; due = p.due; depth = depth; fields = p.fields; size = p.size; count = count }
 
 -- Behind blanks and brackets: the scan stands at or behind the place where it stood, and the same is due.
 pub record Moved (s w : List ℕ) (p r : ScanState) : Type 0 where
   pub standing : Standing s w r
   pub rises : p.at ≤ r.at
   pub same : r.due ≡ p.due
-  pub unrefused : r.number ≡ 0
 
 -- no blank and no bracket that opens comes next
 pub record Opened (s w : List ℕ) (p r : ScanState) : Type 0 where
@@ -79,13 +71,6 @@ pub record Closed (s w : List ℕ) (p r : ScanState) : Type 0 where
   pub moved : Moved s w p r
   pub no_blank : r.at < length s → get_or s r.at 0 ≡ 32 → ⊥
   pub no_bracket : r.at < length s → get_or s r.at 0 ≡ 41 → r.depth ≡ 0
-
--- between two places stand blanks alone
-pub record Skipped (s : List ℕ) (from to : ℕ) : Type 0 where
-  pub rises : from ≤ to
-  pub placed : to ≤ length s
-  pub scans : (due : Bool) (k d f z : ℕ) → scan (scanned (mode_of due) k d f z) from (drop from s) ≡ scan (scanned (mode_of due) k d f z) to (drop to s)
-  pub marks : marks_in (drop from s) ≡ marks_in (drop to s)
 
 -- Digits stand from one place to another, of a leaf or of a label; the value is exact where it is not too large.
 pub record Passed (s : List ℕ) (from v to : ℕ) : Type 0 where
@@ -102,11 +87,22 @@ pub record NumeralRead (s : List ℕ) (from v to : ℕ) : Type 0 where
   pub passed : Passed s from v to
   pub last : NoDigit (drop to s)
 
+-- the number behind the first byte of a mark: its value and the place behind it, or its refusal, where no digit stands and where the value is too large
+abbrev pub NumberTold : (s : List ℕ) (from : ℕ) → std.Result Numeral Refusal → Type 0
+NumberTold s from (Ok n) = NumeralRead s from n.value n.next × (n.next ≡ from → ⊥) × (n.value ≤ most_value)
+NumberTold s from (Err e) =
+    (n : Numeral) × NumeralRead s from n.value n.next × (((n.next ≡ from) × (e ≡ record { cause = TextWrong; place = from })) ⊎ ((n.next ≡ from → ⊥) × (most_value < n.value) × (e ≡ record { cause = ValueTooLarge; place = from })))
+
 -- The first byte of a leaf with a number, and the leaf's tag.
 pub data LeafByte : (first tag : ℕ) → Type 0 where
   rule : LeafByte 97 16
   goal : LeafByte 63 23
   tactic : LeafByte 84 24
+
+-- the tag of the leaf with a number that a byte begins, if it begins one
+abbrev pub LeafTag : (byte : ℕ) → Option ℕ → Type 0
+LeafTag b (Some tag) = LeafByte b tag
+LeafTag b None = begins_numbered b ≡ false
 
 -- The two bytes of a leaf without a number, and its tag.
 pub data TwoBytes : (first second tag : ℕ) → Type 0 where
@@ -118,3 +114,8 @@ pub data SignByte : (byte tag : ℕ) → Type 0 where
   semicolon : SignByte 59 19
   star : SignByte 42 20
   bar : SignByte 124 22
+
+-- the tag of a sign, if the byte is one
+abbrev pub SignTag : (byte : ℕ) → Option ℕ → Type 0
+SignTag b (Some tag) = SignByte b tag
+SignTag b None = is_sign b ≡ false

@@ -7,9 +7,10 @@ ghost use Rattle.entries.specs.Left.{left_in};
 ghost use Rattle.entries.specs.Texts.{read_text_work, read_text_outcome, read_text};
 ghost use Rattle.text_reader.specs.Held.{Prepared};
 
-use crate::scan::{ScanRead, scan_text};
+use crate::scan::{Scanned, scan_text};
 use crate::term::{FRAMES_END, write_term};
-use answers::{Answer, refusal, wrote};
+use answers::{Answer, File};
+use format::refusals::Cause;
 use parts::MOST_BYTES;
 use words::clear;
 
@@ -17,16 +18,16 @@ use words::clear;
 const WORK: usize = FRAMES_END;
 
 // The term of marks that were scanned to the end of their text, if there is room for it.
-fn write_found(count: usize, size: usize, work: &mut [u8], out: &mut [u8]) -> Answer
-    requires { (ms : List Mark) × Prepared ms work.old count size }
-    ensures answer { (ms : List Mark) (p : Prepared ms work.old count size) → result ≡ (left_in out.old (done (term_bytes p.term))).answer }
-    ensures out { (ms : List Mark) (p : Prepared ms work.old count size) → out.new ≡ (left_in out.old (done (term_bytes p.term))).out }
+fn write_found(read: Scanned, work: &mut [u8], out: &mut [u8]) -> Answer
+    requires { (ms : List Mark) × Prepared ms work.old read.count read.size }
+    ensures answer { (ms : List Mark) (p : Prepared ms work.old read.count read.size) → result ≡ (left_in out.old (done (term_bytes p.term))).answer }
+    ensures out { (ms : List Mark) (p : Prepared ms work.old read.count read.size) → out.new ≡ (left_in out.old (done (term_bytes p.term))).out }
 {
-    if out.len() < size {
-        return refusal(26, 0, 0, 0);
+    if out.len() < read.size {
+        return Answer::refused(Cause::OutputTooShort, File::Neither, 0, 0);
     }
-    write_term(count, work, &mut out[0..size]);
-    wrote(size, 0)
+    write_term(read.count, work, &mut out[..read.size]);
+    Answer::wrote(read.size, 0)
 }
 
 // The reading itself: it may leave anything in the work space.
@@ -36,12 +37,11 @@ fn read_within(text: &[u8], work: &mut [u8], out: &mut [u8]) -> Answer
     ensures out { out.new ≡ (left_in out.old (read_text_outcome text.now)).out }
 {
     if MOST_BYTES < text.len() {
-        return refusal(1, 2, 0, 0);
+        return Answer::refused(Cause::InputTooLong, File::Other, 0, 0);
     }
-    let read = scan_text(text, work);
-    match read {
-        ScanRead::Refused(number, place) => refusal(number, 2, place, 0),
-        ScanRead::Read(count, size) => write_found(count, size, work, out),
+    match scan_text(text, work) {
+        Err(r) => Answer::refused(r.cause, File::Other, r.place, 0),
+        Ok(read) => write_found(read, work, out),
     }
 }
 
@@ -52,7 +52,7 @@ pub fn read_text(text: &[u8], work: &mut [u8], out: &mut [u8]) -> Answer
     ensures out { out.new ≡ (read_text text.now work.old out.old).out }
 {
     if work.len() < WORK {
-        return refusal(29, 0, 0, 0);
+        return Answer::refused(Cause::WorkTooShort, File::Neither, 0, 0);
     }
     let answer = read_within(text, work, out);
     clear(work);

@@ -7,13 +7,18 @@ ghost use Rattle.format.specs.Encoding.{word_bytes, term_bytes};
 ghost use Rattle.notation.specs.Marks.{Sign, Mark, sign_term, label_term};
 ghost use Rattle.notation.specs.Written.{rank};
 ghost use Rattle.notation.specs.FromRight.{Frame, waiting, bracket, reduced_term, reduced_frames, unbracket, state_of};
-ghost use Rattle.text_reader.specs.Held.{frames_end, sign_tag, Stacked, ShownDue, ShownHad, Shown, NotStuck, reduces_more, waits, is_plain, SameBelow, MarkReady, Prepared};
+ghost use Rattle.text_reader.specs.Held.{frames_end, sign_tag, Stacked, ShownDue, ShownHad, Shown, NotStuck, reduces_more, waits, SameBelow, MarkReady, Prepared};
 
+use crate::scan::{CLOSING, OPENING};
+use format::tags::{EMPTY, ID, LABEL};
 use notation::signs::{is_pair, rank_of};
 use words::{load16, store16};
 
 // Where the frames end: the size of the work space.
 pub const FRAMES_END: usize = 196608;
+
+// The first byte of a bracket's frame; that of a sign's is the sign's tag.
+const BRACKET: u8 = 0;
 
 // Where the bytes written so far begin, where the term read last ends, and the lowest frame in the work space.
 #[derive(Clone, Copy)]
@@ -48,44 +53,10 @@ fn reduces_more(low: usize, least: usize, work: &[u8]) -> bool
     if FRAMES_END <= low {
         return false;
     }
-    let kind = work[low];
-    if kind == 0 {
-        return false;
+    match work[low] {
+        BRACKET => false,
+        sign => least <= rank_of(sign),
     }
-    least <= rank_of(kind)
-}
-
-// The lowest frame, a sign, with the term read last.
-fn reduce_one(held: TermState, work: &[u8], out: &mut [u8]) -> TermState
-    requires { (3 ≤ held.front) × (frames_end ≤ length work.now) × (length out.old < 65536) × ((t : Term) × (s : Sign) × (u : Term) × (fs : List Frame) × ShownHad t (waiting s u ∷ fs) work.now out.old held.front held.stop held.low) }
-    ensures shown_had { (t : Term) (s : Sign) (u : Term) (fs : List Frame) → ShownHad t (waiting s u ∷ fs) work.now out.old held.front held.stop held.low → ShownHad (sign_term s t u) fs work.now out.new result.front result.stop result.low }
-    ensures front_value { (result.front + 3 ≡ held.front) × (held.low + 3 ≡ result.low) × (result.low ≤ frames_end) }
-{
-    let front = held.front;
-    let low = held.low;
-    let kind = work[low];
-    let end = load16(work, low + 1) as usize;
-    put_header(out, front - 3, kind, end - front);
-    TermState {
-        front: front - 3,
-        stop: end,
-        low: low + 3,
-    }
-}
-
-// Every sign among the lowest frames that binds at least as tight, with the term read last.
-fn reduce(least: usize, held: TermState, work: &[u8], out: &mut [u8]) -> TermState
-    requires { (frames_end ≤ length work.now) × (length out.old < 65536) × ((t : Term) × (fs : List Frame) × ShownHad t fs work.now out.old held.front held.stop held.low × (3 * waits fs ≤ held.front)) }
-    ensures shown_had { (t : Term) (fs : List Frame) → ShownHad t fs work.now out.old held.front held.stop held.low → 3 * waits fs ≤ held.front → ShownHad (reduced_term least t fs) (reduced_frames least fs) work.now out.new result.front result.stop result.low }
-    ensures low_le_low { (held.low ≤ result.low) × (result.low ≤ frames_end) }
-{
-    let mut here = held;
-    let mut more = reduces_more(here.low, least, work);
-    while more {
-        here = reduce_one(here, work, out);
-        more = reduces_more(here.low, least, work);
-    }
-    here
 }
 
 // A sign that waits, below the other frames.
@@ -97,134 +68,137 @@ fn push(kind: u8, end: usize, low: usize, work: &mut [u8])
     store16(work, low + 1, end as u16);
 }
 
-// A term with a value: 5 bytes.
-fn put_valued(tag: u8, v: u16, held: TermState, out: &mut [u8]) -> TermState
-    requires { (5 ≤ held.front) × (held.front ≤ length out.old) }
-    ensures out_after { drop result.front out.new ≡ tag ∷ (word_bytes 2 ++ (word_bytes v ++ drop held.front out.old)) }
-    ensures front_value { (result.front + 5 ≡ held.front) × (result.stop ≡ held.front) × (result.low ≡ held.low) }
-{
-    let front = held.front;
-    put_value(out, front - 2, v);
-    put_header(out, front - 5, tag, 2);
-    TermState {
-        front: front - 5,
-        stop: front,
-        low: held.low,
+impl TermState {
+    // The lowest frame, a sign, with the term read last.
+    fn reduce_one(self, work: &[u8], out: &mut [u8]) -> TermState
+        requires { (3 ≤ self.front) × (frames_end ≤ length work.now) × (length out.old < 65536) × ((t : Term) × (s : Sign) × (u : Term) × (fs : List Frame) × ShownHad t (waiting s u ∷ fs) work.now out.old self.front self.stop self.low) }
+        ensures shown_had { (t : Term) (s : Sign) (u : Term) (fs : List Frame) → ShownHad t (waiting s u ∷ fs) work.now out.old self.front self.stop self.low → ShownHad (sign_term s t u) fs work.now out.new result.front result.stop result.low }
+        ensures front_value { (result.front + 3 ≡ self.front) × (self.low + 3 ≡ result.low) × (result.low ≤ frames_end) }
+    {
+        let front = self.front;
+        let low = self.low;
+        let kind = work[low];
+        let end = load16(work, low + 1) as usize;
+        put_header(out, front - 3, kind, end - front);
+        TermState {
+            front: front - 3,
+            stop: end,
+            low: low + 3,
+        }
     }
-}
 
-// A term without a value: 3 bytes.
-fn put_plain(tag: u8, held: TermState, out: &mut [u8]) -> TermState
-    requires { (3 ≤ held.front) × (held.front ≤ length out.old) }
-    ensures out_after { drop result.front out.new ≡ tag ∷ (word_bytes 0 ++ drop held.front out.old) }
-    ensures front_value { (result.front + 3 ≡ held.front) × (result.stop ≡ held.front) × (result.low ≡ held.low) }
-{
-    let front = held.front;
-    put_header(out, front - 3, tag, 0);
-    TermState {
-        front: front - 3,
-        stop: front,
-        low: held.low,
+    // Every sign among the lowest frames that binds at least as tight, with the term read last.
+    fn reduce(self, least: usize, work: &[u8], out: &mut [u8]) -> TermState
+        requires { (frames_end ≤ length work.now) × (length out.old < 65536) × ((t : Term) × (fs : List Frame) × ShownHad t fs work.now out.old self.front self.stop self.low × (3 * waits fs ≤ self.front)) }
+        ensures shown_had { (t : Term) (fs : List Frame) → ShownHad t fs work.now out.old self.front self.stop self.low → 3 * waits fs ≤ self.front → ShownHad (reduced_term least t fs) (reduced_frames least fs) work.now out.new result.front result.stop result.low }
+        ensures low_le_low { (self.low ≤ result.low) × (result.low ≤ frames_end) }
+    {
+        let mut here = self;
+        while reduces_more(here.low, least, work) {
+            here = here.reduce_one(work, out);
+        }
+        here
     }
-}
 
-// A label: it takes everything up to its bracket or the end.
-fn on_label(v: u16, held: TermState, work: &[u8], out: &mut [u8]) -> TermState
-    requires { (frames_end ≤ length work.now) × (length out.old < 65536) × ((t : Term) × (fs : List Frame) × ShownHad t fs work.now out.old held.front held.stop held.low × (3 * waits fs + 5 ≤ held.front)) }
-    ensures { (t : Term) (fs : List Frame) → ShownHad t fs work.now out.old held.front held.stop held.low → 3 * waits fs + 5 ≤ held.front → ShownHad (label_term v (reduced_term 0 t fs)) (reduced_frames 0 fs) work.now out.new result.front result.stop result.low }
-{
-    let here = reduce(0, held, work, out);
-    let front = here.front;
-    let len = here.stop - front + 2;
-    put_value(out, front - 2, v);
-    put_header(out, front - 5, 18, len);
-    TermState {
-        front: front - 5,
-        stop: here.stop,
-        low: here.low,
+    // A term with a value: 5 bytes.
+    fn put_valued(self, tag: u8, v: u16, out: &mut [u8]) -> TermState
+        requires { (5 ≤ self.front) × (self.front ≤ length out.old) }
+        ensures out_after { drop result.front out.new ≡ tag ∷ (word_bytes 2 ++ (word_bytes v ++ drop self.front out.old)) }
+        ensures front_value { (result.front + 5 ≡ self.front) × (result.stop ≡ self.front) × (result.low ≡ self.low) }
+    {
+        let front = self.front;
+        put_value(out, front - 2, v);
+        put_header(out, front - 5, tag, 2);
+        TermState {
+            front: front - 5,
+            stop: front,
+            ..self
+        }
     }
-}
 
-// A sign: it takes every chain to its right that binds at least as tight, and waits for what stands to its left.
-fn on_sign(tag: u8, held: TermState, work: &mut [u8], out: &mut [u8]) -> TermState
-    requires { (3 ≤ held.low) × (frames_end ≤ length work.old) × (length out.old < 65536) × ((t : Term) × (fs : List Frame) × ShownHad t fs work.old out.old held.front held.stop held.low × (3 * waits fs ≤ held.front)) }
-    ensures shown_due { (s : Sign) (t : Term) (fs : List Frame) → tag ≡ sign_tag s → ShownHad t fs work.old out.old held.front held.stop held.low → 3 * waits fs ≤ held.front → ShownDue (waiting s (reduced_term (rank s) t fs) ∷ reduced_frames (rank s) fs) work.new out.new result.front result.low }
-    ensures low_bound { (held.low ≤ result.low + 3) × SameBelow result.low work.old work.new }
-{
-    let least = rank_of(tag);
-    let here = reduce(least, held, work, out);
-    let low = here.low - 3;
-    push(tag, here.stop, low, work);
-    TermState {
-        front: here.front,
-        stop: here.stop,
-        low,
+    // A term without a value: 3 bytes.
+    fn put_plain(self, tag: u8, out: &mut [u8]) -> TermState
+        requires { (3 ≤ self.front) × (self.front ≤ length out.old) }
+        ensures out_after { drop result.front out.new ≡ tag ∷ (word_bytes 0 ++ drop self.front out.old) }
+        ensures front_value { (result.front + 3 ≡ self.front) × (result.stop ≡ self.front) × (result.low ≡ self.low) }
+    {
+        let front = self.front;
+        put_header(out, front - 3, tag, 0);
+        TermState {
+            front: front - 3,
+            stop: front,
+            ..self
+        }
     }
-}
 
-// An opening bracket: it takes everything up to its closing one, and that one away.
-fn on_opening(held: TermState, work: &[u8], out: &mut [u8]) -> TermState
-    requires { (frames_end ≤ length work.now) × (length out.old < 65536) × ((t : Term) × (fs : List Frame) × ShownHad t fs work.now out.old held.front held.stop held.low × (3 * waits fs ≤ held.front) × NotStuck (unbracket (reduced_term 0 t fs) (reduced_frames 0 fs))) }
-    ensures { (t : Term) (fs : List Frame) → ShownHad t fs work.now out.old held.front held.stop held.low → 3 * waits fs ≤ held.front → NotStuck (unbracket (reduced_term 0 t fs) (reduced_frames 0 fs)) → Shown (unbracket (reduced_term 0 t fs) (reduced_frames 0 fs)) work.now out.new result.front result.stop result.low }
-{
-    let here = reduce(0, held, work, out);
-    TermState {
-        front: here.front,
-        stop: here.stop,
-        low: here.low + 3,
+    // A label: it takes everything up to its bracket or the end.
+    fn on_label(self, v: u16, work: &[u8], out: &mut [u8]) -> TermState
+        requires { (frames_end ≤ length work.now) × (length out.old < 65536) × ((t : Term) × (fs : List Frame) × ShownHad t fs work.now out.old self.front self.stop self.low × (3 * waits fs + 5 ≤ self.front)) }
+        ensures { (t : Term) (fs : List Frame) → ShownHad t fs work.now out.old self.front self.stop self.low → 3 * waits fs + 5 ≤ self.front → ShownHad (label_term v (reduced_term 0 t fs)) (reduced_frames 0 fs) work.now out.new result.front result.stop result.low }
+    {
+        let here = self.reduce(0, work, out);
+        let front = here.front;
+        let len = here.stop - front + 2;
+        put_value(out, front - 2, v);
+        put_header(out, front - 5, LABEL, len);
+        TermState {
+            front: front - 5,
+            ..here
+        }
     }
-}
 
-// A closing bracket.
-fn on_closing(held: TermState, work: &mut [u8]) -> TermState
-    requires { (3 ≤ held.low) × (held.low ≤ frames_end) × (frames_end ≤ length work.old) }
-    ensures shown_due { (fs : List Frame) (out : List ℕ) → ShownDue fs work.old out held.front held.low → ShownDue (bracket ∷ fs) work.new out result.front result.low }
-    ensures low_value { (held.low ≡ result.low + 3) × SameBelow result.low work.old work.new }
-{
-    let low = held.low - 3;
-    work[low] = 0;
-    TermState {
-        front: held.front,
-        stop: held.stop,
-        low,
+    // A sign: it takes every chain to its right that binds at least as tight, and waits for what stands to its left.
+    fn on_sign(self, tag: u8, work: &mut [u8], out: &mut [u8]) -> TermState
+        requires { (3 ≤ self.low) × (frames_end ≤ length work.old) × (length out.old < 65536) × ((t : Term) × (fs : List Frame) × ShownHad t fs work.old out.old self.front self.stop self.low × (3 * waits fs ≤ self.front)) }
+        ensures shown_due { (s : Sign) (t : Term) (fs : List Frame) → tag ≡ sign_tag s → ShownHad t fs work.old out.old self.front self.stop self.low → 3 * waits fs ≤ self.front → ShownDue (waiting s (reduced_term (rank s) t fs) ∷ reduced_frames (rank s) fs) work.new out.new result.front result.low }
+        ensures low_bound { (self.low ≤ result.low + 3) × SameBelow result.low work.old work.new }
+    {
+        let least = rank_of(tag);
+        let here = self.reduce(least, work, out);
+        let low = here.low - 3;
+        push(tag, here.stop, low, work);
+        TermState { low, ..here }
     }
-}
 
-// The tag of `id` or `<>`.
-fn is_plain(tag: u8) -> bool
-    ensures { result ≡ is_plain tag }
-{
-    if tag == 17 {
-        return true;
+    // An opening bracket: it takes everything up to its closing one, and that one away.
+    fn on_opening(self, work: &[u8], out: &mut [u8]) -> TermState
+        requires { (frames_end ≤ length work.now) × (length out.old < 65536) × ((t : Term) × (fs : List Frame) × ShownHad t fs work.now out.old self.front self.stop self.low × (3 * waits fs ≤ self.front) × NotStuck (unbracket (reduced_term 0 t fs) (reduced_frames 0 fs))) }
+        ensures { (t : Term) (fs : List Frame) → ShownHad t fs work.now out.old self.front self.stop self.low → 3 * waits fs ≤ self.front → NotStuck (unbracket (reduced_term 0 t fs) (reduced_frames 0 fs)) → Shown (unbracket (reduced_term 0 t fs) (reduced_frames 0 fs)) work.now out.new result.front result.stop result.low }
+    {
+        let here = self.reduce(0, work, out);
+        TermState {
+            low: here.low + 3,
+            ..here
+        }
     }
-    tag == 21
-}
 
-// One mark more, from the right.
-fn on_mark(at: usize, held: TermState, work: &mut [u8], out: &mut [u8]) -> TermState
-    requires { (ms : List Mark) × MarkReady ms at work.old out.old held.front held.stop held.low }
-    ensures shown { (ms : List Mark) → MarkReady ms at work.old out.old held.front held.stop held.low → Shown (state_of (drop at ms)) work.new out.new result.front result.stop result.low }
-    ensures same_below { SameBelow (3 * at) work.old work.new }
-{
-    let here = 3 * at;
-    let kind = work[here];
-    if kind == 0 {
-        return on_closing(held, work);
+    // A closing bracket.
+    fn on_closing(self, work: &mut [u8]) -> TermState
+        requires { (3 ≤ self.low) × (self.low ≤ frames_end) × (frames_end ≤ length work.old) }
+        ensures shown_due { (fs : List Frame) (out : List ℕ) → ShownDue fs work.old out self.front self.low → ShownDue (bracket ∷ fs) work.new out result.front result.low }
+        ensures low_value { (self.low ≡ result.low + 3) × SameBelow result.low work.old work.new }
+    {
+        let low = self.low - 3;
+        work[low] = BRACKET;
+        TermState { low, ..self }
     }
-    if kind == 1 {
-        return on_opening(held, work, out);
+
+    // One mark more, from the right.
+    fn on_mark(self, at: usize, work: &mut [u8], out: &mut [u8]) -> TermState
+        requires { (ms : List Mark) × MarkReady ms at work.old out.old self.front self.stop self.low }
+        ensures shown { (ms : List Mark) → MarkReady ms at work.old out.old self.front self.stop self.low → Shown (state_of (drop at ms)) work.new out.new result.front result.stop result.low }
+        ensures same_below { SameBelow (3 * at) work.old work.new }
+    {
+        let place = 3 * at;
+        match work[place] {
+            CLOSING => self.on_closing(work),
+            OPENING => self.on_opening(work, out),
+            tag @ (ID | EMPTY) => self.put_plain(tag, out),
+            LABEL => self.on_label(load16(work, place + 1), work, out),
+            tag if is_pair(tag) => self.on_sign(tag, work, out),
+            tag => self.put_valued(tag, load16(work, place + 1), out),
+        }
     }
-    if is_plain(kind) {
-        return put_plain(kind, held, out);
-    }
-    if is_pair(kind) {
-        return on_sign(kind, held, work, out);
-    }
-    let v = load16(work, here + 1);
-    if kind == 18 {
-        return on_label(v, held, work, out);
-    }
-    put_valued(kind, v, held, out)
 }
 
 // The term of so many marks, into just as many bytes as it has.
@@ -237,10 +211,8 @@ pub fn write_term(count: usize, work: &mut [u8], out: &mut [u8])
         stop: out.len(),
         low: FRAMES_END,
     };
-    let mut at = count;
-    while 0 < at {
-        at -= 1;
-        held = on_mark(at, held, work, out);
+    for at in (0..count).rev() {
+        held = held.on_mark(at, work, out);
     }
-    reduce(0, held, work, out);
+    held.reduce(0, work, out);
 }

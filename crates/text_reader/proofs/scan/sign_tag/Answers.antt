@@ -1,22 +1,13 @@
--- `scan::sign_tag` meets its contract: each test tells the byte.
+-- `scan::sign_tag` meets its contract: each byte has its tag.
 -- Assumes nothing.
-use mathlib.Core.Path.{refl, sym, subst}
-use Prim.Native.Nat.{ℕ}
-use native.Mathlib.Omega.{arith}
-use borrow.Author.Tests.{ne_eqb}
-use Rattle.notation.specs.Scans.{is_sign}
-use Rattle.text_reader.specs.Places.{SignByte, semicolon, star, bar}
+use Rattle.text_reader.specs.Places.{semicolon, star, bar}
 use Rattle.text_reader.proofs.scan.sign_tag.Goals as goal
 
-pub returns-then-b-eq59 : goal.returns-then-b-eq59
-returns-then-b-eq59 c = (λ n. subst (λ (b : ℕ). SignByte b 19) (sym c.if-b-eq59.true) semicolon, λ e. absurd (omega arith))
+pub returns-in-59 : goal.returns-in-59
+returns-in-59 c = rw c.in-59.is semicolon
 
-pub returns-then-b-eq42 : goal.returns-then-b-eq42
-returns-then-b-eq42 c = (λ n. subst (λ (b : ℕ). SignByte b 20) (sym c.if-b-eq42.true) star, λ e. absurd (omega arith))
+pub returns-in-42 : goal.returns-in-42
+returns-in-42 c = rw c.in-42.is star
 
-pub returns-then-b-eq124 : goal.returns-then-b-eq124
-returns-then-b-eq124 c = (λ n. subst (λ (b : ℕ). SignByte b 22) (sym c.if-b-eq124.true) bar, λ e. absurd (omega arith))
-
-pub returns : goal.returns
-unfolding is_sign
-returns c = (λ n. absurd (n refl), λ e. simp (ne_eqb _ _ c.if-b-eq59.false, ne_eqb _ _ c.if-b-eq124.false, ne_eqb _ _ c.if-b-eq42.false))
+pub returns-in-124 : goal.returns-in-124
+returns-in-124 c = rw c.in-124.is bar
