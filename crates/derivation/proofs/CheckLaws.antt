@@ -20,7 +20,6 @@ use Rattle.format.specs.Goals.{goals_at}
 use Rattle.rule_set.specs.Different.{different}
 use Rattle.rule_set.specs.Sets.{RuleSet}
 use Rattle.tables.specs.Tables.{Table}
-use Rattle.tables.specs.ReadTables.{read_table}
 use Rattle.tables.specs.Standing.{TableStands}
 use Rattle.index.specs.Build.{RulesIndexed}
 use Rattle.files.specs.declared.flats.FlatParts.{FlatParts}
@@ -36,7 +35,7 @@ use Rattle.hitac.specs.UsedRules.{flat_rules}
 use Rattle.hitac.proofs.EntryCounts.{uses-counted, opens_counted}
 use Rattle.answers.specs.declared.Answer.{Answer}
 use Rattle.answers.specs.Answers.{refusal, counted}
-use Rattle.entries.specs.Outcomes.{in_file, done, table_file, other_file, no_file}
+use Rattle.entries.specs.Outcomes.{in_file, done, other_file, no_file}
 use Rattle.entries.specs.LentSpace.{counted_answer, check_in, cleared}
 use Rattle.entries.specs.CheckFlat.{none_pending, right, flat_counts, check_flat_outcome, check_flat_work, check_flat}
 use Rattle.derivation.specs.declared.check.Counted.{Counted}
@@ -44,7 +43,7 @@ use Rattle.derivation.specs.declared.walk.Stop.{Stop}
 use Rattle.derivation.specs.Layout.{index_place, set_place, set_end}
 use Rattle.derivation.specs.Pending.{first_entry, pending_in}
 use Rattle.derivation.specs.Walks.{walked, Given, Ready, Walks}
-use Rattle.derivation.specs.CheckedEntries.{DerivationAt, counted_of, checked_entries}
+use Rattle.derivation.specs.CheckedEntries.{DerivationAt, FilesStand, FilesRefused, table_refused, flat_refused, counted_of, checked_entries}
 use Rattle.derivation.proofs.PendingLaws.{none_pending_lem, some_first}
 use Rattle.derivation.proofs.RuleLaws.{indexed_still}
 
@@ -164,23 +163,21 @@ module _ (table flat : List ℕ) where
   abbrev within : Answer
   within = counted_answer (check_flat_outcome table flat)
 
-  pub refused_table : (f : Refusal) → read_table table ≡ refused f.cause f.place → refusal (number f.cause) table_file f.place 0 ≡ within
+  -- one of the files was refused
+  pub refused_files : (a : Answer) → FilesRefused table flat a → a ≡ within
   unfolding check_flat_outcome
-  refused_table f e = rw e
+  refused_files a (table_refused f e is) = is ∙ rw e
+  refused_files a (flat_refused T reads f e is) = is ∙ rw (reads, e)
 
-  module _ (T : Table) (reads : read_table table ≡ gives T) where
-    pub refused_flat : (f : Refusal) → read_flat flat ≡ refused f.cause f.place → refusal (number f.cause) other_file f.place 0 ≡ within
-    unfolding check_flat_outcome
-    refused_flat f e = rw (reads, e)
+  -- both were read
+  module _ {work : List ℕ} {rules : ℕ} {parts : FlatParts} (s : FilesStand table flat work rules parts) where
+    pub refused_entries : (f : Refusal) → checked_entries s.the_table s.derivation (length flat) ≡ Err f → refusal (number f.cause) other_file f.place 0 ≡ within
+    unfolding check_flat_outcome right
+    refused_entries f e = wrong_entries s.the_table s.derivation (length flat) f e ∙ rw (s.reads, s.flat_reads)
 
-    module _ (d : Derivation) (read : read_flat flat ≡ gives d) where
-      pub refused_entries : (f : Refusal) → checked_entries T d (length flat) ≡ Err f → refusal (number f.cause) other_file f.place 0 ≡ within
-      unfolding check_flat_outcome right
-      refused_entries f e = wrong_entries T d (length flat) f e ∙ rw (reads, read)
-
-      pub all_counted : (c : Counted) → checked_entries T d (length flat) ≡ Ok c → counted 0 c.uses c.opens c.rules ≡ within
-      unfolding check_flat_outcome right
-      all_counted c e = right_entries T d (length flat) c e ∙ rw (reads, read)
+    pub all_counted : (c : Counted) → checked_entries s.the_table s.derivation (length flat) ≡ Ok c → counted 0 c.uses c.opens c.rules ≡ within
+    unfolding check_flat_outcome right
+    all_counted c e = right_entries s.the_table s.derivation (length flat) c e ∙ rw (s.reads, s.flat_reads)
 
   pub too_short : (work : List ℕ) → length work < check_flat_work → check_flat table flat work ≡ record { answer = refusal (number WorkTooShort) no_file 0 0; work = work }
   unfolding check_flat check_in

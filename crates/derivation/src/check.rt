@@ -10,7 +10,7 @@ ghost use Rattle.files.specs.Derivations.{Derivation};
 ghost use Rattle.entries.specs.CheckFlat.{check_flat_work, check_flat_outcome, check_flat};
 ghost use Rattle.entries.specs.LentSpace.{counted_answer};
 ghost use Rattle.derivation.specs.Layout.{index_place, cursors_place, set_end};
-ghost use Rattle.derivation.specs.CheckedEntries.{DerivationAt, checked_entries, answer_in};
+ghost use Rattle.derivation.specs.CheckedEntries.{DerivationAt, ReadsFiles, checked_entries, answer_in};
 
 use crate::layout::{INDEX, SET};
 use crate::walk::walk;
@@ -30,6 +30,36 @@ pub struct Counted {
     pub uses: usize,
     pub opens: usize,
     pub rules: usize,
+}
+
+// What reading a table and a flat file finds: the place where the rules end, and the parts of the flat file.
+#[derive(Clone, Copy)]
+pub struct FilesRead {
+    pub rules: usize,
+    pub parts: FlatParts,
+}
+
+// Both files of an entry, the table first; its rules are indexed. A refusal is the entry's answer.
+pub fn read_files(table: &[u8], flat: &[u8], work: &mut [u8]) -> Result<FilesRead, Answer>
+    requires { check_flat_work ≤ length work.old }
+    ensures { ReadsFiles table.now flat.now work.new result }
+{
+    let read = read_table(table, work, 0, INDEX).map_err(|r| Answer::refused(
+        r.cause,
+        File::Table,
+        r.place,
+        0,
+    ))?;
+    let parts = read_flat(flat, work, 0).map_err(|r| Answer::refused(
+        r.cause,
+        File::Other,
+        r.place,
+        0,
+    ))?;
+    Ok(FilesRead {
+        rules: read.first,
+        parts,
+    })
 }
 
 // The entries of a flat file that was read, by a walk. The rules end at `rules`, and are indexed.
@@ -75,21 +105,10 @@ fn check_within(table: &[u8], flat: &[u8], work: &mut [u8]) -> Result<Answer, An
     requires { check_flat_work ≤ length work.old }
     ensures { answer_in result ≡ counted_answer (check_flat_outcome table.now flat.now) }
 {
-    let rules = read_table(table, work, 0, INDEX)
-        .map_err(|r| Answer::refused(r.cause, File::Table, r.place, 0))?
-        .first;
-    let parts = read_flat(flat, work, 0).map_err(|r| Answer::refused(
-        r.cause,
-        File::Other,
-        r.place,
-        0,
-    ))?;
-    let found = check_entries(table, rules, flat, parts, work).map_err(|r| Answer::refused(
-        r.cause,
-        File::Other,
-        r.place,
-        0,
-    ))?;
+    let read = read_files(table, flat, work)?;
+    let found = check_entries(table, read.rules, flat, read.parts, work).map_err(
+        |r| Answer::refused(r.cause, File::Other, r.place, 0),
+    )?;
     Ok(Answer::counted(0, found.uses, found.opens, found.rules))
 }
 

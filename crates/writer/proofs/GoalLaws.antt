@@ -6,15 +6,14 @@ use mathlib.Core.List.{List, [], ◌∷◌, ◌++◌}
 use native.Mathlib.Numerals.{add-one, add-two}
 use native.Mathlib.Omega.{arith}
 use lib.ListN.{length, set, take, drop}
+use lib.Seq.{paste, take_at, drop-drop}
 use borrow.Rule.Slice.PartMut.{put_mid}
-use Rattle.words.specs.Word.{word, put_word}
+use Rattle.words.specs.Word.{put_word}
 use Rattle.format.specs.declared.values.Goal.{Goal}
-use Rattle.format.specs.Values.{goal}
 use Rattle.format.specs.Goals.{goals_at}
-use Rattle.format.specs.Encoding.{word_bytes, field_bytes, goal_bytes}
-use Rattle.format.proofs.GoalBytes.{length-goal_bytes}
+use Rattle.format.specs.Encoding.{Bytes, word_bytes, field_bytes, goal_bytes, goal_list_bytes}
+use Rattle.format.proofs.GoalBytes.{length-goal_bytes, goals_bytes}
 use Rattle.format.proofs.GoalsLaws.{length-goals_at}
-use Rattle.format.proofs.GoalsAt.{goals_append}
 use Rattle.writer.specs.Fields.{header}
 use Rattle.writer.proofs.Lent.{placed, put-placed}
 
@@ -35,10 +34,6 @@ unfolding goal_bytes
 goal_bytes-append [] h = refl
 goal_bytes-append (γ ∷ g) h = ap {B = List ℕ} (λ l. word_bytes γ.0 ++ l) (goal_bytes-append g h)
 
-one_more : (s : List ℕ) (k at : ℕ) → goals_at s at (k + 1) ≡ goals_at s at k ++ (goal (word s (at + k * 2)) ∷ [])
-unfolding goals_at
-one_more s k at = goals_append k 1 s at
-
 one_goal_lem : (γ : Goal) → goal_bytes (γ ∷ []) ≡ word_bytes γ.0
 unfolding goal_bytes
 one_goal_lem γ = refl
@@ -51,16 +46,18 @@ goals_next g γ o out len e h b =
     let h' : length (goal_bytes g) + 2 ≤ length o = omega arith in
     rw (b, goal_bytes-append g (γ ∷ []), one_goal_lem γ, l) (put_next (goal_bytes g) o γ.0 h')
 
--- a turn of the loop over the goals of a list
-pub goals_turn : (s : List ℕ) (from i : ℕ) (o out : List ℕ) (v : ℕ) → v ≡ word s (from + i * 2) → i * 2 + 2 ≤ length o → out ≡ goal_bytes (goals_at s from i) ++ drop (i * 2) o
-    → put_word out (i * 2) v ≡ goal_bytes (goals_at s from (i + 1)) ++ drop ((i + 1) * 2) o
-goals_turn s from i o out v e h b =
-    let l : i * 2 ≡ length (goals_at s from i) * 2 = ap (λ (k : ℕ). k * 2) (sym (length-goals_at i s from)) in
-    let two : i * 2 + 2 ≡ (i + 1) * 2 = omega arith in
-    ap (put_word out (i * 2)) e
-    ∙ goals_next (goals_at s from i) (goal (word s (from + i * 2))) o out (i * 2) l h b
-    ∙ ap (λ (g : List Goal). goal_bytes g ++ drop (i * 2 + 2) o) (sym (one_more s i from))
-    ∙ ap (λ (k : ℕ). goal_bytes (goals_at s from (i + 1)) ++ drop k o) two
+-- behind a header and more
+past_header : (m a b c : ℕ) (o : List ℕ) → drop (3 + m) (a ∷ b ∷ c ∷ drop 3 o) ≡ drop (3 + m) o
+past_header m a b c o = let e : 3 + m ≡ suc (suc (suc m)) = omega arith in ap (λ (j : ℕ). drop j (a ∷ b ∷ c ∷ drop 3 o)) e ∙ drop-drop m 3 o
+
+-- a list of goals that stand in a file, copied as they are behind the list's header
+pub list_copied : (o o₁ o₂ s : List ℕ) (from k : ℕ) → Bytes s → from + k * 2 ≤ length s → 3 + k * 2 ≤ length o → o₁ ≡ header 3 (k * 2) ++ drop 3 o → o₂ ≡ paste o₁ 3 (drop from s) (k * 2)
+    → o₂ ≡ goal_list_bytes (goals_at s from k) ++ drop (3 + k * 2) o
+list_copied o o₁ o₂ s from k bytes inside room p q =
+    let z = goal_bytes (goals_at s from k) in
+    let n : length z ≡ k * 2 = length-goal_bytes (goals_at s from k) ∙ ap (λ (j : ℕ). j * 2) (length-goals_at k s from) in
+    let stands : take (k * 2) (drop from s) ≡ z = ap (take (k * 2)) (goals_bytes s bytes k from inside) ∙ take_at z (drop (from + k * 2) s) (k * 2) n in
+    q ∙ rw (p, stands, ← n) (ap {B = List ℕ} (λ (l : List ℕ). header 3 (length z) ++ (z ++ l)) (past_header (length z) 3 (length z / 256) (length z % 256) o))
 
 -- a field: its contents behind three bytes, then its header
 

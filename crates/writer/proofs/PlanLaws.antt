@@ -59,3 +59,15 @@ noted p q at name count h e =
 
     name_kept : word (set (put_word p at name) (at + 2) count) at ≡ word (put_word p at name) at
     name_kept = unfold word in omega (arith, get_or-set_other (put_word p at name) (at + 2) at count 0 (λ x. omega (arith, x)), get_or-set_other (put_word p at name) (at + 2) (at + 1) count 0 (λ x. omega (arith, x)))
+
+-- the mark of an open, stored: the name is what stood there
+pub marked : (p : List ℕ) (at mark : ℕ) → at + 3 ≤ length p → Noted p (set p (at + 2) mark) at (word p at) mark
+unfolding word
+marked p at mark h = record {
+  name_is = omega (arith, get_or-set_other p (at + 2) at mark 0 (λ x. omega (arith, x)), get_or-set_other p (at + 2) (at + 1) mark 0 (λ x. omega (arith, x)));
+  count_is = get_or-set_same p (at + 2) mark 0 (omega arith);
+  kept = record {
+    below = λ i l. get_or-set_other p (at + 2) i mark 0 (λ x. omega (arith, l, x));
+    above = λ i l. get_or-set_other p (at + 2) i mark 0 (λ x. omega (arith, l, x));
+  };
+}

@@ -5,6 +5,7 @@ ghost use Rattle.format.specs.Terms.{atomic};
 ghost use Rattle.format.specs.Encoding.{term_bytes};
 ghost use Rattle.writer.specs.Fields.{header};
 
+use format::tags::ATOMIC;
 use format::values::RuleName;
 use words::{load16, store16};
 
@@ -22,7 +23,7 @@ pub fn write_atomic(name: RuleName, out: &mut [u8])
     requires { 5 ≤ length out.old }
     ensures { out.new ≡ term_bytes (atomic name) ++ drop 5 out.old }
 {
-    write_header(out, 16, 2);
+    write_header(out, ATOMIC, 2);
     store16(out, 3, name.0);
 }
 

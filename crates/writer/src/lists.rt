@@ -6,21 +6,8 @@ ghost use Rattle.format.specs.Encoding.{goal_bytes, goal_list_bytes};
 ghost use Rattle.writer.specs.Leaves.{Rest, leaves_of};
 
 use crate::fields::write_header;
-use format::tags::USE_TAG;
-use words::{load16, store16};
-
-// The goals that stand in the flat file from a place on.
-fn put_goals(flat: &[u8], from: usize, count: usize, out: &mut [u8])
-    requires { (from + count * 2 ≤ length flat.now) × (count * 2 ≤ length out.old) }
-    ensures { out.new ≡ goal_bytes (goals_at flat.now from count) ++ drop (count * 2) out.old }
-{
-    let mut i: usize = 0;
-    while i < count {
-        let goal = load16(flat, from + i * 2);
-        store16(out, i * 2, goal);
-        i += 1;
-    }
-}
+use format::tags::{GOALS_TAG, USE_TAG};
+use words::{copy_in, load16, store16};
 
 // The goals of the open leaves from a place of the flat file to its end.
 fn put_leaves(flat: &[u8], at: usize, out: &mut [u8]) -> usize
@@ -42,13 +29,13 @@ fn put_leaves(flat: &[u8], at: usize, out: &mut [u8]) -> usize
     len
 }
 
-// The list of the goals that stand in the flat file from a place on.
+// The list of the goals that stand in the flat file from a place on, copied as they are.
 pub fn write_goals(flat: &[u8], from: usize, count: usize, out: &mut [u8])
     requires { (from + count * 2 ≤ length flat.now) × (3 + count * 2 ≤ length out.old) × (count ≤ most_goals) }
     ensures { out.new ≡ goal_list_bytes (goals_at flat.now from count) ++ drop (3 + count * 2) out.old }
 {
-    put_goals(flat, from, count, &mut out[3..]);
-    write_header(out, 3, count * 2);
+    write_header(out, GOALS_TAG, count * 2);
+    copy_in(out, 3, flat, from, count * 2);
 }
 
 // The list of the open leaves' goals, and its length.
@@ -57,6 +44,6 @@ pub fn write_leaves(flat: &[u8], at: usize, out: &mut [u8]) -> usize
     ensures { (p : Rest flat.now at) → (result ≡ 3 + length (leaves_of p) * 2) × (out.new ≡ goal_list_bytes (leaves_of p) ++ drop (3 + length (leaves_of p) * 2) out.old) }
 {
     let len = put_leaves(flat, at, &mut out[3..]);
-    write_header(out, 3, len);
+    write_header(out, GOALS_TAG, len);
     3 + len
 }

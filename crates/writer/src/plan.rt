@@ -1,5 +1,5 @@
 // The plan from which the term is written: each use of the flat file is looked up once, before a byte is written.
-ghost use Rattle.std.specs.Prelude.{◌≡◌, ◌+◌, ◌≤◌, ◌<◌, length, get_or};
+ghost use Rattle.std.specs.Prelude.{◌≡◌, ◌≢◌, ◌+◌, ◌≤◌, ◌<◌, length, get_or, MatchOption};
 ghost use Rattle.words.specs.Word.{word};
 ghost use Rattle.format.specs.Limits.{most_entries};
 ghost use Rattle.format.specs.Values.{rule_name, goal};
@@ -8,14 +8,13 @@ ghost use Rattle.tables.specs.Standing.{TableStands};
 ghost use Rattle.index.specs.Build.{RulesIndexed};
 ghost use Rattle.hitac.specs.Forest.{premises_of};
 ghost use Rattle.derivation.specs.Layout.{index_place};
-ghost use Rattle.writer.specs.Plan.{plan_size, Noted, Planned};
+ghost use Rattle.writer.specs.Plan.{plan_size, open_mark, Noted, Planned};
 ghost use Rattle.writer.specs.Leaves.{Rest};
 
 use derivation::layout::INDEX;
 use format::tags::USE_TAG;
-use format::values::{RuleName, goal_at, rule_name_at};
+use format::values::{RuleName, value_at};
 use index::lookup::find_rule;
-use tables::lookup::RuleFound;
 use words::store16;
 
 // The most entries of a flat file that is written.
@@ -24,19 +23,32 @@ pub const MOST_ENTRIES: usize = 2048;
 // The bytes of the plan: three for each entry.
 pub const PLAN: usize = 3 * MOST_ENTRIES;
 
-// The number that marks an open.
-pub const OPEN: usize = 255;
+// The number that marks an open. It stands in a byte of the plan, so that it stays a number.
+pub const OPEN: u8 = 255;
 
-// The number of premises in the plan of an entry, or the mark of an open.
-pub fn count_at(plan: &[u8], at: usize) -> usize
+// The number of premises in the plan of an entry; none is that of an open.
+pub fn premises_at(plan: &[u8], at: usize) -> Option<usize>
     requires { at + 2 < length plan.now }
-    ensures { result ≡ get_or plan.now (at + 2) 0 }
+    ensures { MatchOption result (get_or plan.now (at + 2) 0 ≡ open_mark) (λ n. (n ≡ get_or plan.now (at + 2) 0) × (n ≢ open_mark)) }
 {
-    plan[at + 2] as usize
+    let count = plan[at + 2];
+    if count == OPEN {
+        None
+    } else {
+        Some(usize::from(count))
+    }
 }
 
-// The plan of one entry, at a place.
-fn plan_entry(plan: &mut [u8; PLAN], at: usize, name: RuleName, count: usize)
+// The plan of an open, at a place.
+fn plan_open(plan: &mut [u8; PLAN], at: usize)
+    requires { at + 3 ≤ plan_size }
+    ensures { Noted plan.old plan.new at (word plan.old at) open_mark }
+{
+    plan[at + 2] = OPEN;
+}
+
+// The plan of a use, at a place.
+fn plan_use(plan: &mut [u8; PLAN], at: usize, name: RuleName, count: usize)
     requires { (at + 3 ≤ plan_size) × (count < 256) }
     ensures { Noted plan.old plan.new at name.0 count }
 {
@@ -51,13 +63,9 @@ fn premises_of(table: &[u8], rules: usize, work: &[u8], flat: &[u8], at: usize) 
     ensures value { (T : Table) → TableStands table.now rules T → result ≡ length (premises_of T (rule_name (word flat.now (at + 3))) (goal (word flat.now (at + 5)))) }
     ensures few { result ≤ 8 }
 {
-    let name = rule_name_at(flat, at + 3);
-    let goal = goal_at(flat, at + 5);
-    let found = find_rule(table, rules, work, INDEX, name, goal);
-    match found {
-        RuleFound::Missing => 0,
-        RuleFound::Rule(_, _, count) => count,
-    }
+    let name = value_at(flat, at + 3);
+    let goal = value_at(flat, at + 5);
+    find_rule(table, rules, work, INDEX, name, goal).map_or(0, |found| found.count)
 }
 
 // The plan of the entries from a place of the flat file to its end.
@@ -76,16 +84,15 @@ pub fn plan_entries(
     let mut at = from;
     let mut to: usize = 0;
     while at < flat.len() {
-        if flat[at] != USE_TAG {
-            plan_entry(plan, to, RuleName(0), OPEN);
+        if flat[at] == USE_TAG {
+            let name = value_at(flat, at + 3);
+            let count = premises_of(table, rules, work, flat, at);
+            plan_use(plan, to, name, count);
+            at += 7;
+        } else {
+            plan_open(plan, to);
             at += 5;
-            to += 3;
-            continue;
         }
-        let name = rule_name_at(flat, at + 3);
-        let count = premises_of(table, rules, work, flat, at);
-        plan_entry(plan, to, name, count);
-        at += 7;
         to += 3;
     }
 }

@@ -6,17 +6,16 @@ ghost use Rattle.writer.specs.Fields.{header};
 ghost use Rattle.writer.specs.Trees.{Ready, Done, term_of, end_of, lead};
 
 use crate::fields::{field_end, write_atomic, write_header};
-use crate::plan::{OPEN, PLAN, count_at};
-use format::values::rule_name_at;
+use crate::plan::{PLAN, premises_at};
+use format::tags::{EMPTY, ID, SEQUENCE, TENSOR};
+use format::values::value_at;
 
 // The bytes before the first of n trees: the header of their tensor, and none before one tree.
+#[tactic(auto, unfolding(crate::specs::Trees::lead))]
 fn lead_of(n: usize) -> usize
     ensures { result ≡ lead n }
 {
-    if n == 1 {
-        return 0;
-    }
-    3
+    if n == 1 { 0 } else { 3 }
 }
 
 // The header in front of two terms that were written behind it, the second of them from a place on.
@@ -34,20 +33,22 @@ fn write_tree(plan: &[u8; PLAN], at: usize, out: &mut [u8]) -> usize
     requires { Ready plan.now at 1 (length out.old) }
     ensures { (p : Ready plan.now at 1 (length out.old)) → Done (term_of p.trees) (end_of p.trees) result out.old out.new }
 {
-    let count = count_at(plan, at);
-    if count == OPEN {
-        write_header(out, 17, 0);
-        return at + 3;
+    match premises_at(plan, at) {
+        None => {
+            write_header(out, ID, 0);
+            at + 3
+        }
+        Some(0) => {
+            write_atomic(value_at(plan, at), out);
+            at + 3
+        }
+        Some(count) => {
+            write_atomic(value_at(plan, at), &mut out[3..]);
+            let next = write_forest(plan, at + 3, count, &mut out[8..]);
+            close_pair(out, SEQUENCE, 8);
+            next
+        }
     }
-    let name = rule_name_at(plan, at);
-    if count == 0 {
-        write_atomic(name, out);
-        return at + 3;
-    }
-    write_atomic(name, &mut out[3..]);
-    let next = write_forest(plan, at + 3, count, &mut out[8..]);
-    close_pair(out, 19, 8);
-    next
 }
 
 // The n trees whose entries begin at a place of the plan: none is empty, one is itself, more are a tensor of the first and the others. Gives the place behind them.
@@ -57,7 +58,7 @@ pub fn write_forest(plan: &[u8; PLAN], at: usize, n: usize, out: &mut [u8]) -> u
     ensures { (p : Ready plan.now at n (length out.old)) → Done (term_of p.trees) (end_of p.trees) result out.old out.new }
 {
     if n == 0 {
-        write_header(out, 21, 0);
+        write_header(out, EMPTY, 0);
         return at;
     }
     let first = lead_of(n);
@@ -67,6 +68,6 @@ pub fn write_forest(plan: &[u8; PLAN], at: usize, n: usize, out: &mut [u8]) -> u
     }
     let from = field_end(out, 3);
     let end = write_forest(plan, next, n - 1, &mut out[from..]);
-    close_pair(out, 20, from);
+    close_pair(out, TENSOR, from);
     end
 }

@@ -4,6 +4,7 @@ use mathlib.Core.Path.{ap, ◌∙◌}
 use Prim.Native.Nat.{ℕ, ◌≤◌}
 use native.Mathlib.Omega.{arith}
 use lib.ListN.{length}
+use Rattle.format.specs.Refusals.{number}
 use Rattle.tables.specs.Standing.{TableStands}
 use Rattle.answers.specs.Answers.{wrote}
 use Rattle.entries.specs.LentSpace.{Written}
@@ -15,9 +16,14 @@ use Rattle.writer.proofs.entry.write_right.Goals.{After-plan_entries}
 use Rattle.writer.proofs.entry.write_right.Goals as goal
 
 pub returns-then-out-size : goal.returns-then-out-size
+unfolding number
 returns-then-out-size c =
     let o = c.args.out.now in
-    let short = c.if-out-size.true in record { answer = (λ d st e. c.refusal.ensures ∙ ap (λ (x : Written). x.answer) (no_room (proof_of d) 0 o (omega (arith, e, short)))); out = (λ d st e. ap (λ (x : Written). x.out) (no_room (proof_of d) 0 o (omega (arith, e, short)))) }
+    let short = c.if-out-size.true in
+    record {
+      answer = λ d st e. c.refused.ensures ∙ ap (λ (x : Written). x.answer) (no_room (proof_of d) 0 o (omega (arith, e, short)));
+      out = λ d st e. ap (λ (x : Written). x.out) (no_room (proof_of d) 0 o (omega (arith, e, short)));
+    }
 
 pub overflow_mul-roots : goal.overflow_mul-roots
 overflow_mul-roots c = omega (arith, few_roots c.requires.table_stands.0)

@@ -199,44 +199,44 @@ write_forest-returns t c =
     (whole_len o r s _ led m n1 _ _ d w.auto.out _ told _ _ f e.auto.out) c.close_pair.ensures
 
 pub write_tree-write_header-requires : goal.write_tree-write_header-requires
-write_tree-write_header-requires t c = (open_room c.requires (sym c.count_at-count.ensures ∙ c.if-count-eq-OPEN.true), omega arith)
+write_tree-write_header-requires t c = (open_room c.requires (c.in-None.ensures), omega arith)
 
-pub write_tree-returns-then-count-eq-OPEN : goal.write_tree-returns-then-count-eq-OPEN
-write_tree-returns-then-count-eq-OPEN t c = λ r. done_open r.trees _ _ (sym c.count_at-count.ensures ∙ c.if-count-eq-OPEN.true) c.write_header.ensures
+pub write_tree-returns-in-None : goal.write_tree-returns-in-None
+write_tree-returns-in-None t c = λ r. done_open r.trees _ _ (c.in-None.ensures) c.write_header.ensures
 
 pub write_tree-write_atomic-requires : goal.write_tree-write_atomic-requires
-write_tree-write_atomic-requires t c = atomic_room c.requires (use_of c.requires.trees _ c.count_at-count.ensures c.if-count-eq-OPEN.false) c.if-count-eq0.true
+write_tree-write_atomic-requires t c = atomic_room c.requires (use_of c.requires.trees _ c.in-Some-eq0.ensures.0 c.in-Some-eq0.ensures.1) c.in-Some-eq0.field-0-test
 
-pub write_tree-returns-then-count-eq0 : goal.write_tree-returns-then-count-eq0
-write_tree-returns-then-count-eq0 t c =
-    λ r. done_atomic r.trees _ _ _ (use_of r.trees _ c.count_at-count.ensures c.if-count-eq-OPEN.false) c.if-count-eq0.true c.rule_name_at-name.ensures c.write_atomic.ensures
+pub write_tree-returns-in-Some-eq0 : goal.write_tree-returns-in-Some-eq0
+write_tree-returns-in-Some-eq0 t c =
+    λ r. done_atomic r.trees _ _ _ (use_of r.trees _ c.in-Some-eq0.ensures.0 c.in-Some-eq0.ensures.1) c.in-Some-eq0.field-0-test c.value_at.ensures c.write_atomic.ensures
 
 pub write_tree-slice_bounds-write_atomic-count : goal.write_tree-slice_bounds-write_atomic-count
 write_tree-slice_bounds-write_atomic-count t c =
-    omega (arith, use_room c.requires (use_of c.requires.trees _ c.count_at-count.ensures c.if-count-eq-OPEN.false) c.if-count-eq0.false)
+    omega (arith, use_room c.requires (use_of c.requires.trees _ c.in-Some.ensures.0 c.in-Some.ensures.1) c.in-Some.count-test.1)
 
 pub write_tree-slice_bounds-write_atomic-start : goal.write_tree-slice_bounds-write_atomic-start
 write_tree-slice_bounds-write_atomic-start t c =
-    omega (arith, use_room c.requires (use_of c.requires.trees _ c.count_at-count.ensures c.if-count-eq-OPEN.false) c.if-count-eq0.false)
+    omega (arith, use_room c.requires (use_of c.requires.trees _ c.in-Some.ensures.0 c.in-Some.ensures.1) c.in-Some.count-test.1)
 
-pub write_tree-write_atomic-requires-2 : goal.write_tree-write_atomic-requires-2
-write_tree-write_atomic-requires-2 t c =
-    omega (arith, use_room c.requires (use_of c.requires.trees _ c.count_at-count.ensures c.if-count-eq-OPEN.false) c.if-count-eq0.false, room_is 3 c.args.out.now)
+pub write_tree-write_atomic-requires-in-Some : goal.write_tree-write_atomic-requires-in-Some
+write_tree-write_atomic-requires-in-Some t c =
+    omega (arith, use_room c.requires (use_of c.requires.trees _ c.in-Some.ensures.0 c.in-Some.ensures.1) c.in-Some.count-test.1, room_is 3 c.args.out.now)
 
 pub write_tree-slice_bounds-write_forest-count : goal.write_tree-slice_bounds-write_forest-count
 write_tree-slice_bounds-write_forest-count t c =
     omega (
       arith,
-      use_room c.requires (use_of c.requires.trees _ c.count_at-count.ensures c.if-count-eq-OPEN.false) c.if-count-eq0.false,
-      length-put 3 c.args.out.now c.write_atomic-2.new.out c.write_atomic-2.auto.out,
+      use_room c.requires (use_of c.requires.trees _ c.in-Some.ensures.0 c.in-Some.ensures.1) c.in-Some.count-test.1,
+      length-put 3 c.args.out.now c.write_atomic-in-Some.new.out c.write_atomic-in-Some.auto.out,
     )
 
 pub write_tree-slice_bounds-write_forest-start : goal.write_tree-slice_bounds-write_forest-start
 write_tree-slice_bounds-write_forest-start t c =
     omega (
       arith,
-      use_room c.requires (use_of c.requires.trees _ c.count_at-count.ensures c.if-count-eq-OPEN.false) c.if-count-eq0.false,
-      length-put 3 c.args.out.now c.write_atomic-2.new.out c.write_atomic-2.auto.out,
+      use_room c.requires (use_of c.requires.trees _ c.in-Some.ensures.0 c.in-Some.ensures.1) c.in-Some.count-test.1,
+      length-put 3 c.args.out.now c.write_atomic-in-Some.new.out c.write_atomic-in-Some.auto.out,
     )
 
 -- what is lent for the premises of a use whose atomic is written
@@ -246,8 +246,8 @@ inner_room o last e = room_is 8 (put_mid 3 (length o - 3) o last) ∙ ap (λ (k 
 
 pub write_tree-write_forest-next-requires : goal.write_tree-write_forest-next-requires
 write_tree-write_forest-next-requires t c =
-    let u = use_of c.requires.trees _ c.count_at-count.ensures c.if-count-eq-OPEN.false in
-    (omega (arith, c.decreases, tree_inside c.requires.trees), inner_ready c.requires u c.if-count-eq0.false _ (inner_room c.args.out.now _ c.write_atomic-2.auto.out))
+    let u = use_of c.requires.trees _ c.in-Some.ensures.0 c.in-Some.ensures.1 in
+    (omega (arith, c.decreases, tree_inside c.requires.trees), inner_ready c.requires u c.in-Some.count-test.1 _ (inner_room c.args.out.now _ c.write_atomic-in-Some.auto.out))
 
 -- the size of the forest, read back
 read_forest : {t : Term} {end next : ℕ} (o last l : List ℕ) → length last ≡ length (take (length o - 3) (drop 3 o))
@@ -259,23 +259,23 @@ read_forest o last l e d f = done-size 8 (put_mid 3 (length o - 3) o last) l d (
 pub write_tree-close_pair-requires : goal.write_tree-close_pair-requires
 write_tree-close_pair-requires t c =
     let o = c.args.out.now in
-    let u = use_of c.requires.trees _ c.count_at-count.ensures c.if-count-eq-OPEN.false in
-    let f = use_room c.requires u c.if-count-eq0.false in
-    let a = c.write_atomic-2 in
+    let u = use_of c.requires.trees _ c.in-Some.ensures.0 c.in-Some.ensures.1 in
+    let f = use_room c.requires u c.in-Some.count-test.1 in
+    let a = c.write_atomic-in-Some in
     let w = c.write_forest-next in
-    let d = w.ensures (inner_ready c.requires u c.if-count-eq0.false _ (inner_room o a.new.out a.auto.out)) in
+    let d = w.ensures (inner_ready c.requires u c.in-Some.count-test.1 _ (inner_room o a.new.out a.auto.out)) in
     let e = read_forest o a.new.out w.new.out a.auto.out d f in
     let k = length-put 8 (put_mid 3 (length o - 3) o a.new.out) w.new.out w.auto.out ∙ length-put 3 o a.new.out a.auto.out in
     (omega (arith, e, f.0, k), omega (arith, e, f.1))
 
-pub write_tree-returns : goal.write_tree-returns
-write_tree-returns t c =
+pub write_tree-returns-in-Some : goal.write_tree-returns-in-Some
+write_tree-returns-in-Some t c =
     let o = c.args.out.now in
-    let a = c.write_atomic-2 in
+    let a = c.write_atomic-in-Some in
     let w = c.write_forest-next in
     let o1 = put_mid 3 (length o - 3) o a.new.out in
     λ r.
-    let u = use_of r.trees _ c.count_at-count.ensures c.if-count-eq-OPEN.false in
-    let d = w.ensures (inner_ready r u c.if-count-eq0.false _ (inner_room o a.new.out a.auto.out)) in
-    let e = read_forest o a.new.out w.new.out a.auto.out d (use_room r u c.if-count-eq0.false) in
-    done_use r.trees u c.if-count-eq0.false _ o o1 (put_mid 8 (length o1 - 8) o1 w.new.out) _ a.new.out w.new.out _ _ c.rule_name_at-name.ensures a.ensures d refl refl r.fits (omega (arith, e)) c.close_pair.ensures
+    let u = use_of r.trees _ c.in-Some.ensures.0 c.in-Some.ensures.1 in
+    let d = w.ensures (inner_ready r u c.in-Some.count-test.1 _ (inner_room o a.new.out a.auto.out)) in
+    let e = read_forest o a.new.out w.new.out a.auto.out d (use_room r u c.in-Some.count-test.1) in
+    done_use r.trees u c.in-Some.count-test.1 _ o o1 (put_mid 8 (length o1 - 8) o1 w.new.out) _ a.new.out w.new.out _ _ c.value_at-in-Some.ensures a.ensures d refl refl r.fits (omega (arith, e)) c.close_pair.ensures

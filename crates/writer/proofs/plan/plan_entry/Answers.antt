@@ -1,8 +1,0 @@
--- `plan::plan_entry` meets its contract: the name first, then the number behind it.
--- Assumes nothing.
-use native.Mathlib.Omega.{arith}
-use Rattle.writer.proofs.PlanLaws.{noted}
-use Rattle.writer.proofs.plan.plan_entry.Goals as goal
-
-pub returns : goal.returns
-returns c = noted c.args.plan.now _ c.args.at c.args.name.0 c.args.count (omega (arith, c.store16-arg-1.given, c.requires.0)) c.store16.ensures
