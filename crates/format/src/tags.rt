@@ -1,4 +1,5 @@
 // Document 01, "Fourteen tags in all": constant tables by tag: where it may stand (its kind), the smallest and the greatest length of its contents, and the number of its inner terms.
+// Each of these is a table of its own, as that document names them; a static of rows would take a line for each of their fields.
 ghost use Rattle.std.specs.Prelude.{◌≡◌, ℕ, ◌≤◌, ◌<◌, ◌⊎◌};
 ghost use Rattle.format.specs.Tags.{any_length, kind_of, least_of, most_of, inner_of, length_fits};
 ghost use Rattle.format.specs.Kinds.{kind_number};

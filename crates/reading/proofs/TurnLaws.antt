@@ -69,6 +69,10 @@ refuses s w high base x k p g m e = record {
   ahead = omega arith;
 }
 
+-- within a term nothing else changes
+held-stepped : (x : State) (m : Mode) (at end n d top : ℕ) → Held x (stepped x m at end n d top)
+held-stepped x m at end n d top = record { part = refl; goals = refl; first = refl; second = refl; from = refl; field = refl }
+
 -- the returns of `enter`
 module _ (s w : List ℕ) (high base : ℕ) (x : State) (g : Going s w base x) (m : x.mode ≡ M.Reads) where
   pub enter_refused : (k : Cause) (p : ℕ) → header_shape (header_at s x.at x.end hiproof_kind high (leb most_term_fields x.fields)) ≡ refused_at k p → Moved s w high base x w (refusing x k p)
@@ -102,7 +106,7 @@ module _ (s w : List ℕ) (high base : ℕ) (x : State) (g : Going s w base x) (
               ∙ sym (when_reads s w high base x m);
           kept = kept_same w base (base + reading_room);
           less = omega (arith, f, h);
-          held = record { part = refl; goals = refl; first = refl; second = refl; from = refl; field = refl };
+          held = held-stepped x _ _ _ _ _ _;
           ahead = omega arith;
         }
 
@@ -156,7 +160,7 @@ module _ (s w : List ℕ) (high base : ℕ) (x : State) (g : Going s w base x) (
               ∙ sym (when_reads s w high base x m);
           kept = ka;
           less = omega (arith, f, h);
-          held = record { part = refl; goals = refl; first = refl; second = refl; from = refl; field = refl };
+          held = held-stepped x _ _ _ _ _ _;
           ahead = omega arith;
         }
 
@@ -209,7 +213,7 @@ module _ (s w : List ℕ) (high base : ℕ) (x : State) (g : Going s w base x) (
             ∙ sym before;
         kept = kept_same w base (base + reading_room);
         less = omega arith;
-        held = record { part = refl; goals = refl; first = refl; second = refl; from = refl; field = refl };
+        held = held-stepped x _ _ _ _ _ _;
         ahead = omega arith;
       }
 
@@ -258,7 +262,7 @@ module _ (s w : List ℕ) (high base : ℕ) (x : State) (g : Going s w base x) (
             ∙ sym before;
         kept = ka;
         less = rw m (omega arith);
-        held = record { part = refl; goals = refl; first = refl; second = refl; from = refl; field = refl };
+        held = held-stepped x _ _ _ _ _ _;
         ahead = omega arith;
       }
 
