@@ -8,7 +8,7 @@ use lib.Dec.{ltb}
 use lib.ListN.{length, take, drop, length-map}
 use Rattle.format.specs.declared.values.Goal.{Goal}
 use Rattle.format.specs.Limits.{most_joined}
-use Rattle.format.specs.Refusals.{GoalsTooFew}
+use Rattle.format.specs.declared.refusals.Cause.TheVariants.{GoalsTooFew}
 use Rattle.format.specs.Results.{Result, gives, refused, and_then}
 use Rattle.format.specs.Values.{goal}
 use Rattle.format.specs.Terms.{Term, atomic, id, label, sequence, tensor, empty, alternation, assert, defined, size}

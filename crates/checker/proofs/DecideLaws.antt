@@ -1,5 +1,7 @@
 -- One law for each ending of decide: what the walk came to, and whether its goals are those stated, say which answer it is.
 -- Assumes nothing.
+use Rattle.std.specs.Prelude.{Ok, Err}
+use Rattle.std.specs.Prelude as std
 use mathlib.Core.Path.{◌≡◌, sym, subst, ap, ◌∙◌}
 use mathlib.Core.Bool.{Bool, true, false}
 use mathlib.Core.Logic.{inl}
@@ -12,7 +14,10 @@ use Rattle.words.specs.Kept.{Kept}
 use Rattle.words.proofs.KeptLaws.{kept_copy}
 use Rattle.format.specs.declared.values.Goal.{Goal}
 use Rattle.format.specs.Limits.{most_bytes}
-use Rattle.format.specs.Refusals.{Cause, number}
+use Rattle.format.specs.declared.refusals.Cause.{Cause}
+use Rattle.format.specs.declared.refusals.Cause.TheVariants.{RemainingDiffer}
+use Rattle.format.specs.declared.refusals.Refusal.{Refusal}
+use Rattle.format.specs.Refusals.{number}
 use Rattle.format.specs.Results.{gives, refused, and_then}
 use Rattle.format.specs.Terms.{fields}
 use Rattle.format.specs.Goals.{goals_at}
@@ -34,8 +39,7 @@ use Rattle.input_arities.specs.Layout.{stack_end, frames_end, arities_end}
 use Rattle.input_arities.specs.Arities.{Noted}
 use Rattle.input_arities.proofs.ArityLaws.{ahead_kept}
 use Rattle.input_arities.proofs.ProofLaws.{Small, standing, small, term_room}
-use Rattle.checker.specs.declared.walk.Walked.{Walked}
-use Rattle.checker.specs.declared.walk.Walked.TheVariants as W
+use Rattle.walks.specs.declared.state.Ended.{Ended}
 use Rattle.checker.specs.Layout.{set_place}
 use Rattle.checker.specs.Acts.{Behind}
 use Rattle.checker.specs.Walks.{Ready, Walks}
@@ -45,12 +49,12 @@ use Rattle.checker.proofs.StepLaws.{behind-kept}
 -- ---- the answers
 
 module _ (T : Table) (p : Proof) where
-  ends_refused : (c : Cause) (k q : ℕ) → number c ≡ k → walk T p.term (term_place p) p.goals ≡ refused c q → checked_answer T p ≡ answer.refusal k 2 q 0
+  ends_refused : (c : Cause) (q : ℕ) → walk T p.term (term_place p) p.goals ≡ refused c q → checked_answer T p ≡ answer.refusal (number c) 2 q 0
   unfolding checked_answer checked and_then
-  ends_refused c k q n e = rw (e, n)
+  ends_refused c q e = rw e
 
-  ends_other : (h : List Goal) → walk T p.term (term_place p) p.goals ≡ gives h → same_goals h p.remaining ≡ false → checked_answer T p ≡ answer.refusal 21 2 (remaining_place p) 0
-  unfolding checked_answer checked and_then remaining_are number
+  ends_other : (h : List Goal) → walk T p.term (term_place p) p.goals ≡ gives h → same_goals h p.remaining ≡ false → checked_answer T p ≡ answer.refusal (number RemainingDiffer) 2 (remaining_place p) 0
+  unfolding checked_answer checked and_then remaining_are
   ends_other h e f = rw (e, f)
 
   ends_accepted : (h : List Goal) (u : ℕ) → walk T p.term (term_place p) p.goals ≡ gives h → same_goals h p.remaining ≡ true → u ≡ atomics p.term → checked_answer T p ≡ answer.counted (fields p.term) u (length p.remaining) (different (walked_rules T p.term p.goals))
@@ -93,13 +97,13 @@ module _ (s : List ℕ) (p : Proof) (e : read_proof_fields s ≡ gives p) (q : P
       ∙ sym (standing s p e).goals_stand.goals_are
 
 -- what was walked
-pub record Walking (T : Table) (s : List ℕ) (p : Proof) (q : ProofParts) (w₂ w₃ : List ℕ) (r : Walked) : Type 0 where
+pub record Walking (T : Table) (s : List ℕ) (p : Proof) (q : ProofParts) (w₂ w₃ : List ℕ) (r : std.Result Ended Refusal) : Type 0 where
   pub reads : read_proof_fields s ≡ gives p
   pub parts_are : parts_of p ≡ q
   pub goals_are : goals_at w₂ (top q) q.goals ≡ p.goals
   pub walked : Walks T p.term q.term (length s) w₂ w₃ q.goals r
 
-module _ (T : Table) (s : List ℕ) (p : Proof) (q : ProofParts) (w₂ w₃ : List ℕ) (r : Walked) (x : Walking T s p q w₂ w₃ r) where
+module _ (T : Table) (s : List ℕ) (p : Proof) (q : ProofParts) (w₂ w₃ : List ℕ) (r : std.Result Ended Refusal) (x : Walking T s p q w₂ w₃ r) where
   sizes : Small s q
   sizes = small s p x.reads q x.parts_are
 
@@ -107,14 +111,20 @@ module _ (T : Table) (s : List ℕ) (p : Proof) (q : ProofParts) (w₂ w₃ : Li
   unfolding parts_of
   same_walk = let e : q.term ≡ term_place p = ap (λ (y : ProofParts). y.term) (sym x.parts_are) in rw (x.goals_are, e)
 
-  module _ (k at : ℕ) (t : r ≡ W.Refused k at) where
-    pub decides_refused : (checked_answer T p ≡ answer.refusal k 2 at 0) × (at ≤ most_bytes)
+  module _ (f : Refusal) (t : r ≡ Err f) where
+    pub decides_refused : (checked_answer T p ≡ answer.refusal (number f.cause) 2 f.place 0) × (f.place ≤ most_bytes)
     unfolding Walks
     decides_refused =
         let z = subst (Walks T p.term q.term (length s) w₂ w₃ q.goals) t x.walked in
-        (ends_refused T p z.0 k at z.1 (sym same_walk ∙ z.2), omega (arith, z.3, sizes.file))
+        (ends_refused T p f.cause f.place (sym same_walk ∙ z.0), omega (arith, z.1, sizes.file))
 
-  module _ (n u : ℕ) (t : r ≡ W.Gives n u) where
+  module _ (e : Ended) (t : r ≡ Ok e) where
+    abbrev n : ℕ
+    n = e.given
+
+    abbrev u : ℕ
+    u = e.uses
+
     gave : (walk T p.term (term_place p) p.goals ≡ gives (goals_at w₃ 0 n)) × (u ≡ atomics p.term) × (n * 2 ≤ stack_end) × RuleSet w₃ set_place (walked_rules T p.term p.goals)
     unfolding Walks
     gave = let z = subst (Walks T p.term q.term (length s) w₂ w₃ q.goals) t x.walked in (sym same_walk ∙ z.0, z.1, z.2, subst (λ (g : List Goal). RuleSet w₃ set_place (walked_rules T p.term g)) x.goals_are z.3)
@@ -144,9 +154,9 @@ module _ (T : Table) (s : List ℕ) (p : Proof) (q : ProofParts) (w₂ w₃ : Li
           (omega (arith, e, few), omega (arith, gave.1, atomics-fields p.term, few), omega (arith, sizes.remaining)),
         )
 
-    pub decides_other : Compared false → (checked_answer T p ≡ answer.refusal 21 2 q.rest 0) × (q.rest ≤ most_bytes)
+    pub decides_other : Compared false → (checked_answer T p ≡ answer.refusal (number RemainingDiffer) 2 q.rest 0) × (q.rest ≤ most_bytes)
     unfolding parts_of
     decides_other f = (
-      subst (λ (y : ProofParts). checked_answer T p ≡ answer.refusal 21 2 y.rest 0) x.parts_are (ends_other T p (goals_at w₃ 0 n) gave.0 (compared false f)),
+      subst (λ (y : ProofParts). checked_answer T p ≡ answer.refusal (number RemainingDiffer) 2 y.rest 0) x.parts_are (ends_other T p (goals_at w₃ 0 n) gave.0 (compared false f)),
       omega (arith, sizes.remaining_inside, sizes.file),
     )

@@ -1,5 +1,6 @@
 -- One law for each way in which a term without inner terms returns, by the cases of the walk of hitac.
 -- Assumes nothing.
+use Rattle.std.specs.Prelude.{Ok, Err}
 use mathlib.Core.Path.{◌≡◌, refl, sym, subst, ap, ◌∙◌}
 use mathlib.Core.Option.{none, some}
 use mathlib.Core.List.{List, [], ◌∷◌, ◌++◌, append-nil}
@@ -13,7 +14,8 @@ use Rattle.words.proofs.KeptLaws.{kept_copy, kept_put, kept_same}
 use Rattle.format.specs.declared.values.RuleName.{RuleName}
 use Rattle.format.specs.declared.values.Goal.{Goal}
 use Rattle.format.specs.declared.values.TacticNo.{TacticNo}
-use Rattle.format.specs.Refusals.{Cause, number, RuleMissing, GoalCountWrong}
+use Rattle.format.specs.declared.refusals.Cause.{Cause}
+use Rattle.format.specs.declared.refusals.Cause.TheVariants.{RuleMissing, GoalCountWrong}
 use Rattle.format.specs.Results.{Result, gives, refused}
 use Rattle.format.specs.Values.{rule_name, goal}
 use Rattle.format.specs.Terms.{Term, atomic, id, empty, alternation, assert, defined}
@@ -30,7 +32,6 @@ use Rattle.hitac.specs.Walk.{on_one_goal, on_no_goal, premises_or, walk}
 use Rattle.hitac.specs.UsedRules.{found_number, looked_up, walked_rules}
 use Rattle.input_arities.specs.Layout.{stack_end, arities_end}
 use Rattle.walks.specs.declared.state.Next.{Next}
-use Rattle.checker.specs.declared.leaf.Acted.TheVariants as A
 use Rattle.checker.specs.Layout.{set_place, set_end}
 use Rattle.checker.specs.Acts.{goals_in, walk_in, LeafReady, Acts}
 
@@ -72,17 +73,17 @@ same_rules : (w w' : List ℕ) (low high : ℕ) → length w' ≡ length w → K
 same_rules w w' low high e k h A s = subst (RuleSet w' set_place) (sym (append-nil A)) (set_before w w' set_place A low high e k (omega arith) s)
 
 module _ (T : Table) (at : ℕ) (w : List ℕ) (n : Next) where
-  refuses : (t : Term) (c : Cause) (k : ℕ) → number c ≡ k → walk_in T t at w n ≡ refused c at → Acts T t at w w n (A.Refused k)
+  refuses : (t : Term) (c : Cause) → walk_in T t at w n ≡ refused c at → Acts T t at w w n (Err c)
   unfolding Acts
-  refuses t c k m e = (c, m, e, refl)
+  refuses t c e = (e, refl)
 
-  pub atomic_not_one : (a : RuleName) → (n.count ≡ 1 → ⊥) → Acts T (atomic a) at w w n (A.Refused 34)
-  unfolding walk number
-  atomic_not_one a h = refuses (atomic a) GoalCountWrong 34 refl (not_one (λ γ. premises_or RuleMissing at (find_rule T a γ)) at w n.top n.count h)
+  pub atomic_not_one : (a : RuleName) → (n.count ≡ 1 → ⊥) → Acts T (atomic a) at w w n (Err GoalCountWrong)
+  unfolding walk
+  atomic_not_one a h = refuses (atomic a) GoalCountWrong (not_one (λ γ. premises_or RuleMissing at (find_rule T a γ)) at w n.top n.count h)
 
-  pub atomic_missing : (a : RuleName) → n.count ≡ 1 → find_rule T a (goal (word w n.top)) ≡ none → Acts T (atomic a) at w w n (A.Refused 20)
-  unfolding walk number premises_or
-  atomic_missing a h e = refuses (atomic a) RuleMissing 20 refl (one (λ γ. premises_or RuleMissing at (find_rule T a γ)) at w n.top n.count h ∙ ap (premises_or RuleMissing at) e)
+  pub atomic_missing : (a : RuleName) → n.count ≡ 1 → find_rule T a (goal (word w n.top)) ≡ none → Acts T (atomic a) at w w n (Err RuleMissing)
+  unfolding walk premises_or
+  atomic_missing a h e = refuses (atomic a) RuleMissing (one (λ γ. premises_or RuleMissing at (find_rule T a γ)) at w n.top n.count h ∙ ap (premises_or RuleMissing at) e)
 
   -- the premises of a rule, copied from the table
   module _ (a : RuleName) (table : List ℕ) (number place k : ℕ) (v w' : List ℕ) (size : length v ≡ length w) (in_set : Kept w v set_place set_end) (more : (A : List ℕ) → RuleSet w set_place A → RuleSet v set_place (number ∷ A))
@@ -98,7 +99,7 @@ module _ (T : Table) (at : ℕ) (w : List ℕ) (n : Next) where
     unfolding walked_rules found_number
     its_rule = looked_one T a w n.top n.count one_goal_lem ∙ ap found_number found
 
-    pub atomic_copied : Acts T (atomic a) at w w' n (A.Gives k 1)
+    pub atomic_copied : Acts T (atomic a) at w w' n (Ok (record { given = k; uses = 1 }))
     unfolding Acts walk premises_or atomics
     atomic_copied =
         let there : goals_at w' n.low k ≡ goals_at table place k = ap (λ (u : List ℕ). goals_at u n.low k) is ∙ goals_paste v table n.low place k (omega arith) inside in
@@ -112,11 +113,11 @@ module _ (T : Table) (at : ℕ) (w : List ℕ) (n : Next) where
           few = omega arith;
         }
 
-  pub id_not_one : (n.count ≡ 1 → ⊥) → Acts T id at w w n (A.Refused 34)
-  unfolding walk number
-  id_not_one h = refuses id GoalCountWrong 34 refl (not_one (λ γ. gives (γ ∷ [])) at w n.top n.count h)
+  pub id_not_one : (n.count ≡ 1 → ⊥) → Acts T id at w w n (Err GoalCountWrong)
+  unfolding walk
+  id_not_one h = refuses id GoalCountWrong (not_one (λ γ. gives (γ ∷ [])) at w n.top n.count h)
 
-  pub id_one : (v : ℕ) (w' : List ℕ) → n.count ≡ 1 → v ≡ word w n.top → w' ≡ put_word w n.low v → length w' ≡ length w → n.low ≤ n.top → n.top + n.count * 2 ≤ stack_end → arities_end ≤ length w → Acts T id at w w' n (A.Gives 1 0)
+  pub id_one : (v : ℕ) (w' : List ℕ) → n.count ≡ 1 → v ≡ word w n.top → w' ≡ put_word w n.low v → length w' ≡ length w → n.low ≤ n.top → n.top + n.count * 2 ≤ stack_end → arities_end ≤ length w → Acts T id at w w' n (Ok (record { given = 1; uses = 0 }))
   unfolding Acts walk walked_rules atomics
   id_one v w' h e is size l b space = record {
     between = w;
@@ -131,11 +132,11 @@ module _ (T : Table) (at : ℕ) (w : List ℕ) (n : Next) where
       stored : Kept w w' n.low (n.top + n.count * 2)
       stored = subst (λ (s : List ℕ). Kept w s n.low (n.top + n.count * 2)) (sym is) (kept_put w n.low v n.low (n.top + n.count * 2) (omega arith) (omega arith))
 
-  pub empty_not_none : (n.count ≡ 0 → ⊥) → Acts T empty at w w n (A.Refused 34)
-  unfolding walk number
-  empty_not_none h = refuses empty GoalCountWrong 34 refl (not_none at w n.top n.count h)
+  pub empty_not_none : (n.count ≡ 0 → ⊥) → Acts T empty at w w n (Err GoalCountWrong)
+  unfolding walk
+  empty_not_none h = refuses empty GoalCountWrong (not_none at w n.top n.count h)
 
-  pub empty_none : n.count ≡ 0 → Acts T empty at w w n (A.Gives 0 0)
+  pub empty_none : n.count ≡ 0 → Acts T empty at w w n (Ok (record { given = 0; uses = 0 }))
   unfolding Acts walk walked_rules atomics goals_at
   empty_none h = record {
     between = w;
@@ -148,17 +149,17 @@ module _ (T : Table) (at : ℕ) (w : List ℕ) (n : Next) where
   }
 
   -- a term that stands in no hiproof
-  pub other_alternation : (t u : Term) → Acts T (alternation t u) at w w n (A.Refused 34)
-  unfolding walk number
-  other_alternation t u = refuses (alternation t u) GoalCountWrong 34 refl refl
+  pub other_alternation : (t u : Term) → Acts T (alternation t u) at w w n (Err GoalCountWrong)
+  unfolding walk
+  other_alternation t u = refuses (alternation t u) GoalCountWrong refl
 
-  pub other_assert : (γ : Goal) → Acts T (assert γ) at w w n (A.Refused 34)
-  unfolding walk number
-  other_assert γ = refuses (assert γ) GoalCountWrong 34 refl refl
+  pub other_assert : (γ : Goal) → Acts T (assert γ) at w w n (Err GoalCountWrong)
+  unfolding walk
+  other_assert γ = refuses (assert γ) GoalCountWrong refl
 
-  pub other_defined : (m : TacticNo) → Acts T (defined m) at w w n (A.Refused 34)
-  unfolding walk number
-  other_defined m = refuses (defined m) GoalCountWrong 34 refl refl
+  pub other_defined : (m : TacticNo) → Acts T (defined m) at w w n (Err GoalCountWrong)
+  unfolding walk
+  other_defined m = refuses (defined m) GoalCountWrong refl
 
 -- an atomic that is ready: where its name is, and its room
 pub some_atomic : (s : List ℕ) (at : ℕ) (w : List ℕ) (n : Next) (t : Term) → LeafReady s at t w n → get_or s at 0 ≡ 16 → (at + 4 < length s) × (n.low + 14 ≤ n.top)

@@ -1,14 +1,17 @@
--- One step of the checker's loop, and the loop's invariant: whatever table and term the walk began with, their walk is under way.
+-- Goals act as the walk wants of its leaves, and the walk over them is that of hitac.
 -- Assumes nothing.
-use mathlib.Core.Path.{◌≡◌, refl, sym, subst, ap, ◌∙◌}
+use Rattle.std.specs.Prelude.{Ok, Err}
+use Rattle.std.specs.Prelude as std
+use mathlib.Core.Path.{◌≡◌, sym, subst, ap, ◌∙◌}
 use mathlib.Core.List.{List, [], ◌++◌, map}
-use Prim.Native.Nat.{ℕ, ◌+◌, ◌*◌, ◌-◌, ◌≤◌, ◌<◌}
+use Prim.Native.Nat.{ℕ, ◌+◌, ◌*◌, ◌-◌, ◌≤◌}
 use native.Mathlib.Omega.{arith}
 use lib.ListN.{length}
+use Rattle.words.specs.Word.{word}
 use Rattle.words.specs.Kept.{Kept}
 use Rattle.format.specs.declared.values.Goal.{Goal}
-use Rattle.format.specs.Limits.{most_bytes}
-use Rattle.format.specs.Refusals.{Cause}
+use Rattle.format.specs.declared.refusals.Cause.{Cause}
+use Rattle.format.specs.declared.refusals.Refusal.{Refusal}
 use Rattle.format.specs.Results.{Result, gives, refused}
 use Rattle.format.specs.Values.{goal}
 use Rattle.format.specs.Terms.{Term, size}
@@ -18,26 +21,22 @@ use Rattle.format.proofs.ResultLaws.{same_value, same_cause, same_place, never_g
 use Rattle.rule_set.specs.Sets.{RuleSet}
 use Rattle.rule_set.proofs.SetKept.{set_before}
 use Rattle.tables.specs.Tables.{Table}
-use Rattle.tables.specs.Standing.{TableStands}
 use Rattle.hitac.specs.Walk.{walk}
 use Rattle.hitac.specs.UsedRules.{walked_rules}
 use Rattle.input_arities.specs.Layout.{stack_end, frames_end, arities_end}
 use Rattle.walks.specs.declared.state.Next.{Next}
-use Rattle.walks.specs.declared.state.Turn.{Turn}
-use Rattle.walks.specs.declared.state.Turn.TheVariants as U
+use Rattle.walks.specs.declared.state.Ended.{Ended}
 use Rattle.walks.specs.Values.{value_of, values_at}
 use Rattle.walks.specs.Walks.{Out, out, walk_of}
-use Rattle.walks.specs.Loops.{Aim, BeginsWith, Begins, Gave, placed, start_of, Leaf, Turned, Steps}
+use Rattle.walks.specs.Loops.{Aim, BeginsWith, Begins, placed, start_of, Leaf, Turned}
+use Rattle.walks.specs.Leaves.{Still, LeafTurned, Ends}
 use Rattle.walks.proofs.IndexLaws.{indexed_still}
 use Rattle.walks.proofs.ValueLaws.{values_below}
 use Rattle.walks.proofs.LeafLaws as loops
 use Rattle.walks.proofs.LeafLaws.{aim_of}
-use Rattle.checker.specs.declared.leaf.Acted.{Acted}
-use Rattle.checker.specs.declared.leaf.Acted.TheVariants as Act
-use Rattle.checker.specs.declared.walk.Walked.TheVariants as W
 use Rattle.checker.specs.Layout.{set_place, set_end}
 use Rattle.checker.specs.Acts.{of_goals, goal_act, goals_in, walk_in, LeafReady, Behind, Given, Acts}
-use Rattle.checker.specs.Walks.{Ready, Goes, Walks}
+use Rattle.checker.specs.Walks.{Ready, goals_ready, Walks}
 use Rattle.checker.proofs.ActLaws.{same_goals, walks_goals}
 
 -- the index stays where the walk writes before it
@@ -48,20 +47,9 @@ behind-kept table first w w' low high size k h b = record { index = indexed_stil
 pub behind-set : (table : List ℕ) (first : ℕ) (w w' : List ℕ) → length w' ≡ length w → Kept w w' set_place set_end → Behind table first w → Behind table first w'
 behind-set table first w w' size k b = record { index = indexed_still table first w w' size (λ i l m. k.below i (omega arith)) b.index }
 
--- ---- a step
-
--- a step that wrote on the stacks and the frames alone
-pub steps_go : (T : Table) (x : Aim ℕ) (A : List ℕ) (s w w' : List ℕ) (at at' : ℕ) (r : Turn) → length w' ≡ length w → RuleSet w set_place A → at' ≤ at → Steps (goal_act T) x A s w w' at r → Goes T x s w w' at' r
-steps_go T x A s w w' at at' r size set h z = record {
-  made = A;
-  turned = loops.turned-later (goal_act T) x A s w' at at' r h z.turned;
-  rules = set_before w w' set_place A 0 frames_end size z.kept (omega arith) set;
-  index_kept = λ i l m. z.kept.above i (omega arith);
-}
-
--- the next term is behind an earlier place too
-pub goes_later : (T : Table) (x : Aim ℕ) (s w w' : List ℕ) (at at' : ℕ) (r : Turn) → at' ≤ at → Goes T x s w w' at r → Goes T x s w w' at' r
-goes_later T x s w w' at at' r h g = record { made = g.made; turned = loops.turned-later (goal_act T) x g.made s w' at at' r h g.turned; rules = g.rules; index_kept = g.index_kept }
+-- goals are ready wherever the stacks and the frames alone were written
+pub goals_still : (table : List ℕ) (first : ℕ) (T : Table) (x : Aim ℕ) (A s w : List ℕ) → goals_ready table first T x A s w → Still (goals_ready table first T x) A s w
+goals_still table first T x A s w y w' e k = (y.0, behind-kept table first w w' 0 frames_end e k (omega arith) y.1, set_before w w' set_place A 0 frames_end e k (omega arith) y.2)
 
 -- ---- a term that acts
 
@@ -74,21 +62,14 @@ module _ (T : Table) (x : Aim ℕ) (A : List ℕ) (s w : List ℕ) (n : Next) (a
   unfolding goal_act
   on_values t r e = ap (λ (g : List Goal). of_goals (A ++ walked_rules T t g) (walk T t at g)) (same_goals (goals_in w n)) ∙ ap (of_goals (A ++ walked_rules T t (goals_in w n))) e
 
-  pub leaf_stops : RuleSet w set_place A → (w' : List ℕ) (r : Acted) (k : ℕ) → r ≡ Act.Refused k → Acts T b.0 at w w' n r → Goes T x s w w' (at + 1) (U.Refused k at)
-  unfolding Acts of_goals
-  leaf_stops set w' r k e a =
-      let y = subst (Acts T b.0 at w w' n) e a in
-      subst (λ (v : List ℕ). Goes T x s w v (at + 1) (U.Refused k at)) (sym y.3) (record {
-        made = A;
-        turned = loops.leaf_refused (goal_act T) x A s w (placed n at) b l y.0 k at y.1 (omega (arith, (known s at b.0 b.2.stands).inside)) (on_values b.0 _ y.2) w (at + 1);
-        rules = set;
-        index_kept = λ i p q. refl;
-      })
+  pub leaf_stops : (w' : List ℕ) (c : Cause) → Acts T b.0 at w w' n (Err c) → x.result ≡ refused c at
+  unfolding Acts of_goals Turned
+  leaf_stops w' c a = (loops.leaf_refused (goal_act T) x A s w (placed n at) b l c at (omega (arith, (known s at b.0 b.2.stands).inside)) (on_values b.0 _ a.0) w at).0
 
-  module _ (w' : List ℕ) (r : Acted) (k u : ℕ) (e : r ≡ Act.Gives k u) (a : Acts T b.0 at w w' n r) where
-    given : Given T b.0 at w w' n k u
+  module _ (w' : List ℕ) (e : Ended) (a : Acts T b.0 at w w' n (Ok e)) where
+    given : Given T b.0 at w w' n e.given e.uses
     unfolding Acts
-    given = subst (Acts T b.0 at w w' n) e a
+    given = a
 
     -- with the rule that it looked up
     abbrev made : List ℕ
@@ -98,51 +79,29 @@ module _ (T : Table) (x : Aim ℕ) (A : List ℕ) (s w : List ℕ) (n : Next) (a
     begun_between : BeginsWith (goal_act T) x A s given.between (placed n at) b.0 b.1
     begun_between = loops.with_behind (goal_act T) x A s w (placed n at) b.0 b.1 b.2 given.between set_place set_end given.in_set (omega arith)
 
-    pub leaf_gave : (behind : ℕ) → at + size b.0 ≡ behind → Gave (goal_act T) x made s w' behind n.low k (n.top + n.count * 2) n.frames n.arity (n.uses + u) × (n.uses + u ≤ most_bytes)
-    unfolding of_goals
-    leaf_gave behind h =
+    pub leaf_gives : (table : List ℕ) (first : ℕ) → length w' ≡ length w → goals_ready table first T x A s w → LeafTurned (goals_ready table first T x) (goal_act T) x s w' n at (Ok e)
+    unfolding of_goals LeafTurned
+    leaf_gives table first long y =
         let g = given in
         let same = values_below w g.between set_place set_end n.top n.count g.in_set (omega (arith, b.2.below)) in
-        loops.leaf_gave (goal_act T) x A s g.between (placed n at) (b.0, b.1, begun_between) l made w' k u
-        (record { comes = ap (goal_act T b.0 at A) same ∙ on_values b.0 _ g.outcome; used_is = g.used_is; few = g.few; kept = g.kept }) behind h
+        let z = loops.leaf_gave (goal_act T) x A s g.between (placed n at) (b.0, b.1, begun_between) l made w' e.given e.uses
+        (record { comes = ap (goal_act T b.0 at A) same ∙ on_values b.0 _ g.outcome; used_is = g.used_is; few = g.few; kept = g.kept }) (at + 3 + word s (at + 1)) (omega (arith, (known s at b.0 b.2.stands).length_is)) in
+        let index = indexed_still table first w w' long (λ i p q. g.kept.above i (omega (arith, b.2.below)) ∙ g.in_set.below i (omega arith)) y.1.index in
+        (made, z.0, z.1, goals_still table first T x made s w' (y.0, record { index = index }, g.rules A y.2))
 
-    pub leaf-resumed : RuleSet w set_place A → (behind : ℕ) → at + size b.0 ≡ behind → (w'' : List ℕ) (q : Turn) → length w'' ≡ length w'
-        → (Gave (goal_act T) x made s w' behind n.low k (n.top + n.count * 2) n.frames n.arity (n.uses + u) → Steps (goal_act T) x made s w' w'' behind q) → Goes T x s w w'' (at + 1) q
-    leaf-resumed set behind h w'' q size go =
-        let g = given in
-        let z = steps_go T x made s w' w'' behind (at + 1) q size (g.rules A set) (omega (arith, h, (known s at b.0 b.2.stands).three)) (go (leaf_gave behind h).0) in
-        record {
-          made = z.made;
-          turned = z.turned;
-          rules = z.rules;
-          index_kept = λ i p q. z.index_kept i p q ∙ g.kept.above i (omega (arith, b.2.below)) ∙ g.in_set.below i (omega arith);
-        }
+  pub leaf_turned : (w' table : List ℕ) (first : ℕ) → length w' ≡ length w → goals_ready table first T x A s w → (r : std.Result Ended Cause) → Acts T b.0 at w w' n r → LeafTurned (goals_ready table first T x) (goal_act T) x s w' n at r
+  unfolding LeafTurned
+  leaf_turned w' table first long y (Err c) a = leaf_stops w' c a
+  leaf_turned w' table first long y (Ok e) a = leaf_gives w' e a table first long y
 
--- ---- the loop
+-- ---- the walk
 
 -- the walk's aim: hitac's walk on the goals at the end of the stacks
 abbrev pub aim_in : (T : Table) (t : Term) (s : List ℕ) (at : ℕ) (w : List ℕ) (count : ℕ) → Ready s at t w count → Aim ℕ
 aim_in T t s at w count r = aim_of (goal_act T) t at [] (values_at w (stack_end - count * 2) count) r.fields_few
 
--- the walk is under way, and the rules that it has looked up are in the set
-pub record Under (T : Table) (x : Aim ℕ) (s w : List ℕ) (n : Next) : Type 0 where
-  pub made : List ℕ
-  pub begins : Begins (goal_act T) x made s w n
-  pub rules : RuleSet w set_place made
-
-pub record Way (table : List ℕ) (first : ℕ) (s : List ℕ) (at count : ℕ) (w₀ w : List ℕ) (n : Next) : Type 0 where
-  pub same_length : length w ≡ length w₀
-  pub index : Behind table first w
-  pub goes : (T : Table) (t : Term) → TableStands table first T → (r : Ready s at t w₀ count) → Under T (aim_in T t s at w₀ count r) s w n
-
-pub way_start : (table : List ℕ) (first : ℕ) (s : List ℕ) (at count : ℕ) (w : List ℕ) (n : Next) → n ≡ start_of at count → Behind table first w → RuleSet w set_place [] → Way table first s at count w w n
-way_start table first s at count w n e b set =
-    subst (Way table first s at count w w) (sym e)
-    (record {
-      same_length = refl;
-      index = b;
-      goes = λ T t tst r. record { made = []; begins = loops.begun (goal_act T) [] s w t at count r.fields_few r.stands r.ahead r.goals_few; rules = set };
-    })
+pub begins_in : (T : Table) (t : Term) (s : List ℕ) (at : ℕ) (w : List ℕ) (count : ℕ) (r : Ready s at t w count) → Begins (goal_act T) (aim_in T t s at w count r) [] s w (start_of at count)
+begins_in T t s at w count r = loops.begun (goal_act T) [] s w t at count r.fields_few r.stands r.ahead r.goals_few
 
 -- what the whole walk comes to, on goals
 module _ (T : Table) (t : Term) (at : ℕ) (w : List ℕ) (top count : ℕ) where
@@ -163,41 +122,10 @@ of_gives A B (gives g) h e = (
 )
 of_gives A B (refused d q) h e = never_gives e
 
-module _ (table : List ℕ) (first : ℕ) (s : List ℕ) (at count : ℕ) (w₀ w : List ℕ) (n : Next) (way : Way table first s at count w₀ w n) (w' : List ℕ) (q : Turn)
-    (stepped : (T : Table) (x : Aim ℕ) (A : List ℕ) → TableStands table first T → Begins (goal_act T) x A s w n → RuleSet w set_place A → Goes T x s w w' (n.at + 1) q) where
-  step_of : (T : Table) (t : Term) → TableStands table first T → (r : Ready s at t w₀ count) → Goes T (aim_in T t s at w₀ count r) s w w' (n.at + 1) q
-  step_of T t tst r = let u = way.goes T t tst r in stepped T (aim_in T t s at w₀ count r) u.made tst u.begins u.rules
-
-  pub way_refused : (k p : ℕ) → q ≡ U.Refused k p → (T : Table) (t : Term) → TableStands table first T → Ready s at t w₀ count → Walks T t at (length s) w₀ w' count (W.Refused k p)
-  unfolding Turned Walks
-  way_refused k p e T t tst r =
-      let g = step_of T t tst r in
-      let z = subst (Turned (goal_act T) (aim_in T t s at w₀ count r) g.made s w' (n.at + 1)) e g.turned in
-      (z.0, z.1, of_refused _ _ z.0 p (sym (on_goals T t at w₀ (stack_end - count * 2) count) ∙ z.2), z.3)
-
-  pub way_ended : (k u : ℕ) → q ≡ U.Ended k u → (T : Table) (t : Term) → TableStands table first T → Ready s at t w₀ count → Walks T t at (length s) w₀ w' count (W.Gives k u)
-  unfolding Turned Walks
-  way_ended k u e T t tst r =
-      let g = step_of T t tst r in
-      let z = subst (Turned (goal_act T) (aim_in T t s at w₀ count r) g.made s w' (n.at + 1)) e g.turned in
-      let o = of_gives _ g.made _ (goals_at w' 0 k) (sym (on_goals T t at w₀ (stack_end - count * 2) count) ∙ z.0) in
-      (o.0, z.1, z.2, subst (RuleSet w' set_place) o.1 g.rules)
-
-  module _ (m : Next) (e : q ≡ U.Begin m) (T : Table) (t : Term) (tst : TableStands table first T) (r : Ready s at t w₀ count) where
-    begins : Begins (goal_act T) (aim_in T t s at w₀ count r) (step_of T t tst r).made s w' m × (n.at + 1 ≤ m.at)
-    unfolding Turned
-    begins = subst (Turned (goal_act T) (aim_in T t s at w₀ count r) (step_of T t tst r).made s w' (n.at + 1)) e (step_of T t tst r).turned
-
-    -- the next term stands behind, and within the file
-    pub way_less : (n.at < m.at) × (m.at < length s)
-    way_less =
-        let z = begins in
-        let k = known s m.at z.0.0 z.0.2.stands in
-        (omega (arith, z.1), omega (arith, k.inside, k.three))
-
-  pub way_next : (m : Next) → q ≡ U.Begin m → length w' ≡ length w → (T : Table) (t : Term) → TableStands table first T → Ready s at t w₀ count → Way table first s at count w₀ w' m
-  way_next m e l T t tst r = record {
-    same_length = l ∙ way.same_length;
-    index = record { index = indexed_still table first w w' l (step_of T t tst r).index_kept way.index.index };
-    goes = λ T₁ t₁ tst₁ r₁. record { made = (step_of T₁ t₁ tst₁ r₁).made; begins = (begins m e T₁ t₁ tst₁ r₁).0; rules = (step_of T₁ t₁ tst₁ r₁).rules };
-  }
+-- how the walk over values ended is how the walk over goals did
+pub walk_ends : (table : List ℕ) (first : ℕ) (T : Table) (t : Term) (s : List ℕ) (at count : ℕ) (w w' : List ℕ) (r : Ready s at t w count) (q : std.Result Ended Refusal) → Ends (goals_ready table first T (aim_in T t s at w count r)) (aim_in T t s at w count r) s w' q → Walks T t at (length s) w w' count q
+unfolding Ends Walks
+walk_ends table first T t s at count w w' r (Err e) z = (of_refused _ _ e.cause e.place (sym (on_goals T t at w (stack_end - count * 2) count) ∙ z.0), z.1)
+walk_ends table first T t s at count w w' r (Ok e) z =
+    let o = of_gives _ z.0 _ (goals_at w' 0 e.given) (sym (on_goals T t at w (stack_end - count * 2) count) ∙ z.1) in
+    (o.0, z.2, z.3, subst (RuleSet w' set_place) o.1 z.4.2)

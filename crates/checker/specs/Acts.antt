@@ -1,8 +1,9 @@
 -- What a term without inner terms does with its goals: the walk of hitac, over values in bytes.
-use Rattle.std.specs.Prelude.{ℕ, ◌+◌, ◌*◌, ◌≤◌, ◌≡◌, List, ◌++◌, map, length}
+use Rattle.std.specs.Prelude.{ℕ, ◌+◌, ◌*◌, ◌≤◌, ◌≡◌, List, ◌++◌, map, length, Ok, Err}
+use Rattle.std.specs.Prelude as std
 use Rattle.words.specs.Kept.{Kept}
 use Rattle.format.specs.declared.values.Goal.{Goal}
-use Rattle.format.specs.Refusals.{Cause, number}
+use Rattle.format.specs.declared.refusals.Cause.{Cause}
 use Rattle.format.specs.Results.{Result, gives, refused}
 use Rattle.format.specs.Values.{goal}
 use Rattle.format.specs.Terms.{Term}
@@ -16,11 +17,10 @@ use Rattle.hitac.specs.Walk.{walk}
 use Rattle.hitac.specs.UsedRules.{walked_rules}
 use Rattle.input_arities.specs.Layout.{stack_end, arities_end}
 use Rattle.walks.specs.declared.state.Next.{Next}
+use Rattle.walks.specs.declared.state.Ended.{Ended}
 use Rattle.walks.specs.Values.{value_of}
 use Rattle.walks.specs.Walks.{Out, out, Act}
 use Rattle.checker.specs.Layout.{set_place, set_end}
-use Rattle.checker.specs.declared.leaf.Acted.{Acted}
-use Rattle.checker.specs.declared.leaf.Acted.TheVariants as A
 
 -- a walk over goals, as one over values, with the numbers of the rules looked up so far
 unfoldable pub of_goals : List ℕ → Result (List Goal) → Result (Out ℕ)
@@ -60,7 +60,7 @@ pub record Given (T : Table) (t : Term) (at : ℕ) (w w' : List ℕ) (n : Next) 
   pub used_is : used ≡ atomics t
   pub few : given ≤ n.count + 7 * used
 
--- the code's answer: the refusal's number, at the term's place, with nothing written; or what it gave
-unfoldable pub Acts : Table → Term → (at : ℕ) → (w w' : List ℕ) → Next → Acted → Type 0
-Acts T t at w w' n (A.Refused k) = (c : Cause) × (number c ≡ k) × (walk_in T t at w n ≡ refused c at) × (w' ≡ w)
-Acts T t at w w' n (A.Gives given used) = Given T t at w w' n given used
+-- the code's answer: refused at the term's place, with nothing written; or what it gave
+unfoldable pub Acts : Table → Term → (at : ℕ) → (w w' : List ℕ) → Next → std.Result Ended Cause → Type 0
+Acts T t at w w' n (Err c) = (walk_in T t at w n ≡ refused c at) × (w' ≡ w)
+Acts T t at w w' n (Ok e) = Given T t at w w' n e.given e.uses

@@ -6,10 +6,10 @@ ghost use Rattle.entries.specs.Check as entry;
 ghost use Rattle.checker.specs.Layout.{set_end};
 
 use crate::decide::decide;
-use answers::{Answer, refusal};
-use files::proofs::{ProofRead, empty_proof, or_empty_proof, read_proof_fields};
+use answers::{Answer, File};
+use files::proofs::{empty_proof, or_empty_proof, read_proof_fields};
+use format::refusals::Cause;
 use input_arities::layout::ARITIES_END;
-use tables::fields::TableRead;
 use whole_table::read_table;
 use words::clear;
 
@@ -21,16 +21,13 @@ fn check_files(table: &[u8], proof: &[u8], work: &mut [u8]) -> Answer
     requires { (0 < length proof.now) × (set_end ≤ length work.old) }
     ensures { result ≡ counted_answer (on_proof proof_counts table.now proof.now) }
 {
-    let read = read_table(table, work, 0, ARITIES_END);
-    match read {
-        TableRead::Refused(number, place) => refusal(number, 1, place, 0),
-        TableRead::Read(_, _, first) => {
-            let file = read_proof_fields(proof, work, 0);
-            match file {
-                ProofRead::Refused(number, place) => refusal(number, 2, place, 0),
-                ProofRead::Read(parts) => decide(table, first, proof, work, parts),
-            }
-        }
+    let first = match read_table(table, work, 0, ARITIES_END) {
+        Err(refused) => return Answer::refused(refused.cause, File::Table, refused.place, 0),
+        Ok(read) => read.first,
+    };
+    match read_proof_fields(proof, work, 0) {
+        Err(refused) => Answer::refused(refused.cause, File::Other, refused.place, 0),
+        Ok(parts) => decide(table, first, proof, work, parts),
     }
 }
 
@@ -40,7 +37,7 @@ pub fn check(table: &[u8], proof: &[u8], work: &mut [u8]) -> Answer
     ensures work_after { work.new ≡ (entry.check table.now proof.now work.old).work }
 {
     if work.len() < WORK {
-        return refusal(29, 0, 0, 0);
+        return Answer::refused(Cause::WorkTooShort, File::Neither, 0, 0);
     }
     let empty = empty_proof();
     let file = or_empty_proof(proof, &empty);

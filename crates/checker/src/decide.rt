@@ -1,5 +1,6 @@
 // What is decided of a proof that was read: the walk over its goals, and whether it gives the stated remaining ones.
-ghost use Rattle.std.specs.Prelude.{◌≡◌, ◌+◌, ◌*◌, ◌≤◌, length};
+ghost use Rattle.std.specs.Prelude.{◌≡◌, ℕ, ◌+◌, ◌*◌, ◌<◌, ◌≤◌, ◌≢◌, ◌↔◌, IsTrue, true, false, length};
+ghost use Rattle.words.specs.Word.{word};
 ghost use Rattle.format.specs.Goals.{goals_at};
 ghost use Rattle.format.specs.Results.{gives};
 ghost use Rattle.tables.specs.Tables.{Table};
@@ -12,40 +13,39 @@ ghost use Rattle.checker.specs.Acts.{Behind};
 ghost use Rattle.checker.specs.Checks.{checked_answer};
 
 use crate::layout::SET;
-use crate::walk::{Walked, walk};
-use answers::{Answer, counted, refusal};
+use crate::walk::walk;
+use answers::{Answer, File};
 use files::proofs::ProofParts;
 use format::count::count_fields;
+use format::refusals::Cause;
 use input_arities::layout::STACK_END;
 use input_arities::note_arities;
 use rule_set::{make_empty, size_of};
 use words::{copy_in, load16};
 
-// Whether the goals from a place of the space on are those from a place of the proof on.
-fn same_goals(
-    space: &[u8],
-    at: usize,
-    given: usize,
-    proof: &[u8],
-    from: usize,
-    stated: usize,
-) -> bool
-    requires { (at + given * 2 ≤ length space.now) × (from + stated * 2 ≤ length proof.now) }
-    ensures { result ≡ same_goals (goals_at space.now at given) (goals_at proof.now from stated) }
+// Whether the goal at a place of the space is the one at a place of the proof.
+fn same_goal(space: &[u8], at: usize, proof: &[u8], place: usize) -> bool
+    requires { (at + 2 ≤ length space.now) × (place + 2 ≤ length proof.now) }
+    ensures { IsTrue result ↔ (word space.now at ≡ word proof.now place) }
 {
-    if given != stated {
-        return false;
-    }
-    let mut i: usize = 0;
-    while i < given {
-        let mine = load16(space, at + i * 2);
-        let other = load16(proof, from + i * 2);
-        if mine != other {
-            return false;
-        }
-        i += 1;
-    }
-    true
+    load16(space, at) == load16(proof, place)
+}
+
+// Whether each of so many goals from the start of the space on is the one of the same number from a place of the proof on.
+fn each_same(space: &[u8], count: usize, proof: &[u8], from: usize) -> bool
+    requires { (count * 2 ≤ length space.now) × (from + count * 2 ≤ length proof.now) }
+    ensures same { result ≡ true → (k : ℕ) → k < count → word space.now (k * 2) ≡ word proof.now (from + k * 2) }
+    ensures other { result ≡ false → (k : ℕ) × (k < count) × (word space.now (k * 2) ≢ word proof.now (from + k * 2)) }
+{
+    (0..count).all(|i| same_goal(space, i * 2, proof, from + i * 2))
+}
+
+// Whether the goals at the start of the space are those from a place of the proof on.
+fn same_goals(space: &[u8], given: usize, proof: &[u8], from: usize, stated: usize) -> bool
+    requires { (given * 2 ≤ length space.now) × (from + stated * 2 ≤ length proof.now) }
+    ensures { result ≡ same_goals (goals_at space.now 0 given) (goals_at proof.now from stated) }
+{
+    given == stated && each_same(space, given, proof, from)
 }
 
 // The walk of a proof that was read: its refusal, or 21, or the proof's counts.
@@ -63,18 +63,16 @@ pub fn decide(
     note_arities(proof, parts.term, work);
     let goals = parts.goals;
     copy_in(work, STACK_END - goals * 2, proof, 3, goals * 2);
-    let walked = walk(table, first, proof, parts.term, work, goals);
-    match walked {
-        Walked::Refused(number, place) => refusal(number, 2, place, 0),
-        Walked::Gives(given, uses) => {
+    match walk(table, first, proof, parts.term, work, goals) {
+        Err(refused) => Answer::refused(refused.cause, File::Other, refused.place, 0),
+        Ok(ended) => {
             let rest = parts.rest;
-            let same = same_goals(work, 0, given, proof, rest + 3, parts.remaining);
-            if same {
+            if same_goals(work, ended.given, proof, rest + 3, parts.remaining) {
                 let fields = count_fields(proof, parts.term, rest);
                 let rules = size_of(work, SET);
-                return counted(fields, uses, parts.remaining, rules);
+                return Answer::counted(fields, ended.uses, parts.remaining, rules);
             }
-            refusal(21, 2, rest, 0)
+            Answer::refused(Cause::RemainingDiffer, File::Other, rest, 0)
         }
     }
 }

@@ -12,79 +12,82 @@ ghost use Rattle.checker.specs.Layout.{set_place};
 ghost use Rattle.checker.specs.Acts.{LeafReady, Behind, Acts};
 
 use crate::layout::SET;
-use format::values::{goal_at, rule_name_at};
+use format::refusals::Cause;
+use format::tags::{ATOMIC, EMPTY, ID};
+use format::values::value_at;
 use index::lookup::find_rule;
 use input_arities::layout::ARITIES_END;
 use rule_set::put;
-use tables::lookup::RuleFound;
-use walks::state::Next;
+use walks::state::{Ended, Next};
 use words::{copy_in, load16, store16};
 
-// What such a term comes to: the number of the refusal; or the number of goals that it gives, and that of its uses.
-#[derive(Clone, Copy)]
-pub enum Acted {
-    Refused(u8),
-    Gives(usize, usize),
-}
-
 // An atomic term: one goal, with a rule of that name for it; gives the premises, and the rule is used. The goal is read before the premises may overwrite it.
-fn take_rule(table: &[u8], first: usize, proof: &[u8], at: usize, work: &mut [u8], n: Next) -> Acted
+fn take_rule(
+    table: &[u8],
+    first: usize,
+    proof: &[u8],
+    at: usize,
+    work: &mut [u8],
+    n: Next,
+) -> Result<Ended, Cause>
     requires { ((T : Table) × TableStands table.now first T) × (at + 4 < length proof.now) × (n.low + 14 ≤ n.top) × (n.top + n.count * 2 ≤ stack_end) × (arities_end ≤ length work.old) × Behind table.now first work.old × ((A : List ℕ) × RuleSet work.old set_place A) }
     ensures { (T : Table) → TableStands table.now first T → Acts T (atomic (rule_name (word proof.now (at + 3)))) at work.old work.new n result }
 {
     if n.count != 1 {
-        return Acted::Refused(34);
+        return Err(Cause::GoalCountWrong);
     }
-    let name = rule_name_at(proof, at + 3);
-    let goal = goal_at(work, n.top);
-    let found = find_rule(table, first, work, ARITIES_END, name, goal);
-    match found {
-        RuleFound::Missing => Acted::Refused(20),
-        RuleFound::Rule(number, place, premises) => {
-            put(work, SET, number);
-            copy_in(work, n.low, table, place, premises * 2);
-            Acted::Gives(premises, 1)
-        }
-    }
+    let name = value_at(proof, at + 3);
+    let goal = value_at(work, n.top);
+    let Some(rule) = find_rule(table, first, work, ARITIES_END, name, goal) else {
+        return Err(Cause::RuleMissing);
+    };
+    put(work, SET, rule.number);
+    copy_in(work, n.low, table, rule.place, rule.count * 2);
+    Ok(Ended {
+        given: rule.count,
+        uses: 1,
+    })
 }
 
 // An id: one goal, given back.
-fn keep_goal(work: &mut [u8], n: Next) -> Acted
+fn keep_goal(work: &mut [u8], n: Next) -> Result<Ended, Cause>
     requires { (n.low ≤ n.top) × (n.top + n.count * 2 ≤ stack_end) × (arities_end ≤ length work.old) }
     ensures { (T : Table) (at : ℕ) → Acts T id at work.old work.new n result }
 {
     if n.count != 1 {
-        return Acted::Refused(34);
+        return Err(Cause::GoalCountWrong);
     }
     let goal = load16(work, n.top);
     store16(work, n.low, goal);
-    Acted::Gives(1, 0)
+    Ok(Ended { given: 1, uses: 0 })
 }
 
 // Empty: no goal, and none given.
-fn take_nothing(n: Next) -> Acted
+fn take_nothing(n: Next) -> Result<Ended, Cause>
     ensures { (T : Table) (at : ℕ) (w : List ℕ) → Acts T empty at w w n result }
 {
     if n.count != 0 {
-        return Acted::Refused(34);
+        return Err(Cause::GoalCountWrong);
     }
-    Acted::Gives(0, 0)
+    Ok(Ended { given: 0, uses: 0 })
 }
 
 // A term that is no label, no sequence and no tensor takes its goals.
-pub fn act(table: &[u8], first: usize, proof: &[u8], at: usize, work: &mut [u8], n: Next) -> Acted
+pub fn act(
+    table: &[u8],
+    first: usize,
+    proof: &[u8],
+    at: usize,
+    work: &mut [u8],
+    n: Next,
+) -> Result<Ended, Cause>
     requires { ((T : Table) × TableStands table.now first T) × ((t : Term) × LeafReady proof.now at t work.old n) × Leaf proof.now at × Behind table.now first work.old × ((A : List ℕ) × RuleSet work.old set_place A) }
     ensures { (T : Table) (t : Term) → TableStands table.now first T → LeafReady proof.now at t work.old n → Acts T t at work.old work.new n result }
 {
-    let tag = proof[at];
-    if tag == 16 {
-        return take_rule(table, first, proof, at, work, n);
+    match proof[at] {
+        ATOMIC => take_rule(table, first, proof, at, work, n),
+        ID => keep_goal(work, n),
+        EMPTY => take_nothing(n),
+        _ => Err(Cause::GoalCountWrong),
     }
-    if tag == 17 {
-        return keep_goal(work, n);
-    }
-    if tag == 21 {
-        return take_nothing(n);
-    }
-    Acted::Refused(34)
 }

@@ -16,7 +16,7 @@ pub returns-then-work-lt-WORK : goal.returns-then-work-lt-WORK
 returns-then-work-lt-WORK c =
     let a = c.args in
     let o = too_short a.table.now a.proof.now a.work.now c.if-work-lt-WORK.true in
-    record { value = c.refusal.ensures ∙ ap (λ (x : Checked). x.answer) (sym o); work_after = ap (λ (x : Checked). x.work) (sym o) }
+    record { value = c.refused.ensures ∙ ap (λ (x : Checked). x.answer) (sym o); work_after = ap (λ (x : Checked). x.work) (sym o) }
 
 -- the bytes to read are not none
 pub check_files-answer-requires : goal.check_files-answer-requires

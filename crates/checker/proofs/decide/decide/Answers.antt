@@ -1,5 +1,7 @@
 -- `decide::decide` meets its contract: the walk's answer, and whether its goals are those stated, say which answer it is.
 -- Assumes nothing.
+use Rattle.std.specs.Prelude as std
+use Rattle.format.specs.declared.refusals.Refusal.{Refusal}
 use mathlib.Core.Path.{◌≡◌, sym, subst, ◌∙◌}
 use mathlib.Core.List.{List, []}
 use Prim.Native.Nat.{ℕ, ◌+◌, ◌*◌, ◌-◌, ◌≤◌}
@@ -20,7 +22,7 @@ use Rattle.answers.specs.declared.Answer.{Answer}
 use Rattle.input_arities.specs.Layout.{stack_end, arities_end}
 use Rattle.input_arities.specs.Arities.{Noted}
 use Rattle.input_arities.proofs.ProofLaws.{Small, small, term_there, term_room}
-use Rattle.checker.specs.declared.walk.Walked.{Walked}
+use Rattle.walks.specs.declared.state.Ended.{Ended}
 use Rattle.checker.specs.Layout.{set_place}
 use Rattle.checker.specs.Acts.{Behind}
 use Rattle.checker.specs.Walks.{Ready, Walks}
@@ -34,7 +36,7 @@ same-proof : (s : List ℕ) (p p' : Proof) (T : Table) (r : Answer) → read_pro
 same-proof s p p' T r e e' h = subst (λ (x : Proof). r ≡ checked_answer T x) (same_value (sym e ∙ e')) h
 
 -- what was walked, once the arities were noted and the goals copied
-walked_as : (T : Table) (table : List ℕ) (first : ℕ) (s : List ℕ) (p : Proof) (e : read_proof_fields s ≡ gives p) (q : ProofParts) (is : parts_of p ≡ q) (w₀ w₁ w₂ w₃ : List ℕ) (r : Walked) → Noted w₀ w₁ p.term → w₂ ≡ paste w₁ (stack_end - q.goals * 2) (drop 3 s) (q.goals * 2) → arities_end ≤ length w₁
+walked_as : (T : Table) (table : List ℕ) (first : ℕ) (s : List ℕ) (p : Proof) (e : read_proof_fields s ≡ gives p) (q : ProofParts) (is : parts_of p ≡ q) (w₀ w₁ w₂ w₃ : List ℕ) (r : std.Result Ended Refusal) → Noted w₀ w₁ p.term → w₂ ≡ paste w₁ (stack_end - q.goals * 2) (drop 3 s) (q.goals * 2) → arities_end ≤ length w₁
     → ((T : Table) (t : Term) → TableStands table first T → Ready s q.term t w₂ q.goals → Walks T t q.term (length s) w₂ w₃ q.goals r)
     → TableStands table first T → Walking T s p q w₂ w₃ r
 walked_as T table first s p e q is w₀ w₁ w₂ w₃ r noted copied enough walks st = record {
@@ -75,8 +77,8 @@ copy_in-requires c =
     let roomy : arities_end ≤ length c.make_empty.new.w = omega (arith, c.requires.2, c.make_empty.auto.w) in
     (sizes.goals_inside, omega (arith, sizes.goals, roomy, c.note_arities.auto.work))
 
-pub walk-walked-requires : goal.walk-walked-requires
-walk-walked-requires c =
+pub walk-requires : goal.walk-requires
+walk-requires c =
     let proof : Proof = c.requires.1.0 in
     let sizes : Small c.args.proof.now c.args.parts = small _ _ c.requires.1.1 _ c.requires.1.2 in
     let work₀ : List ℕ = c.make_empty.new.w in
@@ -96,43 +98,43 @@ walk-walked-requires c =
       set_there,
     )
 
-pub refusal-requires : goal.refusal-requires
-refusal-requires c =
+pub refused-requires : goal.refused-requires
+refused-requires c =
     let roomy : arities_end ≤ length c.make_empty.new.w = omega (arith, c.requires.2, c.make_empty.auto.w) in
     let enough : arities_end ≤ length c.note_arities.new.work = omega (arith, roomy, c.note_arities.auto.work) in
     let noted = c.note_arities.ensures c.requires.1.0.term (term_room _ _ c.requires.1.1 _ c.requires.1.2 _ roomy) in
-    let walking = (λ (T : Table) (st : TableStands c.args.table.now c.args.first T). walked_as T c.args.table.now c.args.first c.args.proof.now c.requires.1.0 c.requires.1.1 c.args.parts c.requires.1.2 _ _ _ c.walk-walked.new.work _ noted c.copy_in.ensures enough c.walk-walked.ensures st) in
+    let walking = (λ (T : Table) (st : TableStands c.args.table.now c.args.first T). walked_as T c.args.table.now c.args.first c.args.proof.now c.requires.1.0 c.requires.1.1 c.args.parts c.requires.1.2 _ _ _ c.walk.new.work _ noted c.copy_in.ensures enough c.walk.ensures st) in
     let InTable : Table → Type 0 = (λ T. TableStands c.args.table.now c.args.first T) in
     let table : Table = c.requires.0.0 in
     let in_table : InTable table = c.requires.0.1 in
-    ((decides_refused table _ _ _ _ _ _ (walking table in_table) _ _ c.in-Refused.is).1, omega arith)
+    ((decides_refused table _ _ _ _ _ _ (walking table in_table) _ c.in-Err.is).1, omega arith)
 
-pub returns-in-Refused : goal.returns-in-Refused
-returns-in-Refused c =
+pub returns-in-Err : goal.returns-in-Err
+returns-in-Err c =
     let roomy : arities_end ≤ length c.make_empty.new.w = omega (arith, c.requires.2, c.make_empty.auto.w) in
     let enough : arities_end ≤ length c.note_arities.new.work = omega (arith, roomy, c.note_arities.auto.work) in
     let noted = c.note_arities.ensures c.requires.1.0.term (term_room _ _ c.requires.1.1 _ c.requires.1.2 _ roomy) in
-    let walking = (λ (T : Table) (st : TableStands c.args.table.now c.args.first T). walked_as T c.args.table.now c.args.first c.args.proof.now c.requires.1.0 c.requires.1.1 c.args.parts c.requires.1.2 _ _ _ c.walk-walked.new.work _ noted c.copy_in.ensures enough c.walk-walked.ensures st) in
-    λ T p st e. same-proof _ _ p T _ c.requires.1.1 e (c.refusal.ensures ∙ sym (decides_refused T _ _ _ _ _ _ (walking T st) _ _ c.in-Refused.is).0)
+    let walking = (λ (T : Table) (st : TableStands c.args.table.now c.args.first T). walked_as T c.args.table.now c.args.first c.args.proof.now c.requires.1.0 c.requires.1.1 c.args.parts c.requires.1.2 _ _ _ c.walk.new.work _ noted c.copy_in.ensures enough c.walk.ensures st) in
+    λ T p st e. same-proof _ _ p T _ c.requires.1.1 e (c.refused.ensures ∙ sym (decides_refused T _ _ _ _ _ _ (walking T st) _ c.in-Err.is).0)
 
 pub overflow_add-rest : goal.overflow_add-rest
 overflow_add-rest c =
     let sizes : Small c.args.proof.now c.args.parts = small _ _ c.requires.1.1 _ c.requires.1.2 in
     omega (arith, sizes)
 
-pub same_goals-same-requires : goal.same_goals-same-requires
-same_goals-same-requires c =
+pub same_goals-requires : goal.same_goals-requires
+same_goals-requires c =
     let roomy : arities_end ≤ length c.make_empty.new.w = omega (arith, c.requires.2, c.make_empty.auto.w) in
     let enough : arities_end ≤ length c.note_arities.new.work = omega (arith, roomy, c.note_arities.auto.work) in
     let noted = c.note_arities.ensures c.requires.1.0.term (term_room _ _ c.requires.1.1 _ c.requires.1.2 _ roomy) in
-    let walking = (λ (T : Table) (st : TableStands c.args.table.now c.args.first T). walked_as T c.args.table.now c.args.first c.args.proof.now c.requires.1.0 c.requires.1.1 c.args.parts c.requires.1.2 _ _ _ c.walk-walked.new.work _ noted c.copy_in.ensures enough c.walk-walked.ensures st) in
+    let walking = (λ (T : Table) (st : TableStands c.args.table.now c.args.first T). walked_as T c.args.table.now c.args.first c.args.proof.now c.requires.1.0 c.requires.1.1 c.args.parts c.requires.1.2 _ _ _ c.walk.new.work _ noted c.copy_in.ensures enough c.walk.ensures st) in
     let sizes : Small c.args.proof.now c.args.parts = small _ _ c.requires.1.1 _ c.requires.1.2 in
-    let work₃ : List ℕ = c.walk-walked.new.work in
-    let as_long : length work₃ ≡ length c.args.work.now = c.walk-walked.auto.work ∙ c.copy_in.auto.dst ∙ c.note_arities.auto.work ∙ c.make_empty.auto.w in
+    let work₃ : List ℕ = c.walk.new.work in
+    let as_long : length work₃ ≡ length c.args.work.now = c.walk.auto.work ∙ c.copy_in.auto.dst ∙ c.note_arities.auto.work ∙ c.make_empty.auto.w in
     let InTable : Table → Type 0 = (λ T. TableStands c.args.table.now c.args.first T) in
     let table : Table = c.requires.0.0 in
     let in_table : InTable table = c.requires.0.1 in
-    (omega (arith, decides_bound table _ _ _ _ _ _ (walking table in_table) _ _ c.in-Gives.is, c.requires.2, as_long), sizes.remaining_inside)
+    (omega (arith, decides_bound table _ _ _ _ _ _ (walking table in_table) _ c.in-Ok.is, c.requires.2, as_long), sizes.remaining_inside)
 
 -- these are the stated ones
 pub count_fields-fields-requires : goal.count_fields-fields-requires
@@ -146,8 +148,8 @@ size_of-rules-requires c =
     let roomy : arities_end ≤ length c.make_empty.new.w = omega (arith, c.requires.2, c.make_empty.auto.w) in
     let enough : arities_end ≤ length c.note_arities.new.work = omega (arith, roomy, c.note_arities.auto.work) in
     let noted = c.note_arities.ensures c.requires.1.0.term (term_room _ _ c.requires.1.1 _ c.requires.1.2 _ roomy) in
-    let walking = (λ (T : Table) (st : TableStands c.args.table.now c.args.first T). walked_as T c.args.table.now c.args.first c.args.proof.now c.requires.1.0 c.requires.1.1 c.args.parts c.requires.1.2 _ _ _ c.walk-walked.new.work _ noted c.copy_in.ensures enough c.walk-walked.ensures st) in
-    let rules-there = (λ (T : Table) (st : TableStands c.args.table.now c.args.first T). decides_rules T _ _ _ _ _ _ (walking T st) _ _ c.in-Gives.is) in
+    let walking = (λ (T : Table) (st : TableStands c.args.table.now c.args.first T). walked_as T c.args.table.now c.args.first c.args.proof.now c.requires.1.0 c.requires.1.1 c.args.parts c.requires.1.2 _ _ _ c.walk.new.work _ noted c.copy_in.ensures enough c.walk.ensures st) in
+    let rules-there = (λ (T : Table) (st : TableStands c.args.table.now c.args.first T). decides_rules T _ _ _ _ _ _ (walking T st) _ c.in-Ok.is) in
     let InTable : Table → Type 0 = (λ T. TableStands c.args.table.now c.args.first T) in
     let table : Table = c.requires.0.0 in
     let in_table : InTable table = c.requires.0.1 in
@@ -158,43 +160,43 @@ counted-requires c =
     let roomy : arities_end ≤ length c.make_empty.new.w = omega (arith, c.requires.2, c.make_empty.auto.w) in
     let enough : arities_end ≤ length c.note_arities.new.work = omega (arith, roomy, c.note_arities.auto.work) in
     let noted = c.note_arities.ensures c.requires.1.0.term (term_room _ _ c.requires.1.1 _ c.requires.1.2 _ roomy) in
-    let walking = (λ (T : Table) (st : TableStands c.args.table.now c.args.first T). walked_as T c.args.table.now c.args.first c.args.proof.now c.requires.1.0 c.requires.1.1 c.args.parts c.requires.1.2 _ _ _ c.walk-walked.new.work _ noted c.copy_in.ensures enough c.walk-walked.ensures st) in
-    let rules-there = (λ (T : Table) (st : TableStands c.args.table.now c.args.first T). decides_rules T _ _ _ _ _ _ (walking T st) _ _ c.in-Gives.is) in
+    let walking = (λ (T : Table) (st : TableStands c.args.table.now c.args.first T). walked_as T c.args.table.now c.args.first c.args.proof.now c.requires.1.0 c.requires.1.1 c.args.parts c.requires.1.2 _ _ _ c.walk.new.work _ noted c.copy_in.ensures enough c.walk.ensures st) in
+    let rules-there = (λ (T : Table) (st : TableStands c.args.table.now c.args.first T). decides_rules T _ _ _ _ _ _ (walking T st) _ c.in-Ok.is) in
     let stands = term_there _ _ c.requires.1.1 _ c.requires.1.2 in
-    let accepted = (λ (T : Table) (st : TableStands c.args.table.now c.args.first T). decides_accepted T _ _ _ _ _ _ (walking T st) _ _ c.in-Gives.is (sym c.same_goals-same.ensures ∙ c.if-same.true) _ _ (c.count_fields-fields.ensures c.requires.1.0.term stands.0 stands.1) (c.size_of-rules.ensures.size _ (rules-there T st))) in
+    let accepted = (λ (T : Table) (st : TableStands c.args.table.now c.args.first T). decides_accepted T _ _ _ _ _ _ (walking T st) _ c.in-Ok.is (sym c.same_goals.ensures ∙ c.if-same_goals.true) _ _ (c.count_fields-fields.ensures c.requires.1.0.term stands.0 stands.1) (c.size_of-rules.ensures.size _ (rules-there T st))) in
     let InTable : Table → Type 0 = (λ T. TableStands c.args.table.now c.args.first T) in
     let table : Table = c.requires.0.0 in
     let in_table : InTable table = c.requires.0.1 in
     let a = (accepted table in_table).1 in
     (a.0, a.1, a.2, omega (arith, c.size_of-rules.ensures.few))
 
-pub returns-then-same : goal.returns-then-same
-returns-then-same c =
+pub returns-then-same_goals : goal.returns-then-same_goals
+returns-then-same_goals c =
     let roomy : arities_end ≤ length c.make_empty.new.w = omega (arith, c.requires.2, c.make_empty.auto.w) in
     let enough : arities_end ≤ length c.note_arities.new.work = omega (arith, roomy, c.note_arities.auto.work) in
     let noted = c.note_arities.ensures c.requires.1.0.term (term_room _ _ c.requires.1.1 _ c.requires.1.2 _ roomy) in
-    let walking = (λ (T : Table) (st : TableStands c.args.table.now c.args.first T). walked_as T c.args.table.now c.args.first c.args.proof.now c.requires.1.0 c.requires.1.1 c.args.parts c.requires.1.2 _ _ _ c.walk-walked.new.work _ noted c.copy_in.ensures enough c.walk-walked.ensures st) in
-    let rules-there = (λ (T : Table) (st : TableStands c.args.table.now c.args.first T). decides_rules T _ _ _ _ _ _ (walking T st) _ _ c.in-Gives.is) in
+    let walking = (λ (T : Table) (st : TableStands c.args.table.now c.args.first T). walked_as T c.args.table.now c.args.first c.args.proof.now c.requires.1.0 c.requires.1.1 c.args.parts c.requires.1.2 _ _ _ c.walk.new.work _ noted c.copy_in.ensures enough c.walk.ensures st) in
+    let rules-there = (λ (T : Table) (st : TableStands c.args.table.now c.args.first T). decides_rules T _ _ _ _ _ _ (walking T st) _ c.in-Ok.is) in
     let stands = term_there _ _ c.requires.1.1 _ c.requires.1.2 in
-    let accepted = (λ (T : Table) (st : TableStands c.args.table.now c.args.first T). decides_accepted T _ _ _ _ _ _ (walking T st) _ _ c.in-Gives.is (sym c.same_goals-same.ensures ∙ c.if-same.true) _ _ (c.count_fields-fields.ensures c.requires.1.0.term stands.0 stands.1) (c.size_of-rules.ensures.size _ (rules-there T st))) in
+    let accepted = (λ (T : Table) (st : TableStands c.args.table.now c.args.first T). decides_accepted T _ _ _ _ _ _ (walking T st) _ c.in-Ok.is (sym c.same_goals.ensures ∙ c.if-same_goals.true) _ _ (c.count_fields-fields.ensures c.requires.1.0.term stands.0 stands.1) (c.size_of-rules.ensures.size _ (rules-there T st))) in
     λ T p st e. same-proof _ _ p T _ c.requires.1.1 e (c.counted.ensures ∙ sym (accepted T st).0)
 
 -- these are others
-pub refusal-requires-in-Gives : goal.refusal-requires-in-Gives
-refusal-requires-in-Gives c =
+pub refused-requires-in-Ok : goal.refused-requires-in-Ok
+refused-requires-in-Ok c =
     let roomy : arities_end ≤ length c.make_empty.new.w = omega (arith, c.requires.2, c.make_empty.auto.w) in
     let enough : arities_end ≤ length c.note_arities.new.work = omega (arith, roomy, c.note_arities.auto.work) in
     let noted = c.note_arities.ensures c.requires.1.0.term (term_room _ _ c.requires.1.1 _ c.requires.1.2 _ roomy) in
-    let walking = (λ (T : Table) (st : TableStands c.args.table.now c.args.first T). walked_as T c.args.table.now c.args.first c.args.proof.now c.requires.1.0 c.requires.1.1 c.args.parts c.requires.1.2 _ _ _ c.walk-walked.new.work _ noted c.copy_in.ensures enough c.walk-walked.ensures st) in
+    let walking = (λ (T : Table) (st : TableStands c.args.table.now c.args.first T). walked_as T c.args.table.now c.args.first c.args.proof.now c.requires.1.0 c.requires.1.1 c.args.parts c.requires.1.2 _ _ _ c.walk.new.work _ noted c.copy_in.ensures enough c.walk.ensures st) in
     let InTable : Table → Type 0 = (λ T. TableStands c.args.table.now c.args.first T) in
     let table : Table = c.requires.0.0 in
     let in_table : InTable table = c.requires.0.1 in
-    ((decides_other table _ _ _ _ _ _ (walking table in_table) _ _ c.in-Gives.is (sym c.same_goals-same.ensures ∙ c.if-same.false)).1, omega arith)
+    ((decides_other table _ _ _ _ _ _ (walking table in_table) _ c.in-Ok.is (sym c.same_goals.ensures ∙ c.if-same_goals.false)).1, omega arith)
 
-pub returns-else-same : goal.returns-else-same
-returns-else-same c =
+pub returns-else-same_goals : goal.returns-else-same_goals
+returns-else-same_goals c =
     let roomy : arities_end ≤ length c.make_empty.new.w = omega (arith, c.requires.2, c.make_empty.auto.w) in
     let enough : arities_end ≤ length c.note_arities.new.work = omega (arith, roomy, c.note_arities.auto.work) in
     let noted = c.note_arities.ensures c.requires.1.0.term (term_room _ _ c.requires.1.1 _ c.requires.1.2 _ roomy) in
-    let walking = (λ (T : Table) (st : TableStands c.args.table.now c.args.first T). walked_as T c.args.table.now c.args.first c.args.proof.now c.requires.1.0 c.requires.1.1 c.args.parts c.requires.1.2 _ _ _ c.walk-walked.new.work _ noted c.copy_in.ensures enough c.walk-walked.ensures st) in
-    λ T p st e. same-proof _ _ p T _ c.requires.1.1 e (c.refusal-in-Gives.ensures ∙ sym (decides_other T _ _ _ _ _ _ (walking T st) _ _ c.in-Gives.is (sym c.same_goals-same.ensures ∙ c.if-same.false)).0)
+    let walking = (λ (T : Table) (st : TableStands c.args.table.now c.args.first T). walked_as T c.args.table.now c.args.first c.args.proof.now c.requires.1.0 c.requires.1.1 c.args.parts c.requires.1.2 _ _ _ c.walk.new.work _ noted c.copy_in.ensures enough c.walk.ensures st) in
+    λ T p st e. same-proof _ _ p T _ c.requires.1.1 e (c.refused-in-Ok.ensures ∙ sym (decides_other T _ _ _ _ _ _ (walking T st) _ c.in-Ok.is (sym c.same_goals.ensures ∙ c.if-same_goals.false)).0)
