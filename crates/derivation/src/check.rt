@@ -44,20 +44,12 @@ pub fn read_files(table: &[u8], flat: &[u8], work: &mut [u8]) -> Result<FilesRea
     requires { check_flat_work ≤ length work.old }
     ensures { ReadsFiles table.now flat.now work.new result }
 {
-    let read = read_table(table, work, 0, INDEX).map_err(|r| Answer::refused(
-        r.cause,
-        File::Table,
-        r.place,
-        0,
-    ))?;
-    let parts = read_flat(flat, work, 0).map_err(|r| Answer::refused(
-        r.cause,
-        File::Other,
-        r.place,
-        0,
-    ))?;
+    let read = read_table(table, work, 0, INDEX);
+    let fields = read.map_err(|r| Answer::refused(r.cause, File::Table, r.place, 0))?;
+    let read = read_flat(flat, work, 0);
+    let parts = read.map_err(|r| Answer::refused(r.cause, File::Other, r.place, 0))?;
     Ok(FilesRead {
-        rules: read.first,
+        rules: fields.first,
         parts,
     })
 }
@@ -106,9 +98,8 @@ fn check_within(table: &[u8], flat: &[u8], work: &mut [u8]) -> Result<Answer, An
     ensures { answer_in result ≡ counted_answer (check_flat_outcome table.now flat.now) }
 {
     let read = read_files(table, flat, work)?;
-    let found = check_entries(table, read.rules, flat, read.parts, work).map_err(
-        |r| Answer::refused(r.cause, File::Other, r.place, 0),
-    )?;
+    let checked = check_entries(table, read.rules, flat, read.parts, work);
+    let found = checked.map_err(|r| Answer::refused(r.cause, File::Other, r.place, 0))?;
     Ok(Answer::counted(0, found.uses, found.opens, found.rules))
 }
 

@@ -68,12 +68,8 @@ fn write_entries(
     if MOST_ENTRIES < parts.uses + parts.opens {
         return Err(Answer::refused(Cause::EntriesTooMany, File::Other, 0, 0));
     }
-    let found = check_entries(table, rules, flat, parts, work).map_err(|r| Answer::refused(
-        r.cause,
-        File::Other,
-        r.place,
-        0,
-    ))?;
+    let checked = check_entries(table, rules, flat, parts, work);
+    let found = checked.map_err(|r| Answer::refused(r.cause, File::Other, r.place, 0))?;
     let size = proof_size(parts.roots, found.uses, found.opens);
     write_right(table, rules, work, flat, parts.roots, size, out)
 }

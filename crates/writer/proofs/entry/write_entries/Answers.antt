@@ -33,32 +33,32 @@ returns-then-parts-gt-MOST_ENTRIES c =
 pub returns-in_err-found : goal.returns-in_err-found
 returns-in_err-found c =
     let few : c.args.parts.uses + c.args.parts.opens ≤ most_entries = c.if-parts-gt-MOST_ENTRIES.false in
-    either c.check_entries.result
+    either c.check_entries-checked.result
     (λ p is. absurd (grind (arith, common_steps)))
     (λ e is.
     let made : c.from_residual.result ≡ Err (refusal (number e.cause) 2 e.place 0) = grind (arith, common_steps) in
     let left = λ (T : Table) (d : Derivation) (ts : TableStands c.args.table.now c.args.rules T) (at : DerivationAt c.args.flat.now c.args.parts d).
-    ends_27 _ _ _ _ T d ts at c.args.out.now few e (sym (c.check_entries.ensures.value T d ts at) ∙ is) in
+    ends_27 _ _ _ _ T d ts at c.args.out.now few e (sym (c.check_entries-checked.ensures.value T d ts at) ∙ is) in
     record { answer = λ T d ts at. rw made (ap (λ (x : Written). x.answer) (left T d ts at)); out = λ T d ts at. ap (λ (x : Written). x.out) (left T d ts at) })
 
 -- the entries are right
-counted : (c : In_ok-found) → c.check_entries.result ≡ Ok c.in_ok-found.found
+counted : (c : In_ok-found) → c.check_entries-checked.result ≡ Ok c.in_ok-found.found
 counted c = grind (arith, common_steps)
 
 pub proof_size-size-requires : goal.proof_size-size-requires
 proof_size-size-requires c =
-    let few = rw (counted c) at c.check_entries.ensures.few in
+    let few = rw (counted c) at c.check_entries-checked.ensures.few in
     ((parts_hold _ _ _ c.requires.derivation_at.1).few_roots, few.0, few.1)
 
 pub write_right-requires : goal.write_right-requires
 write_right-requires c =
     let q = c.requires in
     let few : c.args.parts.uses + c.args.parts.opens ≤ most_entries = c.if-parts-gt-MOST_ENTRIES.false in
-    let checked = sym (c.check_entries.ensures.value q.table_stands.0 q.derivation_at.0 q.table_stands.1 q.derivation_at.1) ∙ counted (goal.at.write_right-requires c).In_ok-found in
+    let checked = sym (c.check_entries-checked.ensures.value q.table_stands.0 q.derivation_at.0 q.table_stands.1 q.derivation_at.1) ∙ counted (goal.at.write_right-requires c).In_ok-found in
     let t = q.table_stands in
     let d = q.derivation_at in
     record {
-      rules_indexed = indexed_still _ _ _ _ c.check_entries.auto.work c.check_entries.ensures.kept q.rules_indexed;
+      rules_indexed = indexed_still _ _ _ _ c.check_entries-checked.auto.work c.check_entries-checked.ensures.kept q.rules_indexed;
       table_stands = (
         right_file _ _ _ _ t.0 d.0 t.1 d.1 c.args.out.now few c.in_ok-found.found checked,
         t.1,
@@ -74,7 +74,7 @@ returns c =
     let parts : FlatParts = c.args.parts in
     let few : parts.uses + parts.opens ≤ most_entries = c.if-parts-gt-MOST_ENTRIES.false in
     let is = counted (goal.at.returns c).In_ok-found in
-    let k = c.check_entries.ensures.value in
+    let k = c.check_entries-checked.ensures.value in
     let w = c.write_right.ensures in
     let here = λ (T : Table) (d : Derivation) (ts : TableStands table c.args.rules T) (at : DerivationAt flat parts d). right_file table _ flat parts T d ts at out few c.in_ok-found.found (sym (k T d ts at) ∙ is) in
     let size = λ (T : Table) (d : Derivation) (ts : TableStands table c.args.rules T) (at : DerivationAt flat parts d). right-size table _ flat parts T d ts at out few c.in_ok-found.found (sym (k T d ts at) ∙ is) c.proof_size-size.result c.proof_size-size.ensures in
