@@ -7,14 +7,14 @@ use mathlib.Core.List.{List}
 use mathlib.Core.Option.{none}
 use native.Mathlib.Omega.{arith}
 use lib.ListN.{length, get_or}
+use Rattle.std.specs.Prelude as std
+use Rattle.std.specs.Prelude.{Some, None}
 use Rattle.words.specs.Word.{word, put_word}
 use Rattle.format.specs.declared.values.TacticNo.{TacticNo}
 use Rattle.format.specs.Terms.{Term, atomic, id, label, sequence, tensor, empty, alternation, assert, defined, size}
 use Rattle.format.specs.Standing.{Stands}
 use Rattle.format.proofs.StandsLaws.{tag_of, known}
 use Rattle.format.proofs.ByTag.{by_tag}
-use Rattle.tables.specs.declared.lookup.BodyFound.{BodyFound}
-use Rattle.tables.specs.declared.lookup.BodyFound.TheVariants as B
 use Rattle.tables.specs.Tables.{Table}
 use Rattle.tables.specs.Lookup.{find_body}
 use Rattle.tables.specs.Found.{FindsBody, BodyStands}
@@ -151,24 +151,24 @@ module _ (bytes : List ℕ) (first : ℕ) (w : List ℕ) (s : Walk) (number : �
       subst (Turned m T bytes first src base w (turn_weight (asks at (defined d)) + stack_weight k + unwalked w T.definitions) w) (sym ri)
       (told m T bytes first src base w s at (defined d) k q (n - 1) (cell_tells T w k d (omega (arith, small, p)) q.cells q.asked n (e ∙ ap (cell w) p) z) (λ x. tt))
 
-  module _ (x : BodyFound) (n : TacticNo) (n_is : n.0 ≡ number) (f : FindsBody bytes first n x) where
+  module _ (x : std.Option ℕ) (n : TacticNo) (n_is : n.0 ≡ number) (f : FindsBody bytes first n x) where
     same_tactic_lem : (d : TacticNo) → number ≡ d.0 → n ≡ d
     same_tactic_lem d p = λ i. record { 0 = (n_is ∙ p) i }
 
-    pub tactic_missing : x ≡ B.Missing → (r : Walk) → r ≡ record { asks = false; at = 0; arity = 0; top = s.top } → TacticTurns bytes first w s number w r
+    pub tactic_missing : x ≡ None → (r : Walk) → r ≡ record { asks = false; at = 0; arity = 0; top = s.top } → TacticTurns bytes first w s number w r
     unfolding arity_in AskedNoted asked_by BodyStands find_body
     tactic_missing y r ri src base m T at d k p q =
-        let b : find_body T n ≡ none = subst (λ (o : BodyFound). BodyStands bytes o (find_body T n)) y (f T q.table_stands).0 in
+        let b : find_body T n ≡ none = subst (λ (o : std.Option ℕ). BodyStands bytes o (find_body T n)) y (f T q.table_stands).0 in
         let c : find_body T d ≡ none = ap (find_body T) (sym (same_tactic_lem d p)) ∙ b in
         let a : arities T d ≡ none = after_fixed T.definitions d ∙ ap (body_arity (arities T)) c in
         subst (Turned m T bytes first src base w (turn_weight (asks at (defined d)) + stack_weight k + unwalked w T.definitions) w) (sym ri)
         (told m T bytes first src base w s at (defined d) k q 0 (ap arity_code (sym a)) (λ o. tt))
 
-    pub tactic_enters : (place : ℕ) → x ≡ B.At place → cell w number ≡ 0 → (v : List ℕ) (r : Walk) → v ≡ put_header (put_word w (frames_end + number * 2) 1) s.top 5 number
+    pub tactic_enters : (place : ℕ) → x ≡ Some place → cell w number ≡ 0 → (v : List ℕ) (r : Walk) → v ≡ put_header (put_word w (frames_end + number * 2) 1) s.top 5 number
         → r ≡ record { asks = true; at = place; arity = 0; top = s.top + 3 } → TacticTurns bytes first w s number v r
     unfolding BodyStands
     tactic_enters place y z v r vi ri src base m T at d k p q =
-        let b = subst (λ (o : BodyFound). BodyStands bytes o (find_body T n)) y (f T q.table_stands).0 in
+        let b = subst (λ (o : std.Option ℕ). BodyStands bytes o (find_body T n)) y (f T q.table_stands).0 in
         subst (Turned m T bytes first src base w (turn_weight (asks at (defined d)) + stack_weight k + unwalked w T.definitions) v) (sym ri)
         (enters m T bytes first src base w s at d k q (omega (arith, small, p)) (ap (cell w) (sym p) ∙ z) place b.0 (ap (find_body T) (sym (same_tactic_lem d p)) ∙ b.1) b.2 v
         (vi ∙ ap (λ (i : ℕ). put_header (put_word w (frames_end + i * 2) 1) s.top 5 i) p))

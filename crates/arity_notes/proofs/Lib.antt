@@ -1,5 +1,4 @@
 pub mod NoteLaws
-pub mod CodeLaws
 pub mod CycleLaws
 pub mod StackLaws
 pub mod CellLaws

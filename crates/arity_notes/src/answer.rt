@@ -9,9 +9,9 @@ ghost use Rattle.arity_notes.specs.Regions.{notes_room, regions_end};
 ghost use Rattle.arities.specs.Arities.{Pair};
 ghost use Rattle.arity_notes.specs.Walks.{Given, Turns};
 
-use crate::codes::{common, sum};
 use crate::walk::{BODY, COMMON_LEFT, COMMON_RIGHT, SUM_LEFT, SUM_RIGHT, Walk};
 use arities::arity::right_of;
+use arities::codes::{common, sum};
 use arities::layout::FRAMES_END;
 use tactics::numbers::put_header;
 use words::{load16, store16};
@@ -23,10 +23,9 @@ impl Walk {
         requires { (length src.now < 65536) × (3 ≤ self.top) × (self.top ≤ length work.old) × (base + notes_room ≤ length work.old) × (base < 1000000) × ((t : Term) × (u : Term) × Pair src.now at t u) }
         ensures { (t u : Term) → Pair src.now at t u → (work.new ≡ put_header (put_word work.old (base + slot (at + 3 + size t)) self.arity) (self.top - 3) kind self.arity) × (result ≡ record { asks = true; at = at + 3 + size t; arity = 0; top = self.top }) }
     {
-        let low = self.top - 3;
         let right = right_of(src, at) as usize;
         store16(work, base + right / 3 * 2, self.arity);
-        put_header(work, low, kind, self.arity);
+        put_header(work, self.top - 3, kind, self.arity);
         self.go(right)
     }
 
@@ -36,9 +35,8 @@ impl Walk {
         ensures written { work.new ≡ put_word work.old (frames_end + number * 2) (self.arity + 1) }
         ensures next { result ≡ record { asks = false; at = 0; arity = self.arity; top = self.top - 3 } }
     {
-        let arity = self.arity;
-        store16(work, FRAMES_END + (number as usize) * 2, arity + 1);
-        self.tell(arity, self.top - 3)
+        store16(work, FRAMES_END + (number as usize) * 2, self.arity + 1);
+        self.tell(self.arity, self.top - 3)
     }
 
     // The last term that waits takes the arity that was told.
@@ -47,25 +45,14 @@ impl Walk {
         ensures { (bytes : List ℕ) (first : ℕ) → Turns bytes first src.now base work.old self work.new result }
     {
         let low = self.top - 3;
-        let kind = work[low];
         let value = load16(work, low + 1);
-        if kind == SUM_LEFT {
-            return self.turn_right(SUM_RIGHT, value as usize, src, base, work);
+        match work[low] {
+            SUM_LEFT => self.turn_right(SUM_RIGHT, value as usize, src, base, work),
+            COMMON_LEFT => self.turn_right(COMMON_RIGHT, value as usize, src, base, work),
+            SUM_RIGHT => self.tell(sum(value, self.arity), low),
+            COMMON_RIGHT => self.tell(common(value, self.arity), low),
+            BODY => self.learn(value, work),
+            _ => self.tell(self.arity, low),
         }
-        if kind == COMMON_LEFT {
-            return self.turn_right(COMMON_RIGHT, value as usize, src, base, work);
-        }
-        if kind == SUM_RIGHT {
-            let arity = sum(value, self.arity);
-            return self.tell(arity, low);
-        }
-        if kind == COMMON_RIGHT {
-            let arity = common(value, self.arity);
-            return self.tell(arity, low);
-        }
-        if kind == BODY {
-            return self.learn(value, work);
-        }
-        self.tell(self.arity, low)
     }
 }

@@ -10,9 +10,9 @@ ghost use Rattle.arity_notes.specs.Walks.{Given, Turns, TacticGiven, TacticTurns
 use crate::regions::DEFINITIONS_PLACE;
 use crate::walk::{BODY, COMMON_LEFT, SUM_LEFT, Walk};
 use arities::layout::FRAMES_END;
-use format::values::{TacticNo, tactic_no_at};
+use format::tags::{ALTERNATION, DEFINED, EMPTY, SEQUENCE, TENSOR};
+use format::values::{TacticNo, value_at};
 use index::lookup::find_body;
-use tables::lookup::BodyFound;
 use words::{load16, store16};
 
 impl Walk {
@@ -32,14 +32,12 @@ impl Walk {
         ensures { TacticTurns table.now first work.old self number.0 work.new result }
     {
         let known = load16(work, FRAMES_END + (number.0 as usize) * 2);
-        let top = self.top;
         if known != 0 {
-            return self.tell(known - 1, top);
+            return self.tell(known - 1, self.top);
         }
-        let found = find_body(table, first, work, DEFINITIONS_PLACE, number);
-        match found {
-            BodyFound::Missing => self.tell(0, top),
-            BodyFound::At(body) => self.enter(number, body, work),
+        match find_body(table, first, work, DEFINITIONS_PLACE, number) {
+            None => self.tell(0, self.top),
+            Some(body) => self.enter(number, body, work),
         }
     }
 
@@ -49,24 +47,13 @@ impl Walk {
         ensures { Turns table.now first src.now base work.old self work.new result }
     {
         let at = self.at;
-        let top = self.top;
-        let tag = src[at];
-        if tag == 19 {
-            return self.go(at + 3);
+        match src[at] {
+            SEQUENCE => self.go(at + 3),
+            TENSOR => self.wait(SUM_LEFT, at as u16, at + 3, work),
+            ALTERNATION => self.wait(COMMON_LEFT, at as u16, at + 3, work),
+            DEFINED => self.ask_tactic(value_at(src, at + 3), table, first, work),
+            EMPTY => self.tell(1, self.top),
+            _ => self.tell(2, self.top),
         }
-        if tag == 20 {
-            return self.wait(SUM_LEFT, at as u16, at + 3, work);
-        }
-        if tag == 22 {
-            return self.wait(COMMON_LEFT, at as u16, at + 3, work);
-        }
-        if tag == 24 {
-            let number = tactic_no_at(src, at + 3);
-            return self.ask_tactic(number, table, first, work);
-        }
-        if tag == 21 {
-            return self.tell(1, top);
-        }
-        self.tell(2, top)
     }
 }

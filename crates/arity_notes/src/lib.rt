@@ -4,7 +4,6 @@
 
 pub mod answer;
 pub mod ask;
-pub mod codes;
 pub mod notes;
 pub mod regions;
 pub mod walk;

@@ -43,41 +43,41 @@ pub turn_right-requires : goal.turn_right-requires
 unfolding left_kind
 turn_right-requires c =
     let room = answer_room c.args.src.now c.args.base c.args.work.now c.args.self c.requires.1 c.requires.2 c.requires.0.0 c.requires.0.1 c.requires.0.2 in
-    (room.3, room.0, omega (arith, room.1, room.2), omega (arith, room.2, room.4), omega (arith, room.4), pair_of c.args.src.now c.args.base c.args.work.now c.args.self c.requires.1 c.requires.2 c.requires.0.0 c.requires.0.1 c.requires.0.2 sums _ c.load16-value.ensures c.if-kind-eq-SUM_LEFT.true)
+    (room.3, room.0, omega (arith, room.1, room.2), omega (arith, room.2, room.4), omega (arith, room.4), pair_of c.args.src.now c.args.base c.args.work.now c.args.self c.requires.1 c.requires.2 c.requires.0.0 c.requires.0.1 c.requires.0.2 sums _ c.load16-value.ensures c.in-1.is)
 
-pub returns-then-kind-eq-SUM_LEFT : goal.returns-then-kind-eq-SUM_LEFT
+pub returns-in-1 : goal.returns-in-1
 unfolding left_kind right_kind
-returns-then-kind-eq-SUM_LEFT c = answer_left c.args.src.now c.args.base c.args.work.now c.args.self c.requires.1 c.requires.2 sums c.if-kind-eq-SUM_LEFT.true _ c.load16-value.ensures _ _ c.turn_right.ensures
+returns-in-1 c = answer_left c.args.src.now c.args.base c.args.work.now c.args.self c.requires.1 c.requires.2 sums c.in-1.is _ c.load16-value.ensures _ _ c.turn_right.ensures
 
-pub turn_right-requires-then-kind-eq-COMMON_LEFT : goal.turn_right-requires-then-kind-eq-COMMON_LEFT
+pub turn_right-requires-in-3 : goal.turn_right-requires-in-3
 unfolding left_kind
-turn_right-requires-then-kind-eq-COMMON_LEFT c =
+turn_right-requires-in-3 c =
     let room = answer_room c.args.src.now c.args.base c.args.work.now c.args.self c.requires.1 c.requires.2 c.requires.0.0 c.requires.0.1 c.requires.0.2 in
-    (room.3, room.0, omega (arith, room.1, room.2), omega (arith, room.2, room.4), omega (arith, room.4), pair_of c.args.src.now c.args.base c.args.work.now c.args.self c.requires.1 c.requires.2 c.requires.0.0 c.requires.0.1 c.requires.0.2 commons _ c.load16-value.ensures c.if-kind-eq-COMMON_LEFT.true)
+    (room.3, room.0, omega (arith, room.1, room.2), omega (arith, room.2, room.4), omega (arith, room.4), pair_of c.args.src.now c.args.base c.args.work.now c.args.self c.requires.1 c.requires.2 c.requires.0.0 c.requires.0.1 c.requires.0.2 commons _ c.load16-value.ensures c.in-3.is)
 
-pub returns-then-kind-eq-COMMON_LEFT : goal.returns-then-kind-eq-COMMON_LEFT
+pub returns-in-3 : goal.returns-in-3
 unfolding left_kind right_kind
-returns-then-kind-eq-COMMON_LEFT c = answer_left c.args.src.now c.args.base c.args.work.now c.args.self c.requires.1 c.requires.2 commons c.if-kind-eq-COMMON_LEFT.true _ c.load16-value.ensures _ _ c.turn_right-then-kind-eq-COMMON_LEFT.ensures
+returns-in-3 c = answer_left c.args.src.now c.args.base c.args.work.now c.args.self c.requires.1 c.requires.2 commons c.in-3.is _ c.load16-value.ensures _ _ c.turn_right-in-3.ensures
 
-pub returns-then-kind-eq-SUM_RIGHT : goal.returns-then-kind-eq-SUM_RIGHT
+pub returns-in-2 : goal.returns-in-2
 unfolding right_kind combine
-returns-then-kind-eq-SUM_RIGHT c = answer_right c.args.src.now c.args.base c.args.work.now c.args.self c.requires.1 c.requires.2 sums c.if-kind-eq-SUM_RIGHT.true _ (λ l o p q. c.sum-arity.ensures l o (c.load16-value.ensures ∙ p) q) _ c.tell.ensures
+returns-in-2 c = answer_right c.args.src.now c.args.base c.args.work.now c.args.self c.requires.1 c.requires.2 sums c.in-2.is _ (λ l o p q. c.sum.ensures l o (c.load16-value.ensures ∙ p) q) _ c.tell.ensures
 
-pub returns-then-kind-eq-COMMON_RIGHT : goal.returns-then-kind-eq-COMMON_RIGHT
+pub returns-in-4 : goal.returns-in-4
 unfolding right_kind combine
-returns-then-kind-eq-COMMON_RIGHT c = answer_right c.args.src.now c.args.base c.args.work.now c.args.self c.requires.1 c.requires.2 commons c.if-kind-eq-COMMON_RIGHT.true _ (λ l o p q. c.common-arity.ensures l o (c.load16-value.ensures ∙ p) q) _ c.tell-then-kind-eq-COMMON_RIGHT.ensures
+returns-in-4 c = answer_right c.args.src.now c.args.base c.args.work.now c.args.self c.requires.1 c.requires.2 commons c.in-4.is _ (λ l o p q. c.common.ensures l o (c.load16-value.ensures ∙ p) q) _ c.tell-in-4.ensures
 
 pub learn-requires : goal.learn-requires
 learn-requires c =
     let room = answer_room c.args.src.now c.args.base c.args.work.now c.args.self c.requires.1 c.requires.2 c.requires.0.0 c.requires.0.1 c.requires.0.2 in
     let value-small : c.load16-value.result < 65536 = search rules in
-    (room.0, given_arity c.args.src.now c.args.base c.args.work.now c.args.self c.requires.1 c.requires.2 c.requires.0.0 c.requires.0.1 c.requires.0.2 c.if-kind-eq-BODY.true (subst (λ (x : ℕ). x < 65536) c.load16-value.ensures value-small), room.2)
+    (room.0, given_arity c.args.src.now c.args.base c.args.work.now c.args.self c.requires.1 c.requires.2 c.requires.0.0 c.requires.0.1 c.requires.0.2 c.in-5.is (subst (λ (x : ℕ). x < 65536) c.load16-value.ensures value-small), room.2)
 
-pub returns-then-kind-eq-BODY : goal.returns-then-kind-eq-BODY
-returns-then-kind-eq-BODY c =
+pub returns-in-5 : goal.returns-in-5
+returns-in-5 c =
     let value-small : c.load16-value.result < 65536 = search rules in
     let v = c.load16-value.ensures in
-    answer_body c.args.src.now c.args.base c.args.work.now c.args.self c.requires.1 c.requires.2 c.if-kind-eq-BODY.true (subst (λ (y : ℕ). y < 65536) v value-small) _ _ (c.learn.ensures.written ∙ ap (λ (y : ℕ). put_word c.args.work.now (frames_end + y * 2) (c.args.self.arity + 1)) v) c.learn.ensures.next
+    answer_body c.args.src.now c.args.base c.args.work.now c.args.self c.requires.1 c.requires.2 c.in-5.is (subst (λ (y : ℕ). y < 65536) v value-small) _ _ (c.learn.ensures.written ∙ ap (λ (y : ℕ). put_word c.args.work.now (frames_end + y * 2) (c.args.self.arity + 1)) v) c.learn.ensures.next
 
-pub returns : goal.returns
-returns c = answer_root c.args.src.now c.args.base c.args.work.now c.args.self c.requires.1 c.requires.2 c.if-kind-eq-SUM_LEFT.false c.if-kind-eq-COMMON_LEFT.false c.if-kind-eq-SUM_RIGHT.false c.if-kind-eq-COMMON_RIGHT.false c.if-kind-eq-BODY.false _ c.tell-2.ensures
+pub returns-in_default : goal.returns-in_default
+returns-in_default c = answer_root c.args.src.now c.args.base c.args.work.now c.args.self c.requires.1 c.requires.2 (λ e. omega (arith, e)) (λ e. omega (arith, e)) (λ e. omega (arith, e)) (λ e. omega (arith, e)) (λ e. omega (arith, e)) _ c.tell-in_default.ensures

@@ -18,13 +18,13 @@ enter-requires c =
     let r = tactic_room c.args.table.now c.args.first c.args.work.now c.args.self c.args.number.0 number_small c.requires in
     (omega (arith, r.0), omega (arith, r.0, r.1), r.1)
 
-pub returns-in-Missing : goal.returns-in-Missing
-returns-in-Missing c =
+pub returns-in-None : goal.returns-in-None
+returns-in-None c =
     let number_small : c.args.number.0 < 65536 = search rules in
-    tactic_missing c.args.table.now c.args.first c.args.work.now c.args.self c.args.number.0 number_small c.find_body-found.result c.args.number refl c.find_body-found.ensures c.in-Missing.is _ c.tell-in-Missing.ensures
+    tactic_missing c.args.table.now c.args.first c.args.work.now c.args.self c.args.number.0 number_small _ c.args.number refl c.in-None.ensures refl _ c.tell-in-None.ensures
 
-pub returns-in-At : goal.returns-in-At
-returns-in-At c =
+pub returns-in-Some : goal.returns-in-Some
+returns-in-Some c =
     let number_small : c.args.number.0 < 65536 = search rules in
-    tactic_enters c.args.table.now c.args.first c.args.work.now c.args.self c.args.number.0 number_small c.find_body-found.result c.args.number refl c.find_body-found.ensures _ c.in-At.is
+    tactic_enters c.args.table.now c.args.first c.args.work.now c.args.self c.args.number.0 number_small _ c.args.number refl c.in-Some.ensures _ refl
     (sym c.load16-known.ensures ∙ c.if-known-ne0.false) _ _ c.enter.ensures.written c.enter.ensures.next
