@@ -70,7 +70,7 @@ impl State {
     }
 
     // Of fields of two kinds, whether those of the kind that begins there are as many as may be: the first kind is that of a tag.
-    fn is_at_most(self, s: &[u8], tag: u8, first: usize, second: usize) -> bool
+    fn is_at_limit(self, s: &[u8], tag: u8, first: usize, second: usize) -> bool
         requires { self.at < length s.now }
         ensures { result ≡ cond (eqb (get_or s.now self.at 0) tag) (leb first self.first) (leb second self.second) }
     {
@@ -91,8 +91,8 @@ impl State {
             return MOST_TERM_FIELDS <= self.fields;
         }
         match self.part {
-            Part::Fields => self.is_at_most(s, RULE_TAG, MOST_RULES, MOST_DEFINITIONS),
-            Part::Entries => self.is_at_most(s, USE_TAG, MOST_USES, MOST_OPENS),
+            Part::Fields => self.is_at_limit(s, RULE_TAG, MOST_RULES, MOST_DEFINITIONS),
+            Part::Entries => self.is_at_limit(s, USE_TAG, MOST_USES, MOST_OPENS),
             _ => false,
         }
     }
