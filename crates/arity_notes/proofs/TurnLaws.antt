@@ -16,6 +16,7 @@ use Rattle.format.specs.Values.{tactic_no}
 use Rattle.format.specs.Terms.{Term, sequence, defined, size}
 use Rattle.format.specs.Standing.{Stands}
 use Rattle.format.proofs.StandsLaws.{known}
+use Rattle.tables.specs.declared.repeats.Repeat.TheVariants as K
 use Rattle.tables.specs.Tables.{Table}
 use Rattle.tables.specs.Lookup.{find_body}
 use Rattle.index.specs.Build.{DefinitionsIndexed}
@@ -47,7 +48,7 @@ use Rattle.arity_notes.proofs.NotingLaws.{beyond_from, quiet, noting}
 pub index_still : (bytes : List ℕ) (first : ℕ) (w v : List ℕ) → length v ≡ length w → ((i : ℕ) → definitions_place ≤ i → get_or v i 0 ≡ get_or w i 0) → DefinitionsIndexed bytes first w definitions_place → DefinitionsIndexed bytes first v definitions_place
 index_still bytes first w v l same x =
     let k : Kept w v 0 definitions_place = record { below = λ i h. absurd (omega (arith, h)); above = λ i h. same i h } in
-    (x.0, x.1, indexed_before 8 bytes x.0 w v definitions_place 0 definitions_place l k (omega arith) x.2)
+    (x.0, x.1, indexed_before K.Tactic bytes x.0 w v definitions_place 0 definitions_place l k (omega arith) x.2)
 
 -- three bytes behind a stack that has room
 module _ (w : List ℕ) (space : regions_end ≤ length w) (src : List ℕ) (k : List Wait) (top : ℕ) (stack : StackAt src w k top) (few : stack_weight k ≤ 65536) where

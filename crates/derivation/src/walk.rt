@@ -1,6 +1,7 @@
 // The walk of a flat derivation over its entries.
 ghost use Rattle.std.specs.Prelude.{◌≡◌, ◌+◌, ◌≤◌, length};
 ghost use Rattle.words.specs.Word.{word};
+ghost use Rattle.tables.specs.declared.repeats.Repeat.TheVariants.{Rule};
 ghost use Rattle.index.specs.Keys.{is_key, digits};
 ghost use Rattle.derivation.specs.Walks.{EntryInside, carried_goal, Ready, Walks};
 
@@ -45,7 +46,7 @@ fn digits_at(flat: &[u8], at: usize) -> u32
 // Whether the rule at one place has the name and the goal of the use at another.
 fn is_rule_of(table: &[u8], rule: usize, flat: &[u8], at: usize) -> bool
     requires { (rule + 7 ≤ length table.now) × (at + 7 ≤ length flat.now) }
-    ensures { result ≡ is_key 6 table.now (word flat.now (at + 3)) (word flat.now (at + 5)) rule }
+    ensures { result ≡ is_key Rule table.now (word flat.now (at + 3)) (word flat.now (at + 5)) rule }
 {
     let name = value_at(flat, at + 3);
     let on = value_at(flat, at + 5);

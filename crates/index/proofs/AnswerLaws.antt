@@ -9,6 +9,7 @@ use Prim.Native.Nat.{ℕ, ◌+◌, ◌<◌}
 use native.Mathlib.Omega.{arith}
 use lib.ListN.{length, get_or}
 use Rattle.words.specs.Word.{word}
+use Rattle.tables.specs.declared.repeats.Repeat.{Repeat}
 use Rattle.index.specs.declared.seek.Found.{Found}
 use Rattle.index.specs.declared.seek.Vacant.{Vacant}
 use Rattle.index.specs.declared.seek.Vacant.TheVariants.{Side, Head}
@@ -19,47 +20,47 @@ use Rattle.index.proofs.SeekLaws.{one_found, not_both}
 use Rattle.index.proofs.TreeLaws.{of_seen}
 use Rattle.index.proofs.KeyLaws.{key_says}
 
-module _ (number : ℕ) (s ps w : List ℕ) (base n : ℕ) (tree : Tree number s ps w base n) (value more : ℕ) where
+module _ (kind : Repeat) (s ps w : List ℕ) (base n : ℕ) (tree : Tree kind s ps w base n) (value more : ℕ) where
   -- no field has the key
   abbrev pub Nowhere : Type 0
-  Nowhere = (p : ℕ) → Memᴰ p ps → is_key number s value more p ≡ true → ⊥
+  Nowhere = (p : ℕ) → Memᴰ p ps → is_key kind s value more p ≡ true → ⊥
 
   -- the field with a number, at a place, has it, and no other
   pub record Only (i q : ℕ) : Type 0 where
     pub within : i < length ps
     pub numbered : get_or ps i 0 ≡ q
     pub among : Memᴰ q ps
-    pub key : is_key number s value more q ≡ true
-    pub one : (p : ℕ) → Memᴰ p ps → is_key number s value more p ≡ true → p ≡ q
+    pub key : is_key kind s value more q ≡ true
+    pub one : (p : ℕ) → Memᴰ p ps → is_key kind s value more p ≡ true → p ≡ q
 
   -- the search for the key of a field finds its node
-  its_way : (p : ℕ) (m : Memᴰ p ps) → is_key number s value more p ≡ true → FindsKey number s w base value more (tree.holds p m).node
+  its_way : (p : ℕ) (m : Memᴰ p ps) → is_key kind s value more p ≡ true → FindsKey kind s w base value more (tree.holds p m).node
   its_way p m k =
       let h = tree.holds p m in
-      let e = key_says number s value more p k in
-      subst (λ (v : ℕ). FindsKey number s w base v more h.node) (sym e.0) (subst (λ (v : ℕ). FindsKey number s w base (word s (p + 3)) v h.node) (sym e.1) h.found)
+      let e = key_says kind s value more p k in
+      subst (λ (v : ℕ). FindsKey kind s w base v more h.node) (sym e.0) (subst (λ (v : ℕ). FindsKey kind s w base (word s (p + 3)) v h.node) (sym e.1) h.found)
 
   pub headless : head_of w base (digits value more) ≡ 0 → Nowhere
   headless z p m k = omega (arith, (its_way p m k).headed)
 
-  pub missed : (k t : ℕ) → MissesKey number s w base value more k t → Nowhere
-  missed k t f p m c = not_both (link_of w base) (hits number s w base value more) (its_way p m c).way f.way
+  pub missed : (k t : ℕ) → MissesKey kind s w base value more k t → Nowhere
+  missed k t f p m c = not_both (link_of w base) (hits kind s w base value more) (its_way p m c).way f.way
 
-  pub found : (i q : ℕ) → i < n → place_of w base i ≡ q → is_key number s value more q ≡ true → FindsKey number s w base value more i → Only i q
+  pub found : (i q : ℕ) → i < n → place_of w base i ≡ q → is_key kind s value more q ≡ true → FindsKey kind s w base value more i → Only i q
   found i q l at-q k f = record {
     within = omega (arith, tree.many);
     numbered = sym (tree.in_order i l) ∙ at-q;
-    among = subst (λ (x : ℕ). Memᴰ x ps) at-q (of_seen number s ps w base n tree i l);
+    among = subst (λ (x : ℕ). Memᴰ x ps) at-q (of_seen kind s ps w base n tree i l);
     key = k;
     one = λ p m c.
-        let same = one_found (link_of w base) (hits number s w base value more) (its_way p m c).way f.way in
+        let same = one_found (link_of w base) (hits kind s w base value more) (its_way p m c).way f.way in
         sym (tree.holds p m).is ∙ subst (λ (j : ℕ). place_of w base j ≡ q) (sym same) at-q;
   }
 
   -- by where the code's search ends
-  module _ (r : Result Found Vacant) (so : (n : ℕ) → Sound number s w base n → Seeks number s w base n value more r) where
-    own : (x : Result Found Vacant) → r ≡ x → Seeks number s w base n value more x
-    own x e = subst (λ (x : Result Found Vacant). Seeks number s w base n value more x) e (so n tree.sound)
+  module _ (r : Result Found Vacant) (so : (n : ℕ) → Sound kind s w base n → Seeks kind s w base n value more r) where
+    own : (x : Result Found Vacant) → r ≡ x → Seeks kind s w base n value more x
+    own x e = subst (λ (x : Result Found Vacant). Seeks kind s w base n value more x) e (so n tree.sound)
 
     pub at_vacant : (v : Vacant) → r ≡ Err v → Nowhere
     unfolding Seeks

@@ -1,14 +1,16 @@
 -- Both values of a key as one number: it says the key, and is what the bytes of a field give.
 -- Assumes nothing.
 use mathlib.Core.Path.{◌≡◌, refl, sym, ap, ap₂, ◌∙◌}
-use mathlib.Core.Bool.{Bool, true, false, cond}
+use mathlib.Core.Bool.{Bool, true, false}
 use mathlib.Core.List.{List}
 use Prim.Native.Nat.{ℕ, ◌+◌, ◌*◌, ◌/◌, ◌%◌, ◌<◌}
 use native.Mathlib.Omega.{arith}
 use lib.Dec.{eqb}
 use lib.ListN.{get_or}
-use borrow.Author.Tests.{eqb-true, eqb-false, eq-eqb, ne_eqb}
+use borrow.Author.Tests.{eqb-true, eqb-false}
 use Rattle.words.specs.Word.{word}
+use Rattle.tables.specs.declared.repeats.Repeat.TheVariants as K
+use Rattle.tables.specs.declared.repeats.Repeat.{Repeat}
 use Rattle.index.specs.Nodes.{low}
 use Rattle.index.specs.Keys.{second_of, is_key, joined_of}
 use Rattle.index.proofs.KeyLaws.{never, key_says, key_if}
@@ -48,33 +50,35 @@ module _ (s : List ℕ) (bytes : (i : ℕ) → get_or s i 0 < 256) where
   unfolding word low
   exchanged k = omega (arith, bytes (k + 1))
 
-  module _ (number at : ℕ) where
-    second_small : second_of number s at < 65536
-    unfolding second_of
-    second_small = go (eqb number 6)
+  second_small : (kind : Repeat) (at : ℕ) → second_of kind s at < 65536
+  unfolding second_of
+  second_small K.Rule at = word_small (at + 5)
+  second_small K.PremiseCount at = omega arith
+  second_small K.Tactic at = omega arith
+  second_small K.Label at = omega arith
+
+  -- a rule has a second value, another field none
+  pub rule_joined : (at a b : ℕ) → a ≡ low s (at + 3) → b ≡ low s (at + 5) → a + b * 65536 ≡ joined_of (word s (at + 3)) (second_of K.Rule s at)
+  unfolding joined_of second_of
+  rule_joined at a b p q = ap₂ (λ (x y : ℕ). x + y * 65536) (p ∙ exchanged (at + 3)) (q ∙ exchanged (at + 5))
+
+  pub other_joined : (kind : Repeat) (at : ℕ) → (kind ≡ K.Rule → ⊥) → (a : ℕ) → a ≡ low s (at + 3) → a ≡ joined_of (word s (at + 3)) (second_of kind s at)
+  unfolding joined_of second_of
+  other_joined K.Rule at h a p = absurd (h refl)
+  other_joined K.PremiseCount at h a p = omega (arith, p, exchanged (at + 3))
+  other_joined K.Tactic at h a p = omega (arith, p, exchanged (at + 3))
+  other_joined K.Label at h a p = omega (arith, p, exchanged (at + 3))
+
+  module _ (kind : Repeat) (at : ℕ) where
+    pub joined_key : (v x a b : ℕ) → v < 65536 → x < 65536 → a ≡ joined_of v x → b ≡ joined_of (word s (at + 3)) (second_of kind s at) → eqb a b ≡ is_key kind s v x at
+    joined_key v x a b l m p q = go (eqb a b) refl (is_key kind s v x at) refl
       where
-        go : (b : Bool) → cond b (word s (at + 5)) 0 < 65536
-        go true = word_small (at + 5)
-        go false = omega arith
-
-    -- a rule has a second value, another field none
-    pub rule_joined : number ≡ 6 → (a b : ℕ) → a ≡ low s (at + 3) → b ≡ low s (at + 5) → a + b * 65536 ≡ joined_of (word s (at + 3)) (second_of number s at)
-    unfolding joined_of second_of
-    rule_joined e a b p q = rw (eq-eqb _ _ e) (ap₂ (λ (x y : ℕ). x + y * 65536) (p ∙ exchanged (at + 3)) (q ∙ exchanged (at + 5)))
-
-    pub other_joined : (number ≡ 6 → ⊥) → (a : ℕ) → a ≡ low s (at + 3) → a ≡ joined_of (word s (at + 3)) (second_of number s at)
-    unfolding joined_of second_of
-    other_joined h a p = rw (ne_eqb _ _ h) (omega (arith, p, exchanged (at + 3)))
-
-    pub joined_key : (v x a b : ℕ) → v < 65536 → x < 65536 → a ≡ joined_of v x → b ≡ joined_of (word s (at + 3)) (second_of number s at) → eqb a b ≡ is_key number s v x at
-    joined_key v x a b l m p q = go (eqb a b) refl (is_key number s v x at) refl
-      where
-        go : (t : Bool) → eqb a b ≡ t → (u : Bool) → is_key number s v x at ≡ u → t ≡ u
+        go : (t : Bool) → eqb a b ≡ t → (u : Bool) → is_key kind s v x at ≡ u → t ≡ u
         go true e true f = refl
         go false e false f = refl
         go true e false f =
-            let k = joined_says v x (word s (at + 3)) (second_of number s at) l m (word_small (at + 3)) second_small (sym p ∙ eqb-true a b e ∙ q) in
-            never (is_key number s v x at) (key_if number s v x at k.0 k.1) f
+            let k = joined_says v x (word s (at + 3)) (second_of kind s at) l m (word_small (at + 3)) (second_small kind at) (sym p ∙ eqb-true a b e ∙ q) in
+            never (is_key kind s v x at) (key_if kind s v x at k.0 k.1) f
         go false e true f =
-            let k = key_says number s v x at f in
+            let k = key_says kind s v x at f in
             absurd (eqb-false a b e (p ∙ ap₂ joined_of k.0 k.1 ∙ sym q))

@@ -11,6 +11,7 @@ use Rattle.format.specs.Limits.{least_height, most_height, most_search_steps}
 use Rattle.format.specs.declared.refusals.Cause.TheVariants.{BudgetTooLarge, HeightOutside}
 use Rattle.format.specs.Refusals.{number}
 use Rattle.reading.specs.Waiting.{reading_room}
+use Rattle.tables.specs.declared.repeats.Repeat.TheVariants as K
 use Rattle.tables.specs.Tables.{Table}
 use Rattle.index.specs.Build.{RulesIndexed, DefinitionsIndexed}
 use Rattle.index.proofs.IndexKept.{indexed_before}
@@ -37,8 +38,8 @@ searches d b T j = search_end j (search T (suc d) b j.term j.goals)
 -- reading the job leaves the indexes
 pub indexed_read : (t : List ℕ) (first : ℕ) (w v : List ℕ) → length v ≡ length w → Kept w v 0 reading_room → RulesIndexed t first w rules_place → DefinitionsIndexed t first w definitions_place → TableIndexed t first v
 indexed_read t first w v e k r d = record {
-  rules = (r.0, r.1, indexed_before 6 t r.0 w v rules_place 0 reading_room e k (omega arith) r.2);
-  definitions = (d.0, d.1, indexed_before 8 t d.0 w v definitions_place 0 reading_room e k (omega arith) d.2);
+  rules = (r.0, r.1, indexed_before K.Rule t r.0 w v rules_place 0 reading_room e k (omega arith) r.2);
+  definitions = (d.0, d.1, indexed_before K.Tactic t d.0 w v definitions_place 0 reading_room e k (omega arith) d.2);
 }
 
 -- the limits

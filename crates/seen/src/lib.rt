@@ -12,7 +12,7 @@ ghost use Rattle.seen.specs.Seen.{seen_at, put_seen, mark_of, Marked, Markable, 
 
 use crate::layout::SEEN_ROOM;
 use crate::ready::make_ready;
-use tables::repeats::{searched, step};
+use tables::repeats::Repeat;
 use words::load16;
 
 // What was seen of a value.
@@ -22,9 +22,10 @@ fn seen_at(w: &[u8], base: usize, value: usize) -> u8
 {
     let both = w[base + value % SEEN_ROOM];
     if value < SEEN_ROOM {
-        return both % 16;
+        both % 16
+    } else {
+        both / 16
     }
-    both / 16
 }
 
 // Enters a mark for a value of which nothing was seen.
@@ -42,35 +43,35 @@ fn mark_seen(w: &mut [u8], base: usize, value: usize, mark: u8)
 }
 
 // The mark of a field: for 9 it is 1; for 7 it is half the length of the rule, the count of its premises and 2.
-fn mark_of(s: &[u8], at: usize, number: u8) -> u8
-    requires { Room s.now at × Marked number s.now at }
-    ensures { result ≡ mark_of number s.now at }
+fn mark_of(s: &[u8], at: usize, kind: Repeat) -> u8
+    requires { Room s.now at × Marked kind s.now at }
+    ensures { result ≡ mark_of kind s.now at }
 {
-    if number == 9 {
-        return 1;
+    match kind {
+        Repeat::Label => 1,
+        _ => (load16(s, at + 1) / 2) as u8,
     }
-    (load16(s, at + 1) / 2) as u8
 }
 
 // Whether one field more clashes with one seen. The first of its value is entered.
-fn meets(s: &[u8], w: &mut [u8], base: usize, at: usize, number: u8) -> bool
-    requires { Room s.now at × Markable number s.now at × (base + seen_room ≤ length w.old) }
-    ensures { Meets number s.now w.old w.new base at result }
+fn meets(s: &[u8], w: &mut [u8], base: usize, at: usize, kind: Repeat) -> bool
+    requires { Room s.now at × Markable kind s.now at × (base + seen_room ≤ length w.old) }
+    ensures { Meets kind s.now w.old w.new base at result }
 {
-    if s[at] != searched(number) {
+    if s[at] != kind.tag() {
         return false;
     }
     let value = load16(s, at + 3) as usize;
-    let mark = mark_of(s, at, number);
+    let mark = mark_of(s, at, kind);
     let earlier = seen_at(w, base, value);
     if earlier == 0 {
         mark_seen(w, base, value, mark);
         return false;
     }
-    if number == 9 {
-        return true;
+    match kind {
+        Repeat::Label => true,
+        _ => earlier != mark,
     }
-    earlier != mark
 }
 
 // The first field from a place to another that clashes with an earlier one of these, for 7 or 9.
@@ -80,18 +81,18 @@ pub fn first_repeat(
     base: usize,
     from: usize,
     to: usize,
-    number: u8,
+    kind: Repeat,
 ) -> Option<usize>
-    requires { ((ps : List ℕ) × Headers number s.now from ps to × Every (Markable number s.now) ps) × (base + seen_room ≤ length w.old) }
-    ensures { Repeats number s.now w.old w.new base from to result }
+    requires { ((ps : List ℕ) × Headers kind s.now from ps to × Every (Markable kind s.now) ps) × (base + seen_room ≤ length w.old) }
+    ensures { Repeats kind s.now w.old w.new base from to result }
 {
-    make_ready(s, w, base, from, to, number);
+    make_ready(s, w, base, from, to, kind);
     let mut at = from;
     while at < to {
-        if meets(s, w, base, at, number) {
+        if meets(s, w, base, at, kind) {
             return Some(at);
         }
-        at += step(s, at, number);
+        at += kind.step(s, at);
     }
     None
 }

@@ -5,15 +5,15 @@ ghost use Rattle.seen.specs.Layout.{seen_room};
 ghost use Rattle.seen.specs.Seen.{Forgets, Readies};
 
 use crate::layout::{FEW_BYTES, SEEN_ROOM};
-use tables::repeats::{searched, step};
+use tables::repeats::Repeat;
 use words::{clear_part, load16};
 
 // Sets the byte of a field's value to 0, if the search is about the field.
-fn forget(s: &[u8], w: &mut [u8], base: usize, at: usize, number: u8)
+fn forget(s: &[u8], w: &mut [u8], base: usize, at: usize, kind: Repeat)
     requires { Room s.now at × (base + seen_room ≤ length w.old) }
-    ensures { Forgets number s.now w.old w.new base at }
+    ensures { Forgets kind s.now w.old w.new base at }
 {
-    if s[at] != searched(number) {
+    if s[at] != kind.tag() {
         return;
     }
     let value = load16(s, at + 3) as usize;
@@ -21,9 +21,9 @@ fn forget(s: &[u8], w: &mut [u8], base: usize, at: usize, number: u8)
 }
 
 // Sets the bytes of all fields from a place to another to 0. Where these are few, clearing the whole table would cost more than the search.
-pub fn make_ready(s: &[u8], w: &mut [u8], base: usize, from: usize, to: usize, number: u8)
-    requires { ((ps : List ℕ) × Headers number s.now from ps to) × (base + seen_room ≤ length w.old) }
-    ensures { Readies number s.now w.old w.new base from to }
+pub fn make_ready(s: &[u8], w: &mut [u8], base: usize, from: usize, to: usize, kind: Repeat)
+    requires { ((ps : List ℕ) × Headers kind s.now from ps to) × (base + seen_room ≤ length w.old) }
+    ensures { Readies kind s.now w.old w.new base from to }
 {
     if FEW_BYTES < to - from {
         clear_part(w, base, SEEN_ROOM);
@@ -31,7 +31,7 @@ pub fn make_ready(s: &[u8], w: &mut [u8], base: usize, from: usize, to: usize, n
     }
     let mut at = from;
     while at < to {
-        forget(s, w, base, at, number);
-        at += step(s, at, number);
+        forget(s, w, base, at, kind);
+        at += kind.step(s, at);
     }
 }

@@ -20,6 +20,8 @@ use Rattle.format.specs.Headers.{Header, header_at}
 use Rattle.format.specs.ReadTerms.{ParsedTerm}
 use Rattle.format.proofs.HeaderLaws.{is_field}
 use Rattle.format.proofs.RefusedPlace.{RefusedWithin, further, steps, header_place, term_place_lem}
+use Rattle.tables.specs.declared.repeats.Repeat.{Repeat}
+use Rattle.tables.specs.declared.repeats.Repeat.TheVariants as K
 use Rattle.tables.specs.Tables.{Table}
 use Rattle.tables.specs.Repeats.{clashes_any, first_clash, rules_size, refuse_at, whole_table}
 use Rattle.tables.specs.ReadTables.{Field, rule_field, definition_field, definition_of, field_of, read_field, with_rule, with_definition, fields_of, read_fields, read_table}
@@ -30,7 +32,7 @@ use Rattle.tables.proofs.FieldLaws.{FieldLaw, field_law, behind_value}
 use Rattle.tables.proofs.RowLaws as row
 use Rattle.tables.proofs.TableLaws.{fields_stand}
 use Rattle.tables.proofs.SearchLaws.{step_positive}
-use Rattle.tables.proofs.RepeatLaws.{rules_run, tactics_run, labels_run, six, seven, eight, nine}
+use Rattle.tables.proofs.RepeatLaws.{by_goal, by_count, rules_run, tactics_run, labels_run, six, seven, eight, nine}
 
 -- a refusal within the file
 at_own : (A : Type 0) (at low high : ℕ) (c : Cause) → low ≤ at → at ≤ high → 2 ≤ number c → number c ≤ 5 → RefusedWithin {A = A} low high (refused c at)
@@ -80,16 +82,16 @@ module _ (s : List ℕ) where
       (no_refusal 0 (length s) _)
 
   -- a clash is at a header before the end of the row
-  clash_place : (number : ℕ) (clash : ℕ → ℕ → Bool) (ps seen : List ℕ) (from to p : ℕ) → Headers number s from ps to → first_clash clash seen (places ps) ≡ some p → p < to
+  clash_place : (kind : Repeat) (clash : ℕ → ℕ → Bool) (ps seen : List ℕ) (from to p : ℕ) → Headers kind s from ps to → first_clash clash seen (places ps) ≡ some p → p < to
   unfolding InRow first_clash places
-  clash_place number clash [] seen from to p h e = absurd (let z : ◌≡◌ {A = ℕ} 0 1 = cc in omega arith)
-  clash_place number clash (q ∷ ps) seen from to p h e =
-      go (clashes_any clash q seen) e (λ k. clash_place number clash ps (seen ++ (q ∷ [])) (from + step_at number s q) to p h.1 k)
+  clash_place kind clash [] seen from to p h e = absurd (let z : ◌≡◌ {A = ℕ} 0 1 = cc in omega arith)
+  clash_place kind clash (q ∷ ps) seen from to p h e =
+      go (clashes_any clash q seen) e (λ k. clash_place kind clash ps (seen ++ (q ∷ [])) (from + step_at kind s q) to p h.1 k)
     where
       go : (b : Bool) → cond b (some q) (first_clash clash (seen ++ (q ∷ [])) (places ps)) ≡ some p → (first_clash clash (seen ++ (q ∷ [])) (places ps) ≡ some p → p < to) → p < to
       go true k ih =
           let z : q ≡ p = cc in
-          omega (arith, h.0.0, step_positive number s q, row.row_le (λ at p. (p ≡ at) × Room s at) (step_at number s) ps (from + step_at number s q) to h.1)
+          omega (arith, h.0.0, step_positive kind s q, row.row_le (λ at p. (p ≡ at) × Room s at) (step_at kind s) ps (from + step_at kind s q) to h.1)
       go false k ih = ih k
 
 -- the same of whatever reading comes to
@@ -109,14 +111,14 @@ module _ (s : List ℕ) (fits : length s ≤ most_bytes) where
   whole_place T st =
       let first = rules_size T.rules in
       let e = row.row_le (DefinitionStands s) _ T.definitions first (length s) st.definitions_stand in
-      let a = rules_run s 6 refl refl T.rules 0 first st.rules_stand in
-      let b = rules_run s 7 refl refl T.rules 0 first st.rules_stand in
+      let a = rules_run s K.Rule by_goal T.rules 0 first st.rules_stand in
+      let b = rules_run s K.PremiseCount by_count T.rules 0 first st.rules_stand in
       let c = tactics_run s T.definitions first (length s) st.definitions_stand in
       let d = labels_run s T.definitions first (length s) st.definitions_stand in
-      at_clash RuleRepeated _ _ (λ p q. omega (arith, clash_place s 6 (clash_at 6 s) a.at [] 0 first p a.headers (sym (six s T.rules 0 first st.rules_stand) ∙ q))) (omega arith) (omega arith)
-      (at_clash PremiseCountDiffers _ _ (λ p q. omega (arith, clash_place s 7 (clash_at 7 s) b.at [] 0 first p b.headers (sym (seven s T.rules 0 first st.rules_stand) ∙ q))) (omega arith) (omega arith)
-      (at_clash TacticRedefined _ _ (λ p q. omega (arith, clash_place s 8 (clash_at 8 s) c.at [] first (length s) p c.headers (sym (eight s T.definitions first (length s) st.definitions_stand) ∙ q))) (omega arith) (omega arith)
-      (at_clash LabelRepeated _ _ (λ p q. omega (arith, clash_place s 9 (clash_at 9 s) d.at [] first (length s) p d.headers (sym (nine s T.definitions first (length s) st.definitions_stand) ∙ q))) (omega arith) (omega arith)
+      at_clash RuleRepeated _ _ (λ p q. omega (arith, clash_place s K.Rule (clash_at K.Rule s) a.at [] 0 first p a.headers (sym (six s T.rules 0 first st.rules_stand) ∙ q))) (omega arith) (omega arith)
+      (at_clash PremiseCountDiffers _ _ (λ p q. omega (arith, clash_place s K.PremiseCount (clash_at K.PremiseCount s) b.at [] 0 first p b.headers (sym (seven s T.rules 0 first st.rules_stand) ∙ q))) (omega arith) (omega arith)
+      (at_clash TacticRedefined _ _ (λ p q. omega (arith, clash_place s K.Tactic (clash_at K.Tactic s) c.at [] first (length s) p c.headers (sym (eight s T.definitions first (length s) st.definitions_stand) ∙ q))) (omega arith) (omega arith)
+      (at_clash LabelRepeated _ _ (λ p q. omega (arith, clash_place s K.Label (clash_at K.Label s) d.at [] first (length s) p d.headers (sym (nine s T.definitions first (length s) st.definitions_stand) ∙ q))) (omega arith) (omega arith)
       tt)))
 
   -- the fields, then the whole table

@@ -5,6 +5,7 @@ use mathlib.Core.Bool.{Bool, true, false, cond}
 use mathlib.Core.Option.{Option, some}
 use mathlib.Core.List.{List, [], ◌∷◌, ◌++◌}
 use Prim.Native.Nat.{ℕ, ◌+◌}
+use Rattle.tables.specs.declared.repeats.Repeat.{Repeat}
 use Rattle.tables.specs.Repeats.{Placed, clashes_any, first_clash}
 use Rattle.tables.specs.Standing.{InRow}
 use Rattle.tables.specs.Search.{step_at, Room, clash_at, Headers, places}
@@ -48,20 +49,20 @@ module _ {A : Type 0} (Holds : ℕ → A → Type 0) (Silent : ℕ → Type 0) w
         rw (none_clashes test p (λ q. (quiet p h q).0) seen) (first_same v (seen ++ (p ∷ [])) earlier (none_more seen earlier p h g))
 
 -- headers one behind the other that carry these values
-pub record Run {A : Type 0} (Holds : ℕ → A → Type 0) (Silent : ℕ → Type 0) (number : ℕ) (s : List ℕ) (from : ℕ) (xs : List (Placed A)) (to : ℕ) : Type 0 where
+pub record Run {A : Type 0} (Holds : ℕ → A → Type 0) (Silent : ℕ → Type 0) (kind : Repeat) (s : List ℕ) (from : ℕ) (xs : List (Placed A)) (to : ℕ) : Type 0 where
   pub at : List ℕ
-  pub headers : Headers number s from at to
+  pub headers : Headers kind s from at to
   pub values : Values Holds Silent at xs
 
-module _ {A : Type 0} (Holds : ℕ → A → Type 0) (Silent : ℕ → Type 0) (number : ℕ) (s : List ℕ) where
+module _ {A : Type 0} (Holds : ℕ → A → Type 0) (Silent : ℕ → Type 0) (kind : Repeat) (s : List ℕ) where
   abbrev R : ℕ → List (Placed A) → ℕ → Type 0
-  R = Run Holds Silent number s
+  R = Run Holds Silent kind s
 
   pub run_end : (from to : ℕ) → from ≡ to → R from [] to
   unfolding InRow
   run_end from to e = record { at = []; headers = e; values = no_value }
 
-  pub run_value : (from to k : ℕ) (a : A) (xs : List (Placed A)) → Holds from a → Room s from → step_at number s from ≡ k → R (from + k) xs to → R from (record { value = a; place = from } ∷ xs) to
+  pub run_value : (from to k : ℕ) (a : A) (xs : List (Placed A)) → Holds from a → Room s from → step_at kind s from ≡ k → R (from + k) xs to → R from (record { value = a; place = from } ∷ xs) to
   unfolding InRow
   run_value from to k a xs h m e r = record {
     at = from ∷ r.at;
@@ -69,7 +70,7 @@ module _ {A : Type 0} (Holds : ℕ → A → Type 0) (Silent : ℕ → Type 0) (
     values = value h r.values;
   }
 
-  pub run_other : (from to k : ℕ) (xs : List (Placed A)) → Silent from → Room s from → step_at number s from ≡ k → R (from + k) xs to → R from xs to
+  pub run_other : (from to k : ℕ) (xs : List (Placed A)) → Silent from → Room s from → step_at kind s from ≡ k → R (from + k) xs to → R from xs to
   unfolding InRow
   run_other from to k xs h m e r = record {
     at = from ∷ r.at;
@@ -80,14 +81,14 @@ module _ {A : Type 0} (Holds : ℕ → A → Type 0) (Silent : ℕ → Type 0) (
   pub run-append : (from mid to : ℕ) (xs ys : List (Placed A)) → R from xs mid → R mid ys to → R from (xs ++ ys) to
   run-append from mid to xs ys a b = record {
     at = a.at ++ b.at;
-    headers = row.row-append (λ at p. (p ≡ at) × Room s at) (step_at number s) a.at b.at from mid to a.headers b.headers;
+    headers = row.row-append (λ at p. (p ≡ at) × Room s at) (step_at kind s) a.at b.at from mid to a.headers b.headers;
     values = values_append Holds Silent a.values b.values;
   }
 
   -- values that stand in a row, each the value of one header
   module _ {B : Type 0} (stands : ℕ → B → Type 0) (size_of : B → ℕ) (value_of : B → A) (placed : ℕ → List B → List (Placed A))
       (nil : (at : ℕ) → placed at [] ≡ []) (cons : (at : ℕ) (x : B) (xs : List B) → placed at (x ∷ xs) ≡ record { value = value_of x; place = at } ∷ placed (at + size_of x) xs)
-      (carries : (at : ℕ) (x : B) → stands at x → Holds at (value_of x) × Room s at × (step_at number s at ≡ size_of x)) where
+      (carries : (at : ℕ) (x : B) → stands at x → Holds at (value_of x) × Room s at × (step_at kind s at ≡ size_of x)) where
     pub run_row : (xs : List B) (from to : ℕ) → InRow stands size_of from xs to → R from (placed from xs) to
     unfolding InRow
     run_row [] from to e = subst (λ (v : List (Placed A)). R from v to) (sym (nil from)) (run_end from to e)
@@ -96,8 +97,8 @@ module _ {A : Type 0} (Holds : ℕ → A → Type 0) (Silent : ℕ → Type 0) (
         subst (λ (v : List (Placed A)). R from v to) (sym (cons from x xs)) (run_value from to (size_of x) (value_of x) _ c.0 c.1 c.2 (run_row xs (from + size_of x) to h.1))
 
   -- the first clash of the values is that of the headers
-  module _ (clash : A → A → Bool) (same : (p q : ℕ) (a b : A) → Holds p a → Holds q b → clash_at number s p q ≡ clash a b)
-      (quiet : (p : ℕ) → Silent p → (q : ℕ) → (clash_at number s p q ≡ false) × (clash_at number s q p ≡ false)) where
-    pub run_first : (from to : ℕ) (xs : List (Placed A)) → (r : R from xs to) → first_clash clash [] xs ≡ first_clash (clash_at number s) [] (places r.at)
+  module _ (clash : A → A → Bool) (same : (p q : ℕ) (a b : A) → Holds p a → Holds q b → clash_at kind s p q ≡ clash a b)
+      (quiet : (p : ℕ) → Silent p → (q : ℕ) → (clash_at kind s p q ≡ false) × (clash_at kind s q p ≡ false)) where
+    pub run_first : (from to : ℕ) (xs : List (Placed A)) → (r : R from xs to) → first_clash clash [] xs ≡ first_clash (clash_at kind s) [] (places r.at)
     unfolding clashes_any
-    run_first from to xs r = first_same Holds Silent clash (clash_at number s) same quiet r.values [] [] (λ p a h. refl)
+    run_first from to xs r = first_same Holds Silent clash (clash_at kind s) same quiet r.values [] [] (λ p a h. refl)

@@ -3,12 +3,10 @@
 use Rattle.std.specs.Prelude.{Some, None, Ok, Err}
 use Rattle.std.specs.Prelude as std
 use mathlib.Core.Path.{◌≡◌, refl, sym, subst, ap, ◌∙◌}
-use mathlib.Core.Bool.{true, false}
 use mathlib.Core.Option.{Option, none, some}
 use mathlib.Core.List.{List, []}
 use Prim.Native.Nat.{ℕ, ◌+◌, ◌≤◌, ◌<◌}
 use native.Mathlib.Omega.{arith}
-use lib.Dec.{eqb, ltb}
 use lib.ListN.{length}
 use borrow.Author.Tests.{lt-ltb, le-ltb}
 use Rattle.format.specs.Limits.{most_bytes}
@@ -16,6 +14,8 @@ use Rattle.format.specs.declared.refusals.Refusal.{Refusal}
 use Rattle.format.specs.declared.refusals.Cause.TheVariants.{InputTooLong, RuleRepeated, PremiseCountDiffers, TacticRedefined, LabelRepeated}
 use Rattle.format.specs.Results.{Result, gives, refused, and_then, told, refused_at}
 use Rattle.format.proofs.ResultLaws.{told_refused, same_answered}
+use Rattle.tables.specs.declared.repeats.Repeat.{Repeat}
+use Rattle.tables.specs.declared.repeats.Repeat.TheVariants as K
 use Rattle.tables.specs.declared.fields.TableParts.{TableParts}
 use Rattle.tables.specs.Tables.{Table}
 use Rattle.tables.specs.Repeats.{rules_size, placed_rules, placed_tactics, labels_of, first_clash, repeats_tactic, repeats_label, refuse_at, whole_table}
@@ -27,34 +27,34 @@ use Rattle.tables.specs.Facts.{six_of, seven_of, eight_of, nine_of}
 use Rattle.tables.proofs.RowLaws.{rules_end}
 use Rattle.tables.proofs.TableLaws.{fields_stand}
 use Rattle.tables.proofs.RunLaws.{Run}
-use Rattle.tables.proofs.RepeatLaws.{rules_run, tactics_run, labels_run, six, seven, eight, nine}
+use Rattle.tables.proofs.RepeatLaws.{OfRules, by_goal, by_count, rules_run, tactics_run, labels_run, six, seven, eight, nine}
 
 -- what a search over headers that the code made tells of a table that stands in the bytes
-abbrev Finds : (number : ℕ) → List ℕ → (from to : ℕ) → std.Option ℕ → Type 0
-Finds number s from to r = (ps : List ℕ) → Headers number s from ps to → first_clash (clash_at number s) [] (places ps) ≡ clash_told r
+abbrev Finds : (kind : Repeat) → List ℕ → (from to : ℕ) → std.Option ℕ → Type 0
+Finds kind s from to r = (ps : List ℕ) → Headers kind s from ps to → first_clash (clash_at kind s) [] (places ps) ≡ clash_told r
 
 module _ (s : List ℕ) (first : ℕ) (T : Table) (st : TableStands s first T) where
   -- the headers to search
-  abbrev rules : (number : ℕ) → ltb number 8 ≡ true → eqb number 9 ≡ false → Run (RuleStands s) (λ p. ⊥) number s 0 (placed_rules 0 T.rules) first
-  rules number few whole = rules_run s number few whole T.rules 0 first st.rules_stand
+  abbrev rules : (kind : Repeat) → OfRules s kind → Run (RuleStands s) (λ p. ⊥) kind s 0 (placed_rules 0 T.rules) first
+  rules kind of = rules_run s kind of T.rules 0 first st.rules_stand
 
   -- the definitions begin where the rules end
   begins : first ≡ rules_size T.rules
   begins = omega (arith, rules_end s T.rules 0 first st.rules_stand)
 
-  pub told_6 : (r : std.Option ℕ) → Finds 6 s 0 first r → six_of T ≡ clash_told r
-  told_6 r f = let h = rules 6 refl refl in six s T.rules 0 first st.rules_stand ∙ f h.at h.headers
+  pub told_6 : (r : std.Option ℕ) → Finds K.Rule s 0 first r → six_of T ≡ clash_told r
+  told_6 r f = let h = rules K.Rule by_goal in six s T.rules 0 first st.rules_stand ∙ f h.at h.headers
 
-  pub told_7 : (r : std.Option ℕ) → Finds 7 s 0 first r → seven_of T ≡ clash_told r
-  told_7 r f = let h = rules 7 refl refl in seven s T.rules 0 first st.rules_stand ∙ f h.at h.headers
+  pub told_7 : (r : std.Option ℕ) → Finds K.PremiseCount s 0 first r → seven_of T ≡ clash_told r
+  told_7 r f = let h = rules K.PremiseCount by_count in seven s T.rules 0 first st.rules_stand ∙ f h.at h.headers
 
-  pub told_8 : (r : std.Option ℕ) → Finds 8 s first (length s) r → eight_of T ≡ clash_told r
+  pub told_8 : (r : std.Option ℕ) → Finds K.Tactic s first (length s) r → eight_of T ≡ clash_told r
   told_8 r f =
       let h = tactics_run s T.definitions first (length s) st.definitions_stand in
       subst (λ (k : ℕ). first_clash repeats_tactic [] (placed_tactics k T.definitions) ≡ clash_told r) begins
       (eight s T.definitions first (length s) st.definitions_stand ∙ f h.at h.headers)
 
-  pub told_9 : (r : std.Option ℕ) → Finds 9 s first (length s) r → nine_of T ≡ clash_told r
+  pub told_9 : (r : std.Option ℕ) → Finds K.Label s first (length s) r → nine_of T ≡ clash_told r
   told_9 r f =
       let h = labels_run s T.definitions first (length s) st.definitions_stand in
       subst (λ (k : ℕ). first_clash repeats_label [] (labels_of k T.definitions) ≡ clash_told r) begins

@@ -16,6 +16,7 @@ use Rattle.format.specs.declared.refusals.Refusal.{Refusal}
 use Rattle.format.specs.Limits.{most_bytes, most_rules, most_definitions}
 use Rattle.format.specs.Results.{Result, gives, refused, told}
 use Rattle.reading.specs.Waiting.{reading_room}
+use Rattle.tables.specs.declared.repeats.Repeat.TheVariants as K
 use Rattle.tables.specs.declared.fields.TableParts.{TableParts}
 use Rattle.tables.specs.Tables.{Table}
 use Rattle.tables.specs.Repeats.{rules_size, whole_table}
@@ -53,10 +54,10 @@ found_place c (Some p) r e = (p, refl, sym (same e))
 
 -- the headers of the searches for 6 and 8 in a table whose fields were read
 module _ (s : List ℕ) (first : ℕ) (T : Table) (st : TableStands s first T) (read : read_fields (length s + 1) s 0 0 0 0 ≡ gives T) where
-  pub few_6 : Few s first T st 6 0 first most_rules
+  pub few_6 : Few s first T st K.Rule 0 first most_rules
   few_6 = let f = few_rules s first T st in (f.0, f.1, f.2, omega (arith, f.3, (fields.fields_read (length s + 1) s 0 0 0 0 (omega arith) T read).rule_room (omega arith)))
 
-  pub few_8 : Few s first T st 8 first (length s) most_definitions
+  pub few_8 : Few s first T st K.Tactic first (length s) most_definitions
   few_8 = let f = few_definitions s first T st in (f.0, f.1, f.2, omega (arith, f.3, (fields.fields_read (length s + 1) s 0 0 0 0 (omega arith) T read).definition_room (omega arith)))
 
 -- a refusal of the table
@@ -101,30 +102,30 @@ begun_next {s} {w₀} {w} {w'} {other} {base} b size low high k l u = record {
 -- an index that a later search leaves alone
 module _ {s w w' : List ℕ} {base : ℕ} (first : ℕ) (size : length w' ≡ length w) (low high : ℕ) (k : Kept w w' low high) (l : high ≤ base) where
   rules_next : RulesIndexed s first w base → RulesIndexed s first w' base
-  rules_next ix = (ix.0, ix.1, indexed_before 6 s ix.0 w w' base low high size k l ix.2)
+  rules_next ix = (ix.0, ix.1, indexed_before K.Rule s ix.0 w w' base low high size k l ix.2)
 
   definitions_next : DefinitionsIndexed s first w base → DefinitionsIndexed s first w' base
-  definitions_next ix = (ix.0, ix.1, indexed_before 8 s ix.0 w w' base low high size k l ix.2)
+  definitions_next ix = (ix.0, ix.1, indexed_before K.Tactic s ix.0 w w' base low high size k l ix.2)
 
 module _ {s : List ℕ} {p : TableParts} (f : FieldsTold s p) where
-  rules_few : Few s p.first f.table f.stands 6 0 p.first most_rules
+  rules_few : Few s p.first f.table f.stands K.Rule 0 p.first most_rules
   rules_few = few_6 s p.first f.table f.stands f.read
 
-  definitions_few : Few s p.first f.table f.stands 8 p.first (length s) most_definitions
+  definitions_few : Few s p.first f.table f.stands K.Tactic p.first (length s) most_definitions
   definitions_few = few_8 s p.first f.table f.stands f.read
 
   -- what each search asks for
   module _ {w₀ w : List ℕ} {other base : ℕ} (b : Begun s w₀ w other base) where
-    pub asked_6 : ((ps : List ℕ) × Headers 6 s 0 ps p.first × Every (Tagged 6 s) ps × (length ps ≤ most_nodes) × (base + heads_room + length ps * 5 ≤ length w)) × ByKey 6 × (length s ≤ most_bytes)
-    asked_6 = let h = rules_few in ((h.0, h.1, h.2, h.3, omega (arith, h.3, b.space)), refl, b.fits)
+    pub asked_6 : ((ps : List ℕ) × Headers K.Rule s 0 ps p.first × Every (Tagged K.Rule s) ps × (length ps ≤ most_nodes) × (base + heads_room + length ps * 5 ≤ length w)) × ByKey K.Rule × (length s ≤ most_bytes)
+    asked_6 = let h = rules_few in ((h.0, h.1, h.2, h.3, omega (arith, h.3, b.space)), λ e. cc, b.fits)
 
-    pub asked_7 : ((ps : List ℕ) × Headers 7 s 0 ps p.first × Every (Markable 7 s) ps) × (other + seen_room ≤ length w)
+    pub asked_7 : ((ps : List ℕ) × Headers K.PremiseCount s 0 ps p.first × Every (Markable K.PremiseCount s) ps) × (other + seen_room ≤ length w)
     asked_7 = (rules_markable s p.first f.table f.stands, omega (arith, b.space, b.room))
 
-    pub asked_8 : ((ps : List ℕ) × Headers 8 s p.first ps (length s) × Every (Tagged 8 s) ps × (length ps ≤ most_nodes) × (other + seen_room + heads_room + length ps * 5 ≤ length w)) × ByKey 8 × (length s ≤ most_bytes)
-    asked_8 = let h = definitions_few in ((h.0, h.1, h.2, omega (arith, h.3), omega (arith, h.3, b.space, b.room)), refl, b.fits)
+    pub asked_8 : ((ps : List ℕ) × Headers K.Tactic s p.first ps (length s) × Every (Tagged K.Tactic s) ps × (length ps ≤ most_nodes) × (other + seen_room + heads_room + length ps * 5 ≤ length w)) × ByKey K.Tactic × (length s ≤ most_bytes)
+    asked_8 = let h = definitions_few in ((h.0, h.1, h.2, omega (arith, h.3), omega (arith, h.3, b.space, b.room)), λ e. cc, b.fits)
 
-    pub asked_9 : ((ps : List ℕ) × Headers 9 s p.first ps (length s) × Every (Markable 9 s) ps) × (other + seen_room ≤ length w)
+    pub asked_9 : ((ps : List ℕ) × Headers K.Label s p.first ps (length s) × Every (Markable K.Label s) ps) × (other + seen_room ≤ length w)
     asked_9 = (labels_markable s p.first f.table f.stands, omega (arith, b.space, b.room))
 
   -- none of 6, then of 7, of 8 and of 9 holds, and the indexes stand
@@ -148,7 +149,7 @@ module _ {s : List ℕ} {p : TableParts} (f : FieldsTold s p) where
 
   -- a search, by what it tells of the place that it found
   module _ {w₀ w w' : List ℕ} {other base : ℕ} (x : Option ℕ) (size : length w' ≡ length w) where
-    module _ (b : Begun s w₀ w other base) (found : (ps : List ℕ) → Headers 6 s 0 ps p.first → Builds 6 s w w' base ps x) where
+    module _ (b : Begun s w₀ w other base) (found : (ps : List ℕ) → Headers K.Rule s 0 ps p.first → Builds K.Rule s w w' base ps x) where
       now_6 : Begun s w₀ w' other base
       now_6 = let h = rules_few in begun_next b size _ _ (found h.0 h.1).kept (omega (arith, b.room)) (omega (arith, h.3))
 
@@ -161,7 +162,7 @@ module _ {s : List ℕ} {p : TableParts} (f : FieldsTold s p) where
       pub at_6 : (r : Refusal) → refusal_at RuleRepeated x ≡ Err r → ReadsTable s w₀ w' other base (Err r)
       at_6 r e = let q = found_place RuleRepeated x r e in refused_now now_6 r (refused_6 f.table q.0 (found_some told-6 q.1) ∙ ap Err (sym q.2))
 
-    module _ (u : Unrepeated w₀ w other base) (found : Repeats 7 s w w' other 0 p.first x) where
+    module _ (u : Unrepeated w₀ w other base) (found : Repeats K.PremiseCount s w w' other 0 p.first x) where
       now_7 : Begun s w₀ w' other base
       now_7 = begun_next u.begun size _ _ found.kept (omega arith) (omega (arith, u.begun.room))
 
@@ -177,7 +178,7 @@ module _ {s : List ℕ} {p : TableParts} (f : FieldsTold s p) where
       pub at_7 : (r : Refusal) → refusal_at PremiseCountDiffers x ≡ Err r → ReadsTable s w₀ w' other base (Err r)
       at_7 r e = let q = found_place PremiseCountDiffers x r e in refused_now now_7 r (refused_7 f.table u.none_6 q.0 (found_some told-7 q.1) ∙ ap Err (sym q.2))
 
-    module _ (v : Uniform w₀ w other base) (found : (ps : List ℕ) → Headers 8 s p.first ps (length s) → Builds 8 s w w' (other + seen_room) ps x) where
+    module _ (v : Uniform w₀ w other base) (found : (ps : List ℕ) → Headers K.Tactic s p.first ps (length s) → Builds K.Tactic s w w' (other + seen_room) ps x) where
       now_8 : Begun s w₀ w' other base
       now_8 = let h = definitions_few in begun_next v.unrepeated.begun size _ _ (found h.0 h.1).kept (omega arith) (omega (arith, v.unrepeated.begun.room, h.3))
 
@@ -204,7 +205,7 @@ module _ {s : List ℕ} {p : TableParts} (f : FieldsTold s p) where
       pub at_8 : (r : Refusal) → refusal_at TacticRedefined x ≡ Err r → ReadsTable s w₀ w' other base (Err r)
       at_8 r e = let q = found_place TacticRedefined x r e in refused_now now_8 r (refused_8 f.table v.unrepeated.none_6 v.none_7 q.0 (found_some told-8 q.1) ∙ ap Err (sym q.2))
 
-    module _ (d : Defined w₀ w other base) (found : Repeats 9 s w w' other p.first (length s) x) where
+    module _ (d : Defined w₀ w other base) (found : Repeats K.Label s w w' other p.first (length s) x) where
       abbrev u : Unrepeated w₀ w other base
       u = d.uniform.unrepeated
 

@@ -13,13 +13,14 @@ use index::tree::first_clash;
 use seen::first_repeat;
 use seen::layout::SEEN_ROOM;
 use tables::fields::{TableParts, read_fields};
+use tables::repeats::Repeat;
 
 // A refusal at the place that was found, if one was.
 fn refuse_at(cause: Cause, found: Option<usize>) -> Result<(), Refusal>
     ensures { result ≡ refusal_at cause found }
 {
     match found {
-        Some(place) => Err(Refusal { cause, place }),
+        Some(place) => Err(Refusal::new(cause, place)),
         None => Ok(()),
     }
 }
@@ -31,20 +32,17 @@ pub fn read_table(s: &[u8], w: &mut [u8], other: usize, base: usize) -> Result<T
 {
     let end = s.len();
     if 65535 < end {
-        return Err(Refusal {
-            cause: Cause::InputTooLong,
-            place: 0,
-        });
+        return Err(Refusal::new(Cause::InputTooLong, 0));
     }
     let parts = read_fields(s, w, other)?;
     let first = parts.first;
-    let repeated = first_clash(s, w, base, 0, first, 6);
+    let repeated = first_clash(s, w, base, 0, first, Repeat::Rule);
     refuse_at(Cause::RuleRepeated, repeated)?;
-    let recounted = first_repeat(s, w, other, 0, first, 7);
+    let recounted = first_repeat(s, w, other, 0, first, Repeat::PremiseCount);
     refuse_at(Cause::PremiseCountDiffers, recounted)?;
-    let redefined = first_clash(s, w, other + SEEN_ROOM, first, end, 8);
+    let redefined = first_clash(s, w, other + SEEN_ROOM, first, end, Repeat::Tactic);
     refuse_at(Cause::TacticRedefined, redefined)?;
-    let reused = first_repeat(s, w, other, first, end, 9);
+    let reused = first_repeat(s, w, other, first, end, Repeat::Label);
     refuse_at(Cause::LabelRepeated, reused)?;
     Ok(parts)
 }

@@ -19,8 +19,8 @@ loop-at-init c = (refl, kept_same _ _ _, λ ps h m. turn_first _ _ _ _ ps _ _ h 
 
 pub meets-requires : goal.meets-requires
 meets-requires c =
-    let turn : T c.args.number c.args.s.now c.loop-at.w c.requires.0.0 c.args.base c.args.to c.loop-at.at = let p = c.requires.0 in c.loop-at.invariant.2 p.0 p.1 p.2 in
-    let here : Room c.args.s.now c.loop-at.at × (c.loop-at.at + step_at c.args.number c.args.s.now c.loop-at.at ≤ c.args.to) = header _ _ _ _ _ _ _ turn c.loop-at-test.true in
+    let turn : T c.args.kind c.args.s.now c.loop-at.w c.requires.0.0 c.args.base c.args.to c.loop-at.at = let p = c.requires.0 in c.loop-at.invariant.2 p.0 p.1 p.2 in
+    let here : Room c.args.s.now c.loop-at.at × (c.loop-at.at + step_at c.args.kind c.args.s.now c.loop-at.at ≤ c.args.to) = header _ _ _ _ _ _ _ turn c.loop-at-test.true in
     (here.0, own _ _ _ _ _ _ _ turn c.loop-at-test.true, omega (arith, c.requires.1, c.make_ready.auto.w, c.loop-at.invariant.0))
 
 pub shape_of-w-then-meets : goal.shape_of-w-then-meets
@@ -28,25 +28,25 @@ shape_of-w-then-meets c = c.meets.auto.w ∙ c.loop-at.invariant.0 ∙ c.make_re
 
 pub returns-then-meets : goal.returns-then-meets
 returns-then-meets c =
-    let turn : T c.args.number c.args.s.now c.loop-at.w c.requires.0.0 c.args.base c.args.to c.loop-at.at = let p = c.requires.0 in c.loop-at.invariant.2 p.0 p.1 p.2 in
+    let turn : T c.args.kind c.args.s.now c.loop-at.w c.requires.0.0 c.args.base c.args.to c.loop-at.at = let p = c.requires.0 in c.loop-at.invariant.2 p.0 p.1 p.2 in
     let p = c.requires.0 in
     let m = c.meets.ensures in
     over _ _ _ _ _ _ _ _ _ p.0 p.1 (turn_clash _ _ _ _ _ _ _ turn c.loop-at-test.true (m.told _ _ (member _ _ _ _ _ _ _ turn c.loop-at-test.true) turn.has ∙ c.if-meets.true)) c.make_ready.ensures (kept_both _ _ _ _ _ _ _ _ _ c.loop-at.invariant.1 m.kept (omega arith) (omega arith) (omega arith) (omega arith))
 
 pub step-at-requires : goal.step-at-requires
 step-at-requires c =
-    let turn : T c.args.number c.args.s.now c.loop-at.w c.requires.0.0 c.args.base c.args.to c.loop-at.at = let p = c.requires.0 in c.loop-at.invariant.2 p.0 p.1 p.2 in
-    let here : Room c.args.s.now c.loop-at.at × (c.loop-at.at + step_at c.args.number c.args.s.now c.loop-at.at ≤ c.args.to) = header _ _ _ _ _ _ _ turn c.loop-at-test.true in
+    let turn : T c.args.kind c.args.s.now c.loop-at.w c.requires.0.0 c.args.base c.args.to c.loop-at.at = let p = c.requires.0 in c.loop-at.invariant.2 p.0 p.1 p.2 in
+    let here : Room c.args.s.now c.loop-at.at × (c.loop-at.at + step_at c.args.kind c.args.s.now c.loop-at.at ≤ c.args.to) = header _ _ _ _ _ _ _ turn c.loop-at-test.true in
     here.0
 
 pub overflow_add-at : goal.overflow_add-at
 overflow_add-at c =
-    let turn : T c.args.number c.args.s.now c.loop-at.w c.requires.0.0 c.args.base c.args.to c.loop-at.at = let p = c.requires.0 in c.loop-at.invariant.2 p.0 p.1 p.2 in
-    let here : Room c.args.s.now c.loop-at.at × (c.loop-at.at + step_at c.args.number c.args.s.now c.loop-at.at ≤ c.args.to) = header _ _ _ _ _ _ _ turn c.loop-at-test.true in
+    let turn : T c.args.kind c.args.s.now c.loop-at.w c.requires.0.0 c.args.base c.args.to c.loop-at.at = let p = c.requires.0 in c.loop-at.invariant.2 p.0 p.1 p.2 in
+    let here : Room c.args.s.now c.loop-at.at × (c.loop-at.at + step_at c.args.kind c.args.s.now c.loop-at.at ≤ c.args.to) = header _ _ _ _ _ _ _ turn c.loop-at-test.true in
     omega (arith, here.1, c.step-at.ensures)
 
 pub loop-at-smaller : goal.loop-at-smaller
-loop-at-smaller c = omega (arith, c.loop-at-test.true, c.step-at.ensures, step_positive c.args.number c.args.s.now c.loop-at.at)
+loop-at-smaller c = omega (arith, c.loop-at-test.true, c.step-at.ensures, step_positive c.args.kind c.args.s.now c.loop-at.at)
 
 pub loop-at-preserved : goal.loop-at-preserved
 loop-at-preserved c =

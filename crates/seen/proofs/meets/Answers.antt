@@ -12,42 +12,42 @@ use Rattle.seen.proofs.SeenLaws.{passed, again, compared, marked}
 use Rattle.seen.proofs.meets.Goals as goal
 
 pub returns-then-s-at : goal.returns-then-s-at
-returns-then-s-at c = passed _ _ _ _ _ (λ e. c.if-s-at.true (e ∙ sym c.searched.ensures))
+returns-then-s-at c = passed _ _ _ _ _ (λ e. c.if-s-at.true (e ∙ sym c.tag.ensures))
 
 pub load16-value-requires : goal.load16-value-requires
 load16-value-requires c =
-    let tag : get_or c.args.s.now c.args.at 0 ≡ searched_tag c.args.number = c.if-s-at.false ∙ c.searched.ensures in
-    omega (arith, value_inside c.args.number c.args.s.now c.args.at tag c.requires.0)
+    let tag : get_or c.args.s.now c.args.at 0 ≡ searched_tag c.args.kind = c.if-s-at.false ∙ c.tag.ensures in
+    omega (arith, value_inside c.args.kind c.args.s.now c.args.at tag c.requires.0)
 
 pub mark_of-mark-requires : goal.mark_of-mark-requires
 mark_of-mark-requires c =
-    let tag : get_or c.args.s.now c.args.at 0 ≡ searched_tag c.args.number = c.if-s-at.false ∙ c.searched.ensures in
-    let own : Marked c.args.number c.args.s.now c.args.at = c.requires.1 tag in
+    let tag : get_or c.args.s.now c.args.at 0 ≡ searched_tag c.args.kind = c.if-s-at.false ∙ c.tag.ensures in
+    let own : Marked c.args.kind c.args.s.now c.args.at = c.requires.1 tag in
     (c.requires.0, own)
 
 pub mark_seen-requires : goal.mark_seen-requires
 mark_seen-requires c =
-    let tag : get_or c.args.s.now c.args.at 0 ≡ searched_tag c.args.number = c.if-s-at.false ∙ c.searched.ensures in
-    let own : Marked c.args.number c.args.s.now c.args.at = c.requires.1 tag in
+    let tag : get_or c.args.s.now c.args.at 0 ≡ searched_tag c.args.kind = c.if-s-at.false ∙ c.tag.ensures in
+    let own : Marked c.args.kind c.args.s.now c.args.at = c.requires.1 tag in
     (c.requires.2, omega (arith, c.mark_of-mark.ensures, own.fits), sym c.seen_at-earlier.ensures ∙ c.if-earlier-eq0.true)
 
 pub returns-then-earlier-eq0 : goal.returns-then-earlier-eq0
 returns-then-earlier-eq0 c =
-    let tag : get_or c.args.s.now c.args.at 0 ≡ searched_tag c.args.number = c.if-s-at.false ∙ c.searched.ensures in
-    let own : Marked c.args.number c.args.s.now c.args.at = c.requires.1 tag in
+    let tag : get_or c.args.s.now c.args.at 0 ≡ searched_tag c.args.kind = c.if-s-at.false ∙ c.tag.ensures in
+    let own : Marked c.args.kind c.args.s.now c.args.at = c.requires.1 tag in
     let small : word c.args.s.now (c.args.at + 3) < 65536 = omega (arith, c.load16-value.ensures, c.load16-value.type_inv) in
     marked _ _ _ _ _ tag own small _ _ _ c.load16-value.ensures c.mark_of-mark.ensures c.seen_at-earlier.ensures c.requires.2 c.if-earlier-eq0.true _ c.mark_seen.ensures
 
-pub returns-then-number-eq9 : goal.returns-then-number-eq9
-returns-then-number-eq9 c =
-    let tag : get_or c.args.s.now c.args.at 0 ≡ searched_tag c.args.number = c.if-s-at.false ∙ c.searched.ensures in
-    let own : Marked c.args.number c.args.s.now c.args.at = c.requires.1 tag in
+pub returns-in-Label : goal.returns-in-Label
+returns-in-Label c =
+    let tag : get_or c.args.s.now c.args.at 0 ≡ searched_tag c.args.kind = c.if-s-at.false ∙ c.tag.ensures in
+    let own : Marked c.args.kind c.args.s.now c.args.at = c.requires.1 tag in
     let small : word c.args.s.now (c.args.at + 3) < 65536 = omega (arith, c.load16-value.ensures, c.load16-value.type_inv) in
-    again _ _ _ _ _ tag own small _ _ _ c.load16-value.ensures c.mark_of-mark.ensures c.seen_at-earlier.ensures c.if-number-eq9.true c.if-earlier-eq0.false
+    again _ _ _ _ _ tag own small _ _ _ c.load16-value.ensures c.mark_of-mark.ensures c.seen_at-earlier.ensures c.in-Label.is c.if-earlier-eq0.false
 
-pub returns : goal.returns
-returns c =
-    let tag : get_or c.args.s.now c.args.at 0 ≡ searched_tag c.args.number = c.if-s-at.false ∙ c.searched.ensures in
-    let own : Marked c.args.number c.args.s.now c.args.at = c.requires.1 tag in
+pub returns-in_default : goal.returns-in_default
+returns-in_default c =
+    let tag : get_or c.args.s.now c.args.at 0 ≡ searched_tag c.args.kind = c.if-s-at.false ∙ c.tag.ensures in
+    let own : Marked c.args.kind c.args.s.now c.args.at = c.requires.1 tag in
     let small : word c.args.s.now (c.args.at + 3) < 65536 = omega (arith, c.load16-value.ensures, c.load16-value.type_inv) in
-    compared _ _ _ _ _ tag own small _ _ _ c.load16-value.ensures c.mark_of-mark.ensures c.seen_at-earlier.ensures c.if-number-eq9.false c.if-earlier-eq0.false
+    compared _ _ _ _ _ tag own small _ _ _ c.load16-value.ensures c.mark_of-mark.ensures c.seen_at-earlier.ensures c.in_default.not-Label c.if-earlier-eq0.false

@@ -8,6 +8,6 @@ pub returns-then-value-lt-SEEN_ROOM : goal.returns-then-value-lt-SEEN_ROOM
 unfolding seen_at
 returns-then-value-lt-SEEN_ROOM c = low_half _ _ c.if-value-lt-SEEN_ROOM.true
 
-pub returns : goal.returns
+pub returns-else-value-lt-SEEN_ROOM : goal.returns-else-value-lt-SEEN_ROOM
 unfolding seen_at
-returns c = high_half _ _ c.if-value-lt-SEEN_ROOM.false
+returns-else-value-lt-SEEN_ROOM c = high_half _ _ c.if-value-lt-SEEN_ROOM.false

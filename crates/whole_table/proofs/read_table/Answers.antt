@@ -9,7 +9,7 @@ use Rattle.whole_table.proofs.read_table.Goals as goal
 use Rattle.whole_table.proofs.read_table.Goals.{In_ok-parts}
 
 pub returns-then-end-gt65535 : goal.returns-then-end-gt65535
-returns-then-end-gt65535 c = reads_refused (kept_same _ _ _) _ (too_long _ c.if-end-gt65535.true)
+returns-then-end-gt65535 c = rw c.new.ensures (reads_refused (kept_same _ _ _) _ (too_long _ c.if-end-gt65535.true))
 
 pub returns-in_err-parts : goal.returns-in_err-parts
 returns-in_err-parts c =

@@ -7,6 +7,7 @@ use Rattle.format.specs.declared.values.Goal.{Goal}
 use Rattle.format.specs.Limits.{most_uses}
 use Rattle.format.specs.Goals.{goals_at}
 use Rattle.rule_set.proofs.SetKept.{set_before}
+use Rattle.tables.specs.declared.repeats.Repeat.TheVariants as K
 use Rattle.tables.specs.Tables.{Table}
 use Rattle.index.specs.Keys.{is_key}
 use Rattle.index.specs.Build.{RulesIndexed}
@@ -117,7 +118,7 @@ pub link-node-requires : goal.link-node-requires
 link-node-requires c = omega (arith, node_inside (at_node (goal.at.link-node-requires c).At-loop-place))
 
 -- the rule there has another name or goal
-other_key : (c : Else-is_rule_of) → is_key 6 c.args.table.now (word c.args.flat.now (c.walk.at + 3)) (word c.args.flat.now (c.walk.at + 5)) c.load16-place.result ≡ false
+other_key : (c : Else-is_rule_of) → is_key K.Rule c.args.table.now (word c.args.flat.now (c.walk.at + 3)) (word c.args.flat.now (c.walk.at + 5)) c.load16-place.result ≡ false
 other_key c = sym c.is_rule_of.ensures ∙ c.if-is_rule_of.false
 
 pub loop-place-smaller : goal.loop-place-smaller
@@ -131,7 +132,7 @@ loop-place-preserved c =
     goes_down (at_node m.At-loop-place) c.load16-place.result c.load16-place.ensures (other_key m.Else-is_rule_of) _ c.link-node.ensures c.if-node-eq0.false
 
 -- it is the rule of the use
-is-key : (c : Then-is_rule_of) → is_key 6 c.args.table.now (word c.args.flat.now (c.walk.at + 3)) (word c.args.flat.now (c.walk.at + 5)) c.load16-place.result ≡ true
+is-key : (c : Then-is_rule_of) → is_key K.Rule c.args.table.now (word c.args.flat.now (c.walk.at + 3)) (word c.args.flat.now (c.walk.at + 5)) c.load16-place.result ≡ true
 is-key c = sym c.is_rule_of.ensures ∙ c.if-is_rule_of.true
 
 -- before a use there is room for one list more

@@ -2,12 +2,13 @@
 -- Assumes nothing.
 use mathlib.Core.Path.{sym, ◌∙◌}
 use native.Mathlib.Omega.{arith}
+use Rattle.tables.specs.declared.repeats.Repeat.TheVariants as K
 use Rattle.index.proofs.AnswerLaws.{Only, none_at, some_at}
 use Rattle.index.proofs.BodyLaws.{body_missing, inside, body_found}
 use Rattle.index.proofs.lookup.find_body.Goals as goal
 use Rattle.index.proofs.lookup.find_body.Goals.{In_ok-found}
 
-only : (c : In_ok-found) → Only 8 c.args.table.now c.requires.1.0 c.args.w.now c.args.base c.requires.1.2.0 c.requires.1.2.1 c.args.tactic.0 0 c.in_ok-found.found.node c.in_ok-found.found.place
+only : (c : In_ok-found) → Only K.Tactic c.args.table.now c.requires.1.0 c.args.w.now c.args.base c.requires.1.2.0 c.requires.1.2.1 c.args.tactic.0 0 c.in_ok-found.found.node c.in_ok-found.found.place
 only c = some_at _ _ _ _ _ _ c.requires.1.2.1 _ _ _ c.seek.ensures _ (sym c.ok.ensures.value ∙ c.in_ok-found.was)
 
 pub seek-requires : goal.seek-requires

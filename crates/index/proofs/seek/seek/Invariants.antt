@@ -6,8 +6,8 @@ use Rattle.index.specs.Index.{Sound}
 use Rattle.index.proofs.SeekLaws.{Way}
 use Rattle.index.proofs.seek.seek.Given as goal
 
-abbrev pub invariant-loop-base : goal.invariant-loop-base
-invariant-loop-base l = (n : ℕ) → Sound l.number l.s l.w l.base n → Way l.number l.s l.w l.base n l.value l.more l.rest l.node
+abbrev pub invariant-loop-kind : goal.invariant-loop-kind
+invariant-loop-kind l = (n : ℕ) → Sound l.kind l.s l.w l.base n → Way l.kind l.s l.w l.base n l.value l.more l.rest l.node
 
-abbrev pub decreases-loop-base : goal.decreases-loop-base
-decreases-loop-base l = length l.w - l.node
+abbrev pub decreases-loop-kind : goal.decreases-loop-kind
+decreases-loop-kind l = length l.w - l.node

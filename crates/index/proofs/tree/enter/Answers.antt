@@ -10,7 +10,7 @@ use Rattle.index.proofs.tree.enter.Goals as goal
 use Rattle.index.proofs.tree.enter.Goals.{In-Side}
 
 pub load16-value-requires : goal.load16-value-requires
-load16-value-requires c = omega (arith, value_inside c.args.number c.args.s.now c.args.at c.requires.tagged.0 c.requires.tagged.1)
+load16-value-requires c = omega (arith, value_inside c.args.kind c.args.s.now c.args.at c.requires.tagged.0 c.requires.tagged.1)
 
 pub returns-in_default : goal.returns-in_default
 returns-in_default c = there _ _ _ _ _ _ c.requires.tagged.0 c.requires.tagged.1 c.requires.tagged.2 c.requires.tagged.4 c.requires.tagged.5 _ _ c.load16-value.ensures c.second-more.ensures _ c.seek.ensures _ c.in_default.is

@@ -21,8 +21,8 @@ loop-at-init c = (refl, kept_same _ _ _, λ ps h e. turn_first _ _ _ _ ps _ _ h 
 
 pub enter-requires : goal.enter-requires
 enter-requires c =
-    let turn : T c.args.number c.args.s.now c.loop-at.w c.requires.0.0 c.args.base c.args.to c.loop-at.at c.loop-at.count = let p = c.requires.0 in c.loop-at.invariant.2 p.0 p.1 p.2 in
-    let here : Room c.args.s.now c.loop-at.at × (c.loop-at.at + step_at c.args.number c.args.s.now c.loop-at.at ≤ c.args.to) = header _ _ _ _ _ _ _ turn c.loop-at-test.true in
+    let turn : T c.args.kind c.args.s.now c.loop-at.w c.requires.0.0 c.args.base c.args.to c.loop-at.at c.loop-at.count = let p = c.requires.0 in c.loop-at.invariant.2 p.0 p.1 p.2 in
+    let here : Room c.args.s.now c.loop-at.at × (c.loop-at.at + step_at c.args.kind c.args.s.now c.loop-at.at ≤ c.args.to) = header _ _ _ _ _ _ _ turn c.loop-at-test.true in
     let more : c.loop-at.count < length c.requires.0.0 = omega (arith, room_left _ _ _ _ _ _ _ turn c.loop-at-test.true, turn.has.many) in
     let p = c.requires in
     let n = more in
@@ -33,7 +33,7 @@ shape_of-w-then-enter c = c.enter.auto.w ∙ c.loop-at.invariant.0 ∙ c.clear_p
 
 pub returns-then-enter : goal.returns-then-enter
 returns-then-enter c =
-    let turn : T c.args.number c.args.s.now c.loop-at.w c.requires.0.0 c.args.base c.args.to c.loop-at.at c.loop-at.count = let p = c.requires.0 in c.loop-at.invariant.2 p.0 p.1 p.2 in
+    let turn : T c.args.kind c.args.s.now c.loop-at.w c.requires.0.0 c.args.base c.args.to c.loop-at.at c.loop-at.count = let p = c.requires.0 in c.loop-at.invariant.2 p.0 p.1 p.2 in
     let more : c.loop-at.count < length c.requires.0.0 = omega (arith, room_left _ _ _ _ _ _ _ turn c.loop-at-test.true, turn.has.many) in
     let p = c.requires.0 in
     let e = c.enter.ensures in
@@ -43,24 +43,24 @@ returns-then-enter c =
 
 pub overflow_add-count : goal.overflow_add-count
 overflow_add-count c =
-    let turn : T c.args.number c.args.s.now c.loop-at.w c.requires.0.0 c.args.base c.args.to c.loop-at.at c.loop-at.count = let p = c.requires.0 in c.loop-at.invariant.2 p.0 p.1 p.2 in
+    let turn : T c.args.kind c.args.s.now c.loop-at.w c.requires.0.0 c.args.base c.args.to c.loop-at.at c.loop-at.count = let p = c.requires.0 in c.loop-at.invariant.2 p.0 p.1 p.2 in
     let more : c.loop-at.count < length c.requires.0.0 = omega (arith, room_left _ _ _ _ _ _ _ turn c.loop-at-test.true, turn.has.many) in
     omega (arith, more, c.requires.0.3)
 
 pub step-at-requires : goal.step-at-requires
 step-at-requires c =
-    let turn : T c.args.number c.args.s.now c.loop-at.w c.requires.0.0 c.args.base c.args.to c.loop-at.at c.loop-at.count = let p = c.requires.0 in c.loop-at.invariant.2 p.0 p.1 p.2 in
-    let here : Room c.args.s.now c.loop-at.at × (c.loop-at.at + step_at c.args.number c.args.s.now c.loop-at.at ≤ c.args.to) = header _ _ _ _ _ _ _ turn c.loop-at-test.true in
+    let turn : T c.args.kind c.args.s.now c.loop-at.w c.requires.0.0 c.args.base c.args.to c.loop-at.at c.loop-at.count = let p = c.requires.0 in c.loop-at.invariant.2 p.0 p.1 p.2 in
+    let here : Room c.args.s.now c.loop-at.at × (c.loop-at.at + step_at c.args.kind c.args.s.now c.loop-at.at ≤ c.args.to) = header _ _ _ _ _ _ _ turn c.loop-at-test.true in
     here.0
 
 pub overflow_add-at : goal.overflow_add-at
 overflow_add-at c =
-    let turn : T c.args.number c.args.s.now c.loop-at.w c.requires.0.0 c.args.base c.args.to c.loop-at.at c.loop-at.count = let p = c.requires.0 in c.loop-at.invariant.2 p.0 p.1 p.2 in
-    let here : Room c.args.s.now c.loop-at.at × (c.loop-at.at + step_at c.args.number c.args.s.now c.loop-at.at ≤ c.args.to) = header _ _ _ _ _ _ _ turn c.loop-at-test.true in
+    let turn : T c.args.kind c.args.s.now c.loop-at.w c.requires.0.0 c.args.base c.args.to c.loop-at.at c.loop-at.count = let p = c.requires.0 in c.loop-at.invariant.2 p.0 p.1 p.2 in
+    let here : Room c.args.s.now c.loop-at.at × (c.loop-at.at + step_at c.args.kind c.args.s.now c.loop-at.at ≤ c.args.to) = header _ _ _ _ _ _ _ turn c.loop-at-test.true in
     omega (arith, here.1, c.step-at.ensures)
 
 pub loop-at-smaller : goal.loop-at-smaller
-loop-at-smaller c = omega (arith, c.loop-at-test.true, c.step-at.ensures, step_positive c.args.number c.args.s.now c.loop-at.at)
+loop-at-smaller c = omega (arith, c.loop-at-test.true, c.step-at.ensures, step_positive c.args.kind c.args.s.now c.loop-at.at)
 
 pub loop-at-preserved : goal.loop-at-preserved
 loop-at-preserved c =

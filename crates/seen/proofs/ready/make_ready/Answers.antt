@@ -11,7 +11,7 @@ use Rattle.seen.proofs.ReadyLaws.{ahead_first, ahead_header, ahead_next, ready_b
 use Rattle.seen.proofs.ready.make_ready.Goals as goal
 
 pub overflow_sub-to : goal.overflow_sub-to
-overflow_sub-to c = omega (arith, row_le (λ at p. (p ≡ at) × Room c.args.s.now at) (step_at c.args.number c.args.s.now) c.requires.0.0 c.args.from c.args.to c.requires.0.1)
+overflow_sub-to c = omega (arith, row_le (λ at p. (p ≡ at) × Room c.args.s.now at) (step_at c.args.kind c.args.s.now) c.requires.0.0 c.args.from c.args.to c.requires.0.1)
 
 pub clear_part-requires : goal.clear_part-requires
 clear_part-requires c = omega (arith, c.requires.1)
@@ -27,21 +27,21 @@ loop-at-init c = (refl, kept_same _ _ _, λ ps h. ahead_first _ _ _ _ ps _ _ h)
 
 pub forget-requires : goal.forget-requires
 forget-requires c =
-    let here : Room c.args.s.now c.loop-at.at × (c.loop-at.at + step_at c.args.number c.args.s.now c.loop-at.at ≤ c.args.to) = let p = c.requires.0 in ahead_header _ _ _ _ _ _ _ (c.loop-at.invariant.2 p.0 p.1) c.loop-at-test.true in
+    let here : Room c.args.s.now c.loop-at.at × (c.loop-at.at + step_at c.args.kind c.args.s.now c.loop-at.at ≤ c.args.to) = let p = c.requires.0 in ahead_header _ _ _ _ _ _ _ (c.loop-at.invariant.2 p.0 p.1) c.loop-at-test.true in
     (here.0, omega (arith, c.requires.1, c.loop-at.invariant.0))
 
 pub step-at-requires : goal.step-at-requires
 step-at-requires c =
-    let here : Room c.args.s.now c.loop-at.at × (c.loop-at.at + step_at c.args.number c.args.s.now c.loop-at.at ≤ c.args.to) = let p = c.requires.0 in ahead_header _ _ _ _ _ _ _ (c.loop-at.invariant.2 p.0 p.1) c.loop-at-test.true in
+    let here : Room c.args.s.now c.loop-at.at × (c.loop-at.at + step_at c.args.kind c.args.s.now c.loop-at.at ≤ c.args.to) = let p = c.requires.0 in ahead_header _ _ _ _ _ _ _ (c.loop-at.invariant.2 p.0 p.1) c.loop-at-test.true in
     here.0
 
 pub overflow_add-at : goal.overflow_add-at
 overflow_add-at c =
-    let here : Room c.args.s.now c.loop-at.at × (c.loop-at.at + step_at c.args.number c.args.s.now c.loop-at.at ≤ c.args.to) = let p = c.requires.0 in ahead_header _ _ _ _ _ _ _ (c.loop-at.invariant.2 p.0 p.1) c.loop-at-test.true in
+    let here : Room c.args.s.now c.loop-at.at × (c.loop-at.at + step_at c.args.kind c.args.s.now c.loop-at.at ≤ c.args.to) = let p = c.requires.0 in ahead_header _ _ _ _ _ _ _ (c.loop-at.invariant.2 p.0 p.1) c.loop-at-test.true in
     omega (arith, here.1, c.step-at.ensures)
 
 pub loop-at-smaller : goal.loop-at-smaller
-loop-at-smaller c = omega (arith, c.loop-at-test.true, c.step-at.ensures, step_positive c.args.number c.args.s.now c.loop-at.at)
+loop-at-smaller c = omega (arith, c.loop-at-test.true, c.step-at.ensures, step_positive c.args.kind c.args.s.now c.loop-at.at)
 
 pub loop-at-preserved : goal.loop-at-preserved
 loop-at-preserved c =

@@ -11,7 +11,7 @@ use Rattle.seen.proofs.ReadyLaws.{Ahead}
 use Rattle.seen.proofs.ready.make_ready.Given as goal
 
 abbrev pub invariant-loop-at : goal.invariant-loop-at
-invariant-loop-at l = (length l.w ≡ length l.initial.w) × Kept l.initial.w l.w l.base (l.base + seen_room) × ((ps : List ℕ) → Headers l.number l.s l.from ps l.to → Ahead l.number l.s l.base l.to ps l.w l.at)
+invariant-loop-at l = (length l.w ≡ length l.initial.w) × Kept l.initial.w l.w l.base (l.base + seen_room) × ((ps : List ℕ) → Headers l.kind l.s l.from ps l.to → Ahead l.kind l.s l.base l.to ps l.w l.at)
 
 abbrev pub decreases-loop-at : goal.decreases-loop-at
 decreases-loop-at l = l.to - l.at
