@@ -18,6 +18,7 @@ use Rattle.arities.specs.Layout.{frames_end}
 use Rattle.arity_notes.specs.Regions.{notes_room, definitions_place, regions_end}
 use Rattle.arities.specs.Arities.{arity_code, arities, Pair}
 use Rattle.arity_notes.proofs.NoteLaws.{slot_inside}
+use Rattle.arity_notes.specs.declared.walk.Next.TheVariants as N
 use Rattle.arity_notes.specs.declared.walk.Walk.{Walk}
 use Rattle.arity_notes.specs.Waits.{Both, sums, commons, combine, Wait, for_left, for_right, for_body, for_root, left_kind, right_kind, WaitIs, StackAt}
 use Rattle.arity_notes.specs.Asked.{Known, Turn, asks, tells, TurnIs, turn_weight, stack_weight}
@@ -80,7 +81,7 @@ module _ (src : List ℕ) (kind value : ℕ) (P : Wait → Type 0) where
   if_root n₁ n₃ n₂ n₄ n₅ f (for_body d) h = absurd (n₅ h.0)
   if_root n₁ n₃ n₂ n₄ n₅ f for_root h = f
 
-module _ (src : List ℕ) (base : ℕ) (w : List ℕ) (s : Walk) (telling : s.asks ≡ false) (deep : 0 < s.top) where
+module _ (src : List ℕ) (base : ℕ) (w : List ℕ) (s : Walk) (arity : ℕ) (telling : s.next ≡ N.Tells arity) (deep : 0 < s.top) where
   abbrev low : ℕ
   low = s.top - 3
 
@@ -99,7 +100,7 @@ module _ (src : List ℕ) (base : ℕ) (w : List ℕ) (s : Walk) (telling : s.as
         → ((end : ℕ) (a : Known → Option ℕ) (x : Wait) (k : List Wait) → Tells bytes first m T end a (x ∷ k) → s.top ≡ low + 3 → WaitIs src kind value x → StackAt src w k low → P (tells end a) (x ∷ k))
         → (c : Turn) (k : List Wait) → Walking m T bytes first src base w s c k → P c k
     unfolding TurnIs StackAt
-    at_top P f (asks at t) k q = absurd (not_both s.asks q.turn_is.0 telling)
+    at_top P f (asks at t) k q = absurd (not_both s.next at arity q.turn_is.0 telling)
     at_top P f (tells end a) [] q = absurd (omega (arith, deep, q.stack))
     at_top P f (tells end a) (x ∷ k) q =
         let z = q.stack in
@@ -126,39 +127,39 @@ module _ (src : List ℕ) (base : ℕ) (w : List ℕ) (s : Walk) (telling : s.as
         at_top bytes first g.mode g.table (λ c k. (t : Term) × (u : Term) × Pair src value t u)
         (λ end a x k q top is st. if_left src kind value (λ y. (t : Term) × (u : Term) × Pair src value t u) b e (λ at t u v p. (t, u, subst (λ (i : ℕ). Pair src i t u) (sym v) p)) x is) g.turn g.stack g.walking
 
-    pub given_arity : kind ≡ 5 → value < 65536 → s.arity < 65535
+    pub given_arity : kind ≡ 5 → value < 65536 → arity < 65535
     given_arity e small =
-        at_top bytes first g.mode g.table (λ c k. s.arity < 65535)
-        (λ end a x k q top is st. if_body src kind value (λ y. Tells bytes first g.mode g.table end a (y ∷ k) → s.arity < 65535) e
-        (λ d v q. body_small g.mode g.table bytes first src base w s end a d k low q (omega (arith, small, v)) top st) x is q) g.turn g.stack g.walking
+        at_top bytes first g.mode g.table (λ c k. arity < 65535)
+        (λ end a x k q top is st. if_body src kind value (λ y. Tells bytes first g.mode g.table end a (y ∷ k) → arity < 65535) e
+        (λ d v q. body_small g.mode g.table bytes first src base w s end a d k low q arity telling (omega (arith, small, v)) top st) x is q) g.turn g.stack g.walking
 
   pub answer_left : (b : Both) → kind ≡ left_kind b → (n : ℕ) → n ≡ value → (v : List ℕ) (r : Walk)
-      → ((t u : Term) → Pair src n t u → (v ≡ put_header (put_word w (base + slot (n + 3 + size t)) s.arity) low (right_kind b) s.arity) × (r ≡ record { asks = true; at = n + 3 + size t; arity = 0; top = s.top }))
+      → ((t u : Term) → Pair src n t u → (v ≡ put_header (put_word w (base + slot (n + 3 + size t)) arity) low (right_kind b) arity) × (r ≡ record { next = N.Asks (n + 3 + size t); top = s.top }))
       → (bytes : List ℕ) (first : ℕ) → Turns bytes first src base w s v r
   answer_left b e n ni v r f bytes first m T = at_top bytes first m T (Ends bytes first v r m T) λ end a x k q top is st.
       if_left src kind value (λ y. Tells bytes first m T end a (y ∷ k) → Ends bytes first v r m T (tells end a) (y ∷ k)) b e
       (λ at t u vi p q.
       let h = f t u (subst (λ (i : ℕ). Pair src i t u) (sym (ni ∙ vi)) p) in
       subst (λ (y : Walk). Ends bytes first v y m T (tells end a) (for_left b at t u ∷ k)) (sym h.1)
-      (turns_right m T bytes first src base w s end a b at t u k low (n + 3 + size t) q p (ap (λ (i : ℕ). i + 3 + size t) (ni ∙ vi)) top st v h.0)) x is q
+      (turns_right m T bytes first src base w s end a b at t u k low (n + 3 + size t) q arity telling p (ap (λ (i : ℕ). i + 3 + size t) (ni ∙ vi)) top st v h.0)) x is q
 
-  pub answer_right : (b : Both) → kind ≡ right_kind b → (n : ℕ) → ((l o : Option ℕ) → value ≡ arity_code l → s.arity ≡ arity_code o → n ≡ arity_code (combine b l o)) → (r : Walk) → r ≡ record { asks = false; at = 0; arity = n; top = low }
+  pub answer_right : (b : Both) → kind ≡ right_kind b → (n : ℕ) → ((l o : Option ℕ) → value ≡ arity_code l → arity ≡ arity_code o → n ≡ arity_code (combine b l o)) → (r : Walk) → r ≡ record { next = N.Tells (n); top = low }
       → (bytes : List ℕ) (first : ℕ) → Turns bytes first src base w s w r
   answer_right b e n f r ri bytes first m T = at_top bytes first m T (Ends bytes first w r m T) λ end a x k q top is st.
       if_right src kind value (λ y. Tells bytes first m T end a (y ∷ k) → Ends bytes first w r m T (tells end a) (y ∷ k)) b e
       (λ o vi q. subst (λ (y : Walk). Ends bytes first w y m T (tells end a) (for_right b o ∷ k)) (sym ri)
-      (combines m T bytes first src base w s end a b o k low q top st n (f o (a (arities T)) vi (told_arity m T bytes first src base w s end a (for_right b o) k q)))) x is q
+      (combines m T bytes first src base w s end a b o k low q top st n (f o (a (arities T)) vi (told_arity m T bytes first src base w s end a (for_right b o) k q arity telling)))) x is q
 
-  pub answer_body : kind ≡ 5 → value < 65536 → (v : List ℕ) (r : Walk) → v ≡ put_word w (frames_end + value * 2) (s.arity + 1) → r ≡ record { asks = false; at = 0; arity = s.arity; top = low }
+  pub answer_body : kind ≡ 5 → value < 65536 → (v : List ℕ) (r : Walk) → v ≡ put_word w (frames_end + value * 2) (arity + 1) → r ≡ record { next = N.Tells (arity); top = low }
       → (bytes : List ℕ) (first : ℕ) → Turns bytes first src base w s v r
   answer_body e small v r vi ri bytes first m T = at_top bytes first m T (Ends bytes first v r m T) λ end a x k q top is st.
       if_body src kind value (λ y. Tells bytes first m T end a (y ∷ k) → Ends bytes first v r m T (tells end a) (y ∷ k)) e
       (λ d p q. subst (λ (y : Walk). Ends bytes first v y m T (tells end a) (for_body d ∷ k)) (sym ri)
-      (learns m T bytes first src base w s end a d k low q (omega (arith, small, p)) top st v (vi ∙ ap (λ (i : ℕ). put_word w (frames_end + i * 2) (s.arity + 1)) p))) x is q
+      (learns m T bytes first src base w s end a d k low q arity telling (omega (arith, small, p)) top st v (vi ∙ ap (λ (i : ℕ). put_word w (frames_end + i * 2) (arity + 1)) p))) x is q
 
-  pub answer_root : (kind ≡ 1 → ⊥) → (kind ≡ 3 → ⊥) → (kind ≡ 2 → ⊥) → (kind ≡ 4 → ⊥) → (kind ≡ 5 → ⊥) → (r : Walk) → r ≡ record { asks = false; at = 0; arity = s.arity; top = low }
+  pub answer_root : (kind ≡ 1 → ⊥) → (kind ≡ 3 → ⊥) → (kind ≡ 2 → ⊥) → (kind ≡ 4 → ⊥) → (kind ≡ 5 → ⊥) → (r : Walk) → r ≡ record { next = N.Tells (arity); top = low }
       → (bytes : List ℕ) (first : ℕ) → Turns bytes first src base w s w r
   answer_root n₁ n₃ n₂ n₄ n₅ r ri bytes first m T = at_top bytes first m T (Ends bytes first w r m T) λ end a x k q top is st.
       if_root src kind value (λ y. Tells bytes first m T end a (y ∷ k) → Ends bytes first w r m T (tells end a) (y ∷ k)) n₁ n₃ n₂ n₄ n₅
       (λ q. subst (λ (y : Walk). Ends bytes first w y m T (tells end a) (for_root ∷ k)) (sym ri)
-      (roots m T bytes first src base w s end a k low q top st s.arity (told_arity m T bytes first src base w s end a for_root k q))) x is q
+      (roots m T bytes first src base w s end a k low q top st arity (told_arity m T bytes first src base w s end a for_root k q arity telling))) x is q

@@ -25,6 +25,8 @@ use Rattle.arities.specs.Layout.{frames_end}
 use Rattle.arity_notes.specs.Regions.{regions_end}
 use Rattle.arities.specs.Arities.{arity_code, arities}
 use Rattle.arities.proofs.ArityLaws.{pair_of}
+use Rattle.arity_notes.specs.declared.walk.Next.{Next}
+use Rattle.arity_notes.specs.declared.walk.Next.TheVariants as N
 use Rattle.arity_notes.specs.declared.walk.Walk.{Walk}
 use Rattle.arity_notes.specs.Waits.{sums, commons, combine, Wait, left_kind}
 use Rattle.arity_notes.specs.Asked.{Turn, asks, tells, asked_by, TurnIs, turn_weight, stack_weight}
@@ -34,65 +36,63 @@ use Rattle.arity_notes.specs.Walks.{Mode, Walking, Turned, Given, Turns, TacticG
 use Rattle.arity_notes.proofs.CellLaws.{cell_tells}
 use Rattle.arity_notes.proofs.TurnLaws.{asked_top, told, leads, waits, enters}
 
--- a walk does not ask and tell at once
-is_true : Bool → Type 0
-is_true true = Unit {0}
-is_true false = ⊥
+-- a walk does not ask and tell at once, and asks one term
+pub not_both : (x : Next) (i j : ℕ) → x ≡ N.Asks i → x ≡ N.Tells j → ⊥
+not_both x i j e f = cc
 
-pub not_both : (b : Bool) → b ≡ true → b ≡ false → ⊥
-unfolding is_true
-not_both b e f = subst is_true (sym e ∙ f) tt
+asks_same : (x : Next) (i j : ℕ) → x ≡ N.Asks i → x ≡ N.Asks j → i ≡ j
+asks_same x i j e f = cc
 
-module _ (bytes : List ℕ) (first : ℕ) (src : List ℕ) (base : ℕ) (w : List ℕ) (s : Walk) (asking : s.asks ≡ true) where
+module _ (bytes : List ℕ) (first : ℕ) (src : List ℕ) (base : ℕ) (w : List ℕ) (s : Walk) (here : ℕ) (asking : s.next ≡ N.Asks here) where
   abbrev Ends : (v : List ℕ) → Walk → Mode → Table → ℕ → List Wait → Term → Type 0
   Ends v r m T at k t = Walking m T bytes first src base w s (asks at t) k → Turned m T bytes first src base w (turn_weight (asks at t) + stack_weight k + unwalked w T.definitions) v r
 
   -- some term is asked
-  by_asks : (v : List ℕ) (r : Walk) → ((m : Mode) (T : Table) (at : ℕ) (t : Term) (k : List Wait) → s.at ≡ at → Stands src at t → Ends v r m T at k t) → Turns bytes first src base w s v r
+  by_asks : (v : List ℕ) (r : Walk) → ((m : Mode) (T : Table) (at : ℕ) (t : Term) (k : List Wait) → here ≡ at → Stands src at t → Ends v r m T at k t) → Turns bytes first src base w s v r
   unfolding TurnIs
-  by_asks v r f m T (asks at t) k q = f m T at t k q.turn_is.1 q.turn_is.2 q
-  by_asks v r f m T (tells end a) k q = absurd (not_both s.asks asking q.turn_is.0)
+  by_asks v r f m T (asks at t) k q = f m T at t k (asks_same s.next here at asking q.turn_is.0) q.turn_is.1 q
+  by_asks v r f m T (tells end a) k q = absurd (not_both s.next here _ asking q.turn_is)
 
   -- what is given of it
-  given_term : Given bytes first src base w s → (t : Term) × Stands src s.at t × (s.top ≤ 196608) × (regions_end ≤ length w) × (length src < 65536)
+  given_term : Given bytes first src base w s → (t : Term) × Stands src here t × (s.top ≤ 196608) × (regions_end ≤ length w) × (length src < 65536)
   unfolding TurnIs
   given_term g = go g.turn g.walking
     where
-      go : (c : Turn) → Walking g.mode g.table bytes first src base w s c g.stack → (t : Term) × Stands src s.at t × (s.top ≤ 196608) × (regions_end ≤ length w) × (length src < 65536)
-      go (asks at t) q = (t, subst (λ (i : ℕ). Stands src i t) (sym q.turn_is.1) q.turn_is.2, (asked_top g.mode g.table bytes first src base w s at t g.stack q).0, q.space, q.small)
-      go (tells end a) q = absurd (not_both s.asks asking q.turn_is.0)
+      go : (c : Turn) → Walking g.mode g.table bytes first src base w s c g.stack → (t : Term) × Stands src here t × (s.top ≤ 196608) × (regions_end ≤ length w) × (length src < 65536)
+      go (asks at t) q = (t, subst (λ (i : ℕ). Stands src i t) (sym (asks_same s.next here at asking q.turn_is.0)) q.turn_is.1, (asked_top g.mode g.table bytes first src base w s at t g.stack q).0, q.space, q.small)
+      go (tells end a) q = absurd (not_both s.next here _ asking q.turn_is)
 
-  pub given_room : Given bytes first src base w s → (s.at + 3 ≤ length src) × (s.top ≤ 196608) × (regions_end ≤ length w) × (length src < 65536)
+  pub given_room : Given bytes first src base w s → (here + 3 ≤ length src) × (s.top ≤ 196608) × (regions_end ≤ length w) × (length src < 65536)
   given_room g =
       let x = given_term g in
-      let y = known src s.at x.0 x.1 in
+      let y = known src here x.0 x.1 in
       (omega (arith, y.inside, y.three), x.2, x.3, x.4)
 
-  pub given_five : Given bytes first src base w s → get_or src s.at 0 ≡ 24 → s.at + 5 ≤ length src
-  given_five g e = let x = given_term g in by_tag src s.at (λ t. s.at + 5 ≤ length src) 24 (λ d v. v.inside) e x.0 x.1
+  pub given_five : Given bytes first src base w s → get_or src here 0 ≡ 24 → here + 5 ≤ length src
+  given_five g e = let x = given_term g in by_tag src here (λ t. here + 5 ≤ length src) 24 (λ d v. v.inside) e x.0 x.1
 
-  pub given_tactic : (number : ℕ) → number ≡ word src (s.at + 3) → get_or src s.at 0 ≡ 24 → Given bytes first src base w s → TacticGiven bytes first w s number
+  pub given_tactic : (number : ℕ) → number ≡ word src (here + 3) → get_or src here 0 ≡ 24 → Given bytes first src base w s → TacticGiven bytes first w s number
   unfolding TurnIs
   given_tactic number n e g = go g.turn g.walking
     where
       go : (c : Turn) → Walking g.mode g.table bytes first src base w s c g.stack → TacticGiven bytes first w s number
       go (asks at t) q =
           by_tag src at (λ x. Walking g.mode g.table bytes first src base w s (asks at x) g.stack → TacticGiven bytes first w s number) 24
-          (λ d v y. record { src = src; base = base; mode = g.mode; table = g.table; at = at; tactic = d; stack = g.stack; number_is = n ∙ ap (λ (i : ℕ). word src (i + 3)) q.turn_is.1 ∙ v.value_is; walking = y })
-          (ap (λ (i : ℕ). get_or src i 0) (sym q.turn_is.1) ∙ e) t q.turn_is.2 q
-      go (tells end a) q = absurd (not_both s.asks asking q.turn_is.0)
+          (λ d v y. record { src = src; base = base; mode = g.mode; table = g.table; at = at; tactic = d; stack = g.stack; number_is = n ∙ ap (λ (i : ℕ). word src (i + 3)) (asks_same s.next here at asking q.turn_is.0) ∙ v.value_is; walking = y })
+          (ap (λ (i : ℕ). get_or src i 0) (sym (asks_same s.next here at asking q.turn_is.0)) ∙ e) t q.turn_is.1 q
+      go (tells end a) q = absurd (not_both s.next here _ asking q.turn_is)
 
   abbrev At3 : ℕ → ℕ → Walk
-  At3 at top = record { asks = true; at = at + 3; arity = 0; top = top }
+  At3 at top = record { next = N.Asks (at + 3); top = top }
 
-  pub ask_sequence : get_or src s.at 0 ≡ 19 → (r : Walk) → r ≡ At3 s.at s.top → Turns bytes first src base w s w r
+  pub ask_sequence : get_or src here 0 ≡ 19 → (r : Walk) → r ≡ At3 here s.top → Turns bytes first src base w s w r
   ask_sequence e r ri = by_asks w r λ m T at t k p st.
       by_tag src at (Ends w r m T at k) 19
       (λ x y z q. subst (Turned m T bytes first src base w (turn_weight (asks at (sequence x y)) + stack_weight k + unwalked w T.definitions) w) (sym (ri ∙ ap (λ (i : ℕ). At3 i s.top) p))
       (leads m T bytes first src base w s at x y k q z.first))
       (ap (λ (i : ℕ). get_or src i 0) (sym p) ∙ e) t st
 
-  pub ask_tensor : get_or src s.at 0 ≡ 20 → (v : List ℕ) (r : Walk) → v ≡ put_header w s.top 1 s.at → r ≡ At3 s.at (s.top + 3) → Turns bytes first src base w s v r
+  pub ask_tensor : get_or src here 0 ≡ 20 → (v : List ℕ) (r : Walk) → v ≡ put_header w s.top 1 here → r ≡ At3 here (s.top + 3) → Turns bytes first src base w s v r
   unfolding size asked_by arity_in combine AskedNoted left_kind
   ask_tensor e v r vi ri = by_asks v r λ m T at t k p st.
       by_tag src at (Ends v r m T at k) 20
@@ -100,7 +100,7 @@ module _ (bytes : List ℕ) (first : ℕ) (src : List ℕ) (base : ℕ) (w : Lis
       (waits m T bytes first src base w s sums at (tensor x y) x y k q refl (pair_of src at x y z) q.asked (λ o a b c. (a, b, c)) v (vi ∙ ap (put_header w s.top 1) p)))
       (ap (λ (i : ℕ). get_or src i 0) (sym p) ∙ e) t st
 
-  pub ask_alternation : get_or src s.at 0 ≡ 22 → (v : List ℕ) (r : Walk) → v ≡ put_header w s.top 3 s.at → r ≡ At3 s.at (s.top + 3) → Turns bytes first src base w s v r
+  pub ask_alternation : get_or src here 0 ≡ 22 → (v : List ℕ) (r : Walk) → v ≡ put_header w s.top 3 here → r ≡ At3 here (s.top + 3) → Turns bytes first src base w s v r
   unfolding size asked_by arity_in combine AskedNoted left_kind
   ask_alternation e v r vi ri = by_asks v r λ m T at t k p st.
       by_tag src at (Ends v r m T at k) 22
@@ -108,11 +108,11 @@ module _ (bytes : List ℕ) (first : ℕ) (src : List ℕ) (base : ℕ) (w : Lis
       (waits m T bytes first src base w s commons at (alternation x y) x y k q refl (pair_of src at x y z) q.asked (λ o a b c. (b, c)) v (vi ∙ ap (put_header w s.top 3) p)))
       (ap (λ (i : ℕ). get_or src i 0) (sym p) ∙ e) t st
 
-  pub ask_defined : get_or src s.at 0 ≡ 24 → (number : ℕ) → number ≡ word src (s.at + 3) → (v : List ℕ) (r : Walk) → TacticTurns bytes first w s number v r → Turns bytes first src base w s v r
+  pub ask_defined : get_or src here 0 ≡ 24 → (number : ℕ) → number ≡ word src (here + 3) → (v : List ℕ) (r : Walk) → TacticTurns bytes first w s number v r → Turns bytes first src base w s v r
   ask_defined e number n v r f = by_asks v r λ m T at t k p st.
       by_tag src at (Ends v r m T at k) 24 (λ d x q. f src base m T at d k (n ∙ ap (λ (i : ℕ). word src (i + 3)) p ∙ x.value_is) q) (ap (λ (i : ℕ). get_or src i 0) (sym p) ∙ e) t st
 
-  pub ask_empty : get_or src s.at 0 ≡ 21 → (r : Walk) → r ≡ record { asks = false; at = 0; arity = 1; top = s.top } → Turns bytes first src base w s w r
+  pub ask_empty : get_or src here 0 ≡ 21 → (r : Walk) → r ≡ record { next = N.Tells (1); top = s.top } → Turns bytes first src base w s w r
   unfolding arity_in AskedNoted
   ask_empty e r ri = by_asks w r λ m T at t k p st.
       by_tag src at (Ends w r m T at k) 21
@@ -120,15 +120,15 @@ module _ (bytes : List ℕ) (first : ℕ) (src : List ℕ) (base : ℕ) (w : Lis
       (ap (λ (i : ℕ). get_or src i 0) (sym p) ∙ e) t st
 
   -- the forms that take one goal
-  pub ask_one : (get_or src s.at 0 ≡ 19 → ⊥) → (get_or src s.at 0 ≡ 20 → ⊥) → (get_or src s.at 0 ≡ 22 → ⊥) → (get_or src s.at 0 ≡ 24 → ⊥) → (get_or src s.at 0 ≡ 21 → ⊥)
-      → (r : Walk) → r ≡ record { asks = false; at = 0; arity = 2; top = s.top } → Turns bytes first src base w s w r
+  pub ask_one : (get_or src here 0 ≡ 19 → ⊥) → (get_or src here 0 ≡ 20 → ⊥) → (get_or src here 0 ≡ 22 → ⊥) → (get_or src here 0 ≡ 24 → ⊥) → (get_or src here 0 ≡ 21 → ⊥)
+      → (r : Walk) → r ≡ record { next = N.Tells (2); top = s.top } → Turns bytes first src base w s w r
   unfolding arity_in AskedNoted tag_of
   ask_one n₁ n₂ n₃ n₄ n₅ r ri = by_asks w r λ m T at t k p st. go m T at k t (ap (λ (i : ℕ). get_or src i 0) p ∙ (known src at t st).tag_is)
     where
       one : (m : Mode) (T : Table) (at : ℕ) (k : List Wait) (t : Term) → 2 ≡ arity_code (arity_in (arities T) t) → ((x : List ℕ) → AskedNoted x base (arities T) at t) → Ends w r m T at k t
       one m T at k t e f q = subst (Turned m T bytes first src base w (turn_weight (asks at t) + stack_weight k + unwalked w T.definitions) w) (sym ri) (told m T bytes first src base w s at t k q 2 e f)
 
-      go : (m : Mode) (T : Table) (at : ℕ) (k : List Wait) (t : Term) → get_or src s.at 0 ≡ tag_of t → Ends w r m T at k t
+      go : (m : Mode) (T : Table) (at : ℕ) (k : List Wait) (t : Term) → get_or src here 0 ≡ tag_of t → Ends w r m T at k t
       go m T at k (atomic a) e = one m T at k (atomic a) refl (λ x. tt)
       go m T at k id e = one m T at k id refl (λ x. tt)
       go m T at k (label l u) e = one m T at k (label l u) refl (λ x. tt)
@@ -145,7 +145,7 @@ module _ (bytes : List ℕ) (first : ℕ) (w : List ℕ) (s : Walk) (number : �
     pub tactic_room : (s.top ≤ 196608) × (regions_end ≤ length w)
     tactic_room = ((asked_top g.mode g.table bytes first g.src g.base w s g.at (defined g.tactic) g.stack g.walking).0, g.walking.space)
 
-  pub tactic_known : (n : ℕ) → n ≡ cell w number → (n ≡ 0 → ⊥) → (r : Walk) → r ≡ record { asks = false; at = 0; arity = n - 1; top = s.top } → TacticTurns bytes first w s number w r
+  pub tactic_known : (n : ℕ) → n ≡ cell w number → (n ≡ 0 → ⊥) → (r : Walk) → r ≡ record { next = N.Tells (n - 1); top = s.top } → TacticTurns bytes first w s number w r
   unfolding arity_in AskedNoted asked_by
   tactic_known n e z r ri src base m T at d k p q =
       subst (Turned m T bytes first src base w (turn_weight (asks at (defined d)) + stack_weight k + unwalked w T.definitions) w) (sym ri)
@@ -155,7 +155,7 @@ module _ (bytes : List ℕ) (first : ℕ) (w : List ℕ) (s : Walk) (number : �
     same_tactic_lem : (d : TacticNo) → number ≡ d.0 → n ≡ d
     same_tactic_lem d p = λ i. record { 0 = (n_is ∙ p) i }
 
-    pub tactic_missing : x ≡ None → (r : Walk) → r ≡ record { asks = false; at = 0; arity = 0; top = s.top } → TacticTurns bytes first w s number w r
+    pub tactic_missing : x ≡ None → (r : Walk) → r ≡ record { next = N.Tells (0); top = s.top } → TacticTurns bytes first w s number w r
     unfolding arity_in AskedNoted asked_by BodyStands find_body
     tactic_missing y r ri src base m T at d k p q =
         let b : find_body T n ≡ none = subst (λ (o : std.Option ℕ). BodyStands bytes o (find_body T n)) y (f T q.table_stands).0 in
@@ -165,7 +165,7 @@ module _ (bytes : List ℕ) (first : ℕ) (w : List ℕ) (s : Walk) (number : �
         (told m T bytes first src base w s at (defined d) k q 0 (ap arity_code (sym a)) (λ o. tt))
 
     pub tactic_enters : (place : ℕ) → x ≡ Some place → cell w number ≡ 0 → (v : List ℕ) (r : Walk) → v ≡ put_header (put_word w (frames_end + number * 2) 1) s.top 5 number
-        → r ≡ record { asks = true; at = place; arity = 0; top = s.top + 3 } → TacticTurns bytes first w s number v r
+        → r ≡ record { next = N.Asks (place); top = s.top + 3 } → TacticTurns bytes first w s number v r
     unfolding BodyStands
     tactic_enters place y z v r vi ri src base m T at d k p q =
         let b = subst (λ (o : std.Option ℕ). BodyStands bytes o (find_body T n)) y (f T q.table_stands).0 in

@@ -2,7 +2,6 @@
 -- Assumes nothing.
 use Prim.Native.Nat.{ℕ, suc, ◌+◌, ◌*◌, ◌≤◌, ◌<◌}
 use mathlib.Core.Path.{◌≡◌, refl, sym, ap, subst, ◌∙◌}
-use mathlib.Core.Bool.{true, false}
 use mathlib.Core.List.{List, [], ◌∷◌}
 use mathlib.Core.Option.{Option, some, none-ne-some}
 use mathlib.Core.Logic.{◌⊎◌, inl, inr}
@@ -33,6 +32,8 @@ use Rattle.arity_notes.specs.Regions.{definitions_place, regions_end}
 use Rattle.arities.specs.Arities.{arity_code, arities, Pair}
 use Rattle.arity_notes.specs.Notes.{NotedLeft}
 use Rattle.arity_notes.proofs.NoteLaws.{slot_inside}
+use Rattle.arity_notes.specs.declared.walk.Next.{Next as Said}
+use Rattle.arity_notes.specs.declared.walk.Next.TheVariants as N
 use Rattle.arity_notes.specs.declared.walk.Walk.{Walk}
 use Rattle.arity_notes.specs.Waits.{Both, combine, Wait, for_left, for_right, for_body, for_root, left_kind, right_kind, WaitIs, StackAt, Walked}
 use Rattle.arity_notes.specs.Asked.{Known, Asked, Turn, asks, tells, asked_by, TurnIs, turn_weight, stack_weight, Standing}
@@ -43,6 +44,10 @@ use Rattle.arity_notes.proofs.CycleLaws.{code_most}
 use Rattle.arity_notes.proofs.StackLaws.{stack_most, stack_same}
 use Rattle.arity_notes.proofs.CellLaws.{cell_same, cells_same, unwalked_same, cells_stack, cells_begun, cells_learnt, put_grows, put-unwalked, begun-unwalked}
 use Rattle.arity_notes.proofs.NotingLaws.{beyond_from, quiet, noting}
+
+-- an arity is told once
+pub tells_same : (x : Said) (i j : ℕ) → x ≡ N.Tells i → x ≡ N.Tells j → i ≡ j
+tells_same x i j e f = cc
 
 -- the index over the definitions stays
 pub index_still : (bytes : List ℕ) (first : ℕ) (w v : List ℕ) → length v ≡ length w → ((i : ℕ) → definitions_place ≤ i → get_or v i 0 ≡ get_or w i 0) → DefinitionsIndexed bytes first w definitions_place → DefinitionsIndexed bytes first v definitions_place
@@ -133,24 +138,24 @@ module _ (m : Mode) (T : Table) (bytes : List ℕ) (first : ℕ) (src : List ℕ
   module _ (at : ℕ) (t : Term) (k : List Wait) (q : At (asks at t) k) where
     pub asked_stands : Stands src at t
     unfolding TurnIs
-    asked_stands = q.turn_is.2
+    asked_stands = q.turn_is.1
 
     pub asked_top : (s.top ≤ 196608) × (stack_weight k ≤ 65536)
     asked_top = let h : stack_weight k ≤ 65536 = omega (arith, q.few) in (top_most w q.space src k s.top q.stack h, h)
 
     -- its arity is told at once
-    pub told : (n : ℕ) → n ≡ arity_code (arity_in (arities T) t) → ((x : List ℕ) → AskedNoted x base (arities T) at t) → Next (weight (asks at t) k) w (record { asks = false; at = 0; arity = n; top = s.top })
+    pub told : (n : ℕ) → n ≡ arity_code (arity_in (arities T) t) → ((x : List ℕ) → AskedNoted x base (arities T) at t) → Next (weight (asks at t) k) w (record { next = N.Tells (n); top = s.top })
     unfolding TurnIs Standing asked_by turn_weight turn_end turn_low TurnAhead
     told n e f =
         let z = (known src at t asked_stands).three in
-        still (asks at t) k q _ (tells (at + size t) (λ g. arity_in g t)) k (refl, e) q.stack tt q.asked q.cells (omega (arith, z))
+        still (asks at t) k q _ (tells (at + size t) (λ g. arity_in g t)) k (ap N.Tells e) q.stack tt q.asked q.cells (omega (arith, z))
         (mode_quiet w (λ i h. refl) (asks at t) (tells (at + size t) (λ g. arity_in g t)) k k q (λ limit b. b) (omega (arith, z)) (λ x h i. (f x, i)))
 
   -- a sequence asks its left term
-  pub leads : (at : ℕ) (t u : Term) (k : List Wait) → At (asks at (sequence t u)) k → Stands src (at + 3) t → Next (weight (asks at (sequence t u)) k) w (record { asks = true; at = at + 3; arity = 0; top = s.top })
+  pub leads : (at : ℕ) (t u : Term) (k : List Wait) → At (asks at (sequence t u)) k → Stands src (at + 3) t → Next (weight (asks at (sequence t u)) k) w (record { next = N.Asks (at + 3); top = s.top })
   unfolding TurnIs Standing asked_by arity_in turn_weight turn_end turn_low TurnAhead AskedNoted size
   leads at t u k q st =
-      still (asks at (sequence t u)) k q _ (asks (at + 3) t) k (refl, refl, st) q.stack (stands k q.standing) q.asked q.cells (omega arith)
+      still (asks at (sequence t u)) k q _ (asks (at + 3) t) k (refl, st) q.stack (stands k q.standing) q.asked q.cells (omega arith)
       (mode_quiet w (λ i h. refl) (asks at (sequence t u)) (asks (at + 3) t) k k q (λ limit b. beyond_from k (at + 3 + size t) (at + (3 + size t + size u)) limit (omega arith) b) (omega arith) (λ x h i. (h, i)))
     where
       stands : (j : List Wait) → Standing (asks at (sequence t u)) j → Standing (asks (at + 3) t) j
@@ -161,7 +166,7 @@ module _ (m : Mode) (T : Table) (bytes : List ℕ) (first : ℕ) (src : List ℕ
   module _ (b : Both) (at : ℕ) (whole t u : Term) (k : List Wait) (q : At (asks at whole) k) (size_is : size whole ≡ 3 + size t + size u) (pair : Pair src at t u) where
     pub waits : Asked T (λ f. combine b (arity_in f t) (arity_in f u)) k
         → ((x : List ℕ) → NotedLeft x base (arities T) (at + 3 + size t) t → AskedNoted x base (arities T) (at + 3) t → AskedNoted x base (arities T) (at + 3 + size t) u → AskedNoted x base (arities T) at whole)
-        → (v : List ℕ) → v ≡ put_header w s.top (left_kind b) at → Next (weight (asks at whole) k) v (record { asks = true; at = at + 3; arity = 0; top = s.top + 3 })
+        → (v : List ℕ) → v ≡ put_header w s.top (left_kind b) at → Next (weight (asks at whole) k) v (record { next = N.Asks (at + 3); top = s.top + 3 })
     unfolding TurnIs Standing Asked asked_by turn_weight stack_weight turn_end turn_low TurnAhead StackAhead Beyond WaitIs Walked
     waits asked f v e =
         let top = asked_top at whole k q in
@@ -178,7 +183,7 @@ module _ (m : Mode) (T : Table) (bytes : List ℕ) (first : ℕ) (src : List ℕ
             base_is = q.base_is;
             table_stands = q.table_stands;
             indexed = index_still bytes first w v len (λ i l. far i (omega (arith, l))) q.indexed;
-            turn_is = (refl, refl, pair.0);
+            turn_is = (refl, pair.0);
             stack = put_stack w q.space src k s.top q.stack top.1 (left_kind b) at v e (for_left b at t u) (refl, refl, pair);
             standing = tt;
             asked = (λ g. refl, asked);
@@ -217,7 +222,7 @@ module _ (m : Mode) (T : Table) (bytes : List ℕ) (first : ℕ) (src : List ℕ
     marked_space : regions_end ≤ length marked
     marked_space = omega (arith, q.space, length-put_word w (frames_end + d.0 * 2) 1)
 
-    pub enters : (v : List ℕ) → v ≡ put_header marked s.top 5 d.0 → Next (weight (asks at (defined d)) k) v (record { asks = true; at = place; arity = 0; top = s.top + 3 })
+    pub enters : (v : List ℕ) → v ≡ put_header marked s.top 5 d.0 → Next (weight (asks at (defined d)) k) v (record { next = N.Asks (place); top = s.top + 3 })
     unfolding TurnIs Standing Asked asked_by arity_in turn_weight stack_weight WaitIs size find_body
     enters v e =
         let top = asked_top at (defined d) k q in
@@ -237,7 +242,7 @@ module _ (m : Mode) (T : Table) (bytes : List ℕ) (first : ℕ) (src : List ℕ
             base_is = q.base_is;
             table_stands = q.table_stands;
             indexed = index_still bytes first w v len stay q.indexed;
-            turn_is = (refl, refl, subst (λ (b : List ℕ). Stands b place t) (sym mode.0) st);
+            turn_is = (refl, subst (λ (b : List ℕ). Stands b place t) (sym mode.0) st);
             stack = put_stack marked marked_space src k s.top marked_stack top.1 5 d.0 v e (for_body d) (refl, refl);
             standing = tt;
             asked = (λ f. ap (body_arity f) (sym body), q.asked);
@@ -253,9 +258,9 @@ module _ (m : Mode) (T : Table) (bytes : List ℕ) (first : ℕ) (src : List ℕ
 
   -- an arity told to the last term that waits
   module _ (end : ℕ) (a : Known → Option ℕ) (x : Wait) (k : List Wait) (q : At (tells end a) (x ∷ k)) where
-    pub told_arity : s.arity ≡ arity_code (a (arities T))
+    pub told_arity : (arity : ℕ) → s.next ≡ N.Tells arity → arity ≡ arity_code (a (arities T))
     unfolding TurnIs
-    told_arity = q.turn_is.1
+    told_arity arity telling = tells_same s.next arity (arity_code (a (arities T))) telling q.turn_is
 
     pub last_stack : (low : ℕ) × (s.top ≡ low + 3) × WaitIs src (get_or w low 0) (word w (low + 1)) x × StackAt src w k low
     unfolding StackAt
@@ -263,29 +268,29 @@ module _ (m : Mode) (T : Table) (bytes : List ℕ) (first : ℕ) (src : List ℕ
 
   -- both arities are there
   pub combines : (end : ℕ) (a : Known → Option ℕ) (b : Both) (o : Option ℕ) (k : List Wait) (low : ℕ) → At (tells end a) (for_right b o ∷ k) → s.top ≡ low + 3 → StackAt src w k low
-      → (n : ℕ) → n ≡ arity_code (combine b o (a (arities T))) → Next (weight (tells end a) (for_right b o ∷ k)) w (record { asks = false; at = 0; arity = n; top = low })
+      → (n : ℕ) → n ≡ arity_code (combine b o (a (arities T))) → Next (weight (tells end a) (for_right b o ∷ k)) w (record { next = N.Tells (n); top = low })
   unfolding TurnIs Standing Asked asked_by turn_weight stack_weight turn_end turn_low TurnAhead StackAhead Beyond Walked
   combines end a b o k low q top st n e =
       let h = q.asked in
       let c : Turn = tells end (λ f. combine b (h.0 f) (a f)) in
-      still (tells end a) (for_right b o ∷ k) q _ c k (refl, e ∙ ap (λ y. arity_code (combine b y (a (arities T)))) (sym h.1)) st tt h.2 (cells_stack T w (for_right b o ∷ k) k (λ d y. y) q.cells) (omega arith)
+      still (tells end a) (for_right b o ∷ k) q _ c k (ap N.Tells (e ∙ ap (λ y. arity_code (combine b y (a (arities T)))) (sym h.1))) st tt h.2 (cells_stack T w (for_right b o ∷ k) k (λ d y. y) q.cells) (omega arith)
       (mode_quiet w (λ i y. refl) (tells end a) c (for_right b o ∷ k) k q (λ limit y. y) (omega arith) (λ y z i. (tt, i)))
 
   -- the walk's own term told its arity
   pub roots : (end : ℕ) (a : Known → Option ℕ) (k : List Wait) (low : ℕ) → At (tells end a) (for_root ∷ k) → s.top ≡ low + 3 → StackAt src w k low
-      → (n : ℕ) → n ≡ arity_code (a (arities T)) → Next (weight (tells end a) (for_root ∷ k)) w (record { asks = false; at = 0; arity = n; top = low })
+      → (n : ℕ) → n ≡ arity_code (a (arities T)) → Next (weight (tells end a) (for_root ∷ k)) w (record { next = N.Tells (n); top = low })
   unfolding TurnIs Standing Asked asked_by turn_weight stack_weight turn_end turn_low TurnAhead StackAhead Beyond Walked
   roots end a k low q top st n e =
-      still (tells end a) (for_root ∷ k) q _ (tells end a) k (refl, e) st tt q.asked (cells_stack T w (for_root ∷ k) k (λ d y. y) q.cells) (omega arith)
+      still (tells end a) (for_root ∷ k) q _ (tells end a) k (ap N.Tells e) st tt q.asked (cells_stack T w (for_root ∷ k) k (λ d y. y) q.cells) (omega arith)
       (mode_quiet w (λ i y. refl) (tells end a) (tells end a) (for_root ∷ k) k q (λ limit y. y) (omega arith) (λ y z i. (tt, i)))
 
   -- the body of a tactic told its arity
-  module _ (end : ℕ) (a : Known → Option ℕ) (d : TacticNo) (k : List Wait) (low : ℕ) (q : At (tells end a) (for_body d ∷ k)) (small : d.0 < 65536) (top : s.top ≡ low + 3) (st : StackAt src w k low) where
-    body_code : s.arity ≡ arity_code (arities T d)
+  module _ (end : ℕ) (a : Known → Option ℕ) (d : TacticNo) (k : List Wait) (low : ℕ) (q : At (tells end a) (for_body d ∷ k)) (arity : ℕ) (telling : s.next ≡ N.Tells arity) (small : d.0 < 65536) (top : s.top ≡ low + 3) (st : StackAt src w k low) where
+    body_code : arity ≡ arity_code (arities T d)
     unfolding TurnIs Asked asked_by find_body
-    body_code = q.turn_is.1 ∙ ap arity_code (q.asked.0 (arities T) ∙ sym (after_fixed T.definitions d))
+    body_code = told_arity end a (for_body d) k q arity telling ∙ ap arity_code (q.asked.0 (arities T) ∙ sym (after_fixed T.definitions d))
 
-    pub body_small : s.arity < 65535
+    pub body_small : arity < 65535
     body_small = omega (arith, body_code, code_most T d)
 
     no_note : (n : Mode) → ModeIs n T bytes src base w (tells end a) (for_body d ∷ k) → (v : List ℕ) → ModeIs n T bytes src base v (tells end (λ f. f d)) k
@@ -293,10 +298,10 @@ module _ (m : Mode) (T : Table) (bytes : List ℕ) (first : ℕ) (src : List ℕ
     no_note finds h v = h
     no_note (notes from root w₀) h v = absurd h.beyond
 
-    pub learns : (v : List ℕ) → v ≡ put_word w (frames_end + d.0 * 2) (s.arity + 1) → Next (weight (tells end a) (for_body d ∷ k)) v (record { asks = false; at = 0; arity = s.arity; top = low })
+    pub learns : (v : List ℕ) → v ≡ put_word w (frames_end + d.0 * 2) (arity + 1) → Next (weight (tells end a) (for_body d ∷ k)) v (record { next = N.Tells (arity); top = low })
     unfolding TurnIs Standing Asked asked_by turn_weight stack_weight Walked
     learns v e =
-        let n = s.arity + 1 in
+        let n = arity + 1 in
         let nz : n ≡ 0 → ⊥ = λ z. absurd (omega (arith, z)) in
         let put : Only (frames_end + d.0 * 2) (frames_end + d.0 * 2 + 2) w v = subst (λ (y : List ℕ). Only (frames_end + d.0 * 2) (frames_end + d.0 * 2 + 2) w y) (sym e) (only_word w (frames_end + d.0 * 2) n) in
         let stay : (i : ℕ) → definitions_place ≤ i → get_or v i 0 ≡ get_or w i 0 = λ i l. put.kept.above i (omega (arith, l, small)) in
@@ -312,7 +317,7 @@ module _ (m : Mode) (T : Table) (bytes : List ℕ) (first : ℕ) (src : List ℕ
             base_is = q.base_is;
             table_stands = q.table_stands;
             indexed = index_still bytes first w v put.same_length stay q.indexed;
-            turn_is = (refl, body_code);
+            turn_is = ap N.Tells body_code;
             stack = stack_same src w v k low (λ i l. put.kept.below i (omega (arith, l, top, deep))) st;
             standing = tt;
             asked = q.asked.1;
@@ -327,15 +332,15 @@ module _ (m : Mode) (T : Table) (bytes : List ℕ) (first : ℕ) (src : List ℕ
         }
 
   -- the left term told its arity: it is noted, and the right term is asked
-  module _ (end : ℕ) (a : Known → Option ℕ) (b : Both) (at : ℕ) (t u : Term) (k : List Wait) (low r : ℕ) (q : At (tells end a) (for_left b at t u ∷ k)) (pair : Pair src at t u) (r-is : r ≡ at + 3 + size t) (top : s.top ≡ low + 3) (st : StackAt src w k low) where
+  module _ (end : ℕ) (a : Known → Option ℕ) (b : Both) (at : ℕ) (t u : Term) (k : List Wait) (low r : ℕ) (q : At (tells end a) (for_left b at t u ∷ k)) (arity : ℕ) (telling : s.next ≡ N.Tells arity) (pair : Pair src at t u) (r-is : r ≡ at + 3 + size t) (top : s.top ≡ low + 3) (st : StackAt src w k low) where
     abbrev noted_w : List ℕ
-    noted_w = put_word w (base + slot r) s.arity
+    noted_w = put_word w (base + slot r) arity
 
     right_inside : (r + 3 < 65536) × (3 ≤ size u)
     right_inside = let z = known src (at + 3 + size t) u pair.1 in (omega (arith, z.inside, z.three, q.small, r-is), z.three)
 
     note_only : Only (base + slot r) (base + slot r + 2) w noted_w
-    note_only = only_word w (base + slot r) s.arity
+    note_only = only_word w (base + slot r) arity
 
     note_high : base + slot r + 2 ≤ definitions_place
     note_high = omega (arith, slot_inside r right_inside.0, q.base_is.high)
@@ -343,9 +348,9 @@ module _ (m : Mode) (T : Table) (bytes : List ℕ) (first : ℕ) (src : List ℕ
     deep : s.top ≤ 196608
     deep = top_most w q.space src (for_left b at t u ∷ k) s.top q.stack (omega (arith, q.few))
 
-    left_code : s.arity ≡ arity_code (arity_in (arities T) t)
+    left_code : arity ≡ arity_code (arity_in (arities T) t)
     unfolding TurnIs Asked asked_by
-    left_code = q.turn_is.1 ∙ ap arity_code (q.asked.0 (arities T))
+    left_code = told_arity end a (for_left b at t u) k q arity telling ∙ ap arity_code (q.asked.0 (arities T))
 
     low_stack : StackAt src noted_w k low
     low_stack = stack_same src w noted_w k low (λ i l. note_only.kept.below i (omega (arith, l, top, deep, q.base_is.low))) st
@@ -357,16 +362,16 @@ module _ (m : Mode) (T : Table) (bytes : List ℕ) (first : ℕ) (src : List ℕ
     unfolding stack_weight
     light = omega (arith, q.few)
 
-    pub turns_right : (v : List ℕ) → v ≡ put_header noted_w low (right_kind b) s.arity → Next (weight (tells end a) (for_left b at t u ∷ k)) v (record { asks = true; at = r; arity = 0; top = s.top })
+    pub turns_right : (v : List ℕ) → v ≡ put_header noted_w low (right_kind b) arity → Next (weight (tells end a) (for_left b at t u ∷ k)) v (record { next = N.Asks (r); top = s.top })
     unfolding TurnIs Standing Asked asked_by turn_weight stack_weight WaitIs Walked ModeIs
     turns_right v e =
-        let far = put_beyond noted_w noted_space src k low low_stack light (right_kind b) s.arity v e in
-        let len : length v ≡ length w = put-length noted_w noted_space src k low low_stack light (right_kind b) s.arity v e ∙ note_only.same_length in
+        let far = put_beyond noted_w noted_space src k low low_stack light (right_kind b) arity v e in
+        let len : length v ≡ length w = put-length noted_w noted_space src k low low_stack light (right_kind b) arity v e ∙ note_only.same_length in
         let apart : (i : ℕ) → frames_end ≤ i → (i < base + slot r) ⊎ (base + slot r + 2 ≤ i) → get_or v i 0 ≡ get_or w i 0 = λ i l o. far i l ∙ elsewhere i o in
         let same : Same frames_end space_end w v = λ i l y. apart i l (inl (omega (arith, y, q.base_is.low))) in
         let u_same = unwalked_same w v same T.definitions in
         let stay : (i : ℕ) → definitions_place ≤ i → get_or v i 0 ≡ get_or w i 0 = λ i l. apart i (omega (arith, l)) (inr (omega (arith, l, note_high))) in
-        let here : word v (base + slot r) ≡ s.arity = same_word noted_w v frames_end definitions_place (base + slot r) (λ i l y. far i l) (omega (arith, q.base_is.low)) (omega (arith, note_high)) ∙ word_same w (base + slot r) s.arity (omega (arith, note_high, q.space)) in
+        let here : word v (base + slot r) ≡ arity = same_word noted_w v frames_end definitions_place (base + slot r) (λ i l y. far i l) (omega (arith, q.base_is.low)) (omega (arith, note_high)) ∙ word_same w (base + slot r) arity (omega (arith, note_high, q.space)) in
         record {
           turn = asks r u;
           stack = for_right b (arity_in (arities T) t) ∷ k;
@@ -376,8 +381,8 @@ module _ (m : Mode) (T : Table) (bytes : List ℕ) (first : ℕ) (src : List ℕ
             base_is = q.base_is;
             table_stands = q.table_stands;
             indexed = index_still bytes first w v len stay q.indexed;
-            turn_is = (refl, refl, subst (λ (y : ℕ). Stands src y u) (sym r-is) pair.1);
-            stack = subst (StackAt src v (for_right b (arity_in (arities T) t) ∷ k)) (sym top) (put_stack noted_w noted_space src k low low_stack light (right_kind b) s.arity v e (for_right b (arity_in (arities T) t)) (refl, left_code));
+            turn_is = (refl, subst (λ (y : ℕ). Stands src y u) (sym r-is) pair.1);
+            stack = subst (StackAt src v (for_right b (arity_in (arities T) t) ∷ k)) (sym top) (put_stack noted_w noted_space src k low low_stack light (right_kind b) arity v e (for_right b (arity_in (arities T) t)) (refl, left_code));
             standing = tt;
             asked = ((λ f. arity_in f t), refl, q.asked.1);
             cells = cells_same w v same T (for_right b (arity_in (arities T) t) ∷ k) (cells_stack T w (for_left b at t u ∷ k) (for_right b (arity_in (arities T) t) ∷ k) (λ d y. y) q.cells);
@@ -394,7 +399,7 @@ module _ (m : Mode) (T : Table) (bytes : List ℕ) (first : ℕ) (src : List ℕ
         elsewhere i (inl h) = note_only.kept.below i h
         elsewhere i (inr h) = note_only.kept.above i h
 
-        mode_noted : (v : List ℕ) → ((i : ℕ) → frames_end ≤ i → (i < base + slot r) ⊎ (base + slot r + 2 ≤ i) → get_or v i 0 ≡ get_or w i 0) → word v (base + slot r) ≡ s.arity
+        mode_noted : (v : List ℕ) → ((i : ℕ) → frames_end ≤ i → (i < base + slot r) ⊎ (base + slot r + 2 ≤ i) → get_or v i 0 ≡ get_or w i 0) → word v (base + slot r) ≡ arity
             → (n : Mode) → ModeIs n T bytes src base w (tells end a) (for_left b at t u ∷ k) → ModeIs n T bytes src base v (asks r u) (for_right b (arity_in (arities T) t) ∷ k)
         mode_noted v apart here finds h = h
         mode_noted v apart here (notes from root w₀) h =

@@ -1,5 +1,5 @@
 -- Which arity a walk asks for, as a function of those of the defined tactics: each term that waits asks for all the arities that its own depends on.
-use Rattle.std.specs.Prelude.{ℕ, ◌+◌, ◌≡◌, List, [], ◌∷◌, true, false}
+use Rattle.std.specs.Prelude.{ℕ, ◌+◌, ◌≡◌, List, [], ◌∷◌}
 use Rattle.std.proofs.Math.Option.{Option}
 use Rattle.format.specs.declared.values.TacticNo.{TacticNo}
 use Rattle.format.specs.Terms.{Term, size}
@@ -8,6 +8,7 @@ use Rattle.tables.specs.Tables.{Table}
 use Rattle.tables.specs.Lookup.{find_body}
 use Rattle.evaluation.specs.TacticArity.{arity_in, body_arity}
 use Rattle.arities.specs.Arities.{arity_code, arities}
+use Rattle.arity_notes.specs.declared.walk.Next.TheVariants as N
 use Rattle.arity_notes.specs.declared.walk.Walk.{Walk}
 use Rattle.arity_notes.specs.Waits.{combine, Wait, for_left, for_right, for_body, for_root}
 
@@ -32,8 +33,8 @@ asked_by (asks at t) f = arity_in f t
 asked_by (tells end a) f = a f
 
 unfoldable pub TurnIs : Table → (src : List ℕ) → Walk → Turn → Type 0
-TurnIs T src s (asks at t) = (s.asks ≡ true) × (s.at ≡ at) × Stands src at t
-TurnIs T src s (tells end a) = (s.asks ≡ false) × (s.arity ≡ arity_code (a (arities T)))
+TurnIs T src s (asks at t) = (s.next ≡ N.Asks at) × Stands src at t
+TurnIs T src s (tells end a) = s.next ≡ N.Tells (arity_code (a (arities T)))
 
 -- how much of the files is left to walk, and how much of what waits is left to do
 unfoldable pub turn_weight : Turn → ℕ

@@ -1,10 +1,11 @@
 // A term asked for its arity: told at once, or an inner term or a body is asked first.
-ghost use Rattle.std.specs.Prelude.{◌≡◌, true, ◌+◌, ◌*◌, ◌<◌, ◌≤◌, length};
+ghost use Rattle.std.specs.Prelude.{◌≡◌, ◌+◌, ◌*◌, ◌<◌, ◌≤◌, length};
 ghost use Rattle.std.proofs.Math.Option.{some};
 ghost use Rattle.words.specs.Word.{put_word};
 ghost use Rattle.tactics.specs.Numbers.{put_header};
 ghost use Rattle.arities.specs.Layout.{frames_end};
 ghost use Rattle.arity_notes.specs.Regions.{regions_end};
+ghost use Rattle.arity_notes.specs.declared.walk.Next.TheVariants.{Asks};
 ghost use Rattle.arity_notes.specs.Walks.{Given, Turns, TacticGiven, TacticTurns};
 
 use crate::regions::DEFINITIONS_PLACE;
@@ -20,7 +21,7 @@ impl Walk {
     fn enter(self, number: TacticNo, body: usize, work: &mut [u8]) -> Walk
         requires { (self.top < 1000000) × (self.top + 2 < length work.old) × (regions_end ≤ length work.old) }
         ensures written { work.new ≡ put_header (put_word work.old (frames_end + number.0 * 2) 1) self.top 5 number.0 }
-        ensures next { result ≡ record { asks = true; at = body; arity = 0; top = self.top + 3 } }
+        ensures next { result ≡ record { next = Asks body; top = self.top + 3 } }
     {
         store16(work, FRAMES_END + (number.0 as usize) * 2, 1);
         self.wait(BODY, number.0, body, work)
@@ -42,11 +43,18 @@ impl Walk {
     }
 
     // The term at the walk's place asked for its arity.
-    pub fn ask(self, table: &[u8], first: usize, src: &[u8], base: usize, work: &mut [u8]) -> Walk
-        requires { Given table.now first src.now base work.old self × (self.asks ≡ true) }
+    pub fn ask(
+        self,
+        at: usize,
+        table: &[u8],
+        first: usize,
+        src: &[u8],
+        base: usize,
+        work: &mut [u8],
+    ) -> Walk
+        requires { Given table.now first src.now base work.old self × (self.next ≡ Asks at) }
         ensures { Turns table.now first src.now base work.old self work.new result }
     {
-        let at = self.at;
         match src[at] {
             SEQUENCE => self.go(at + 3),
             TENSOR => self.wait(SUM_LEFT, at as u16, at + 3, work),

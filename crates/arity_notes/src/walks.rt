@@ -2,7 +2,7 @@
 ghost use Rattle.std.specs.Prelude.{◌<◌};
 ghost use Rattle.arity_notes.specs.Walks.{Given, Turns, Walks};
 
-use crate::walk::Walk;
+use crate::walk::{Next, Walk};
 
 impl Walk {
     // A term is asked, or an arity is told.
@@ -10,10 +10,10 @@ impl Walk {
         requires { Given table.now first src.now base work.old self × (0 < self.top) }
         ensures { Turns table.now first src.now base work.old self work.new result }
     {
-        if self.asks {
-            return self.ask(table, first, src, base, work);
+        match self.next {
+            Next::Asks(at) => self.ask(at, table, first, src, base, work),
+            Next::Tells(arity) => self.answer(arity, src, base, work),
         }
-        self.answer(src, base, work)
     }
 }
 

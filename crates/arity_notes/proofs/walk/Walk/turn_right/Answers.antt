@@ -2,12 +2,12 @@
 -- Assumes nothing.
 use Prim.Native.Nat.{ℕ, ◌+◌, ◌-◌}
 use mathlib.Core.Path.{ap, ◌∙◌}
-use mathlib.Core.Bool.{true}
 use mathlib.Core.List.{List}
 use native.Mathlib.Omega.{arith}
 use Rattle.words.specs.Word.{put_word}
 use Rattle.input_arities.specs.Threads.{slot}
 use Rattle.tactics.specs.Numbers.{put_header}
+use Rattle.arity_notes.specs.declared.walk.Next.TheVariants as N
 use Rattle.arity_notes.proofs.AnswerLaws.{right_note}
 use Rattle.arity_notes.proofs.walk.Walk.turn_right.Goals as goal
 
@@ -26,6 +26,6 @@ returns c =
     let pu = c.put_header.ensures in
     λ t u q.
     let r = c.right_of-right.ensures t u q in (
-      pu ∙ ap (λ (y : List ℕ). put_header y (a.self.top - 3) a.kind a.self.arity) (st ∙ ap (λ (y : ℕ). put_word a.work.now (a.base + slot y) a.self.arity) r),
-      c.go.ensures ∙ ap (λ (y : ℕ). record { asks = true; at = y; arity = 0; top = a.self.top }) r,
+      pu ∙ ap (λ (y : List ℕ). put_header y (a.self.top - 3) a.kind a.arity) (st ∙ ap (λ (y : ℕ). put_word a.work.now (a.base + slot y) a.arity) r),
+      c.go.ensures ∙ ap (λ (y : ℕ). record { next = N.Asks y; top = a.self.top }) r,
     )
