@@ -4,6 +4,9 @@ ghost use Rattle.arity_notes.specs.Walks.{Given, Turns, Walks};
 
 use crate::walk::{Next, Walk};
 
+// Each turn leaves less to do, and there are at most 65,536 bytes of terms and of what waits.
+const MOST_TURNS: usize = 65537;
+
 impl Walk {
     // A term is asked, or an arity is told.
     fn turn(self, table: &[u8], first: usize, src: &[u8], base: usize, work: &mut [u8]) -> Walk
@@ -17,15 +20,16 @@ impl Walk {
     }
 }
 
-// Turns until nothing waits. Each leaves less to do, and there are at most 65,536 bytes of terms and of what waits.
+// Turns until nothing waits.
 pub fn walk(from: Walk, table: &[u8], first: usize, src: &[u8], base: usize, work: &mut [u8])
     requires { Given table.now first src.now base work.old from }
     ensures { Walks table.now first src.now base work.old from work.new }
 {
     let mut s = from;
-    let mut left: usize = 65537;
-    while 0 < s.top {
+    for _ in 0..MOST_TURNS {
+        if s.top == 0 {
+            return;
+        }
         s = s.turn(table, first, src, base, work);
-        left -= 1;
     }
 }
