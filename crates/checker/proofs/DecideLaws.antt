@@ -19,13 +19,14 @@ use Rattle.format.specs.declared.refusals.Cause.TheVariants.{RemainingDiffer}
 use Rattle.format.specs.declared.refusals.Refusal.{Refusal}
 use Rattle.format.specs.Refusals.{number}
 use Rattle.format.specs.Results.{gives, refused, and_then}
-use Rattle.format.specs.Terms.{fields}
+use Rattle.format.specs.Terms.{Term, fields}
 use Rattle.format.specs.Goals.{goals_at}
 use Rattle.format.proofs.GoalsAt.{goals_paste}
 use Rattle.rule_set.specs.Different.{different}
 use Rattle.rule_set.specs.Sets.{RuleSet}
 use Rattle.rule_set.proofs.SetKept.{set_before}
 use Rattle.tables.specs.Tables.{Table}
+use Rattle.tables.specs.Standing.{TableStands}
 use Rattle.files.specs.declared.proofs.ProofParts.{ProofParts}
 use Rattle.files.specs.Proofs.{Proof, read_proof_fields, term_place, remaining_place}
 use Rattle.files.specs.Shapes.{parts_of}
@@ -33,18 +34,18 @@ use Rattle.hitac.specs.Hiproofs.{atomics}
 use Rattle.hitac.specs.Walk.{walk}
 use Rattle.hitac.specs.UsedRules.{walked_rules}
 use Rattle.hitac.proofs.TermBounds.{atomics-fields}
+use Rattle.answers.specs.declared.Answer.{Answer}
 use Rattle.answers.specs.Answers as answer
+use Rattle.format.proofs.ResultLaws.{same_value}
 use Rattle.entries.specs.Check.{same_goals, remaining_are, checked, proof_counts}
 use Rattle.input_arities.specs.Layout.{stack_end, frames_end, arities_end}
 use Rattle.input_arities.specs.Arities.{Noted}
 use Rattle.input_arities.proofs.ArityLaws.{ahead_kept}
 use Rattle.input_arities.proofs.ProofLaws.{Small, standing, small, term_room}
 use Rattle.walks.specs.declared.state.Ended.{Ended}
-use Rattle.checker.specs.Layout.{set_place}
-use Rattle.checker.specs.Acts.{Behind}
-use Rattle.checker.specs.Walks.{Ready, Walks}
+use Rattle.checker.specs.Layout.{set_place, set_end}
+use Rattle.checker.specs.Walks.{Ready, LaidOut, Walks}
 use Rattle.checker.specs.Checks.{checked_answer}
-use Rattle.checker.proofs.StepLaws.{behind-kept}
 
 -- ---- the answers
 
@@ -72,21 +73,17 @@ module _ (s : List ℕ) (p : Proof) (e : read_proof_fields s ≡ gives p) (q : P
       let z = small s p e q is in
       subst (λ (l : List ℕ). Kept w₁ l 0 stack_end) (sym copied) (kept_copy w₁ s (top q) 3 (q.goals * 2) 0 stack_end (omega (arith, z.goals)) z.goals_inside (omega arith) (omega (arith, z.goals)))
 
-  pub walk_ready : (w₀ : List ℕ) → Noted w₀ w₁ p.term → Ready s q.term p.term w₂ q.goals
+  walk_ready : (w₀ : List ℕ) → Noted w₀ w₁ p.term → Ready s q.term p.term w₂ q.goals
   walk_ready w₀ n =
       let z = small s p e q is in
       let r = term_room s p e q is w₁ enough in
       record { stands = r.stands; ahead = ahead_kept w₁ w₂ 0 stack_end frames_end _ copy_kept (inl (omega arith)) n.ahead; fields_few = r.few; goals_few = z.goals }
 
-  -- the index stays behind the arities
-  pub behind_still : (table : List ℕ) (first : ℕ) (w₀ : List ℕ) → Noted w₀ w₁ p.term → length w₁ ≡ length w₀ → length w₂ ≡ length w₁ → Behind table first w₀ → Behind table first w₂
-  behind_still table first w₀ n l l₂ b = behind-kept table first w₁ w₂ 0 stack_end l₂ copy_kept (omega arith) (behind-kept table first w₀ w₁ 0 arities_end l n.kept (omega arith) b)
-
-  -- and the set behind the index
-  pub set_still : (w₀ : List ℕ) → Noted w₀ w₁ p.term → length w₁ ≡ length w₀ → length w₂ ≡ length w₁ → RuleSet w₀ set_place [] → RuleSet w₂ set_place []
+  -- the set behind the index
+  set_still : (w₀ : List ℕ) → Noted w₀ w₁ p.term → length w₁ ≡ length w₀ → length w₂ ≡ length w₁ → RuleSet w₀ set_place [] → RuleSet w₂ set_place []
   set_still w₀ n l l₂ set = set_before w₁ w₂ set_place [] 0 stack_end l₂ copy_kept (omega arith) (set_before w₀ w₁ set_place [] 0 arities_end l n.kept (omega arith) set)
 
-  pub goals_there : goals_at w₂ (top q) q.goals ≡ p.goals
+  goals_there : goals_at w₂ (top q) q.goals ≡ p.goals
   unfolding parts_of
   goals_there =
       let z = small s p e q is in
@@ -96,12 +93,29 @@ module _ (s : List ℕ) (p : Proof) (e : read_proof_fields s ≡ gives p) (q : P
       ∙ ap (goals_at s 3) many
       ∙ sym (standing s p e).goals_stand.goals_are
 
+  -- the set was made empty, then the arities were noted, then the goals were copied
+  pub laid_out : (w w₀ : List ℕ) → Kept w w₀ set_place set_end → RuleSet w₀ set_place [] → Noted w₀ w₁ p.term → length w₁ ≡ length w₀ → length w₂ ≡ length w₁ → LaidOut s p q w w₂
+  laid_out w w₀ k set n l l₂ = record {
+    ready = walk_ready w₀ n;
+    goals_are = goals_there;
+    empty = set_still w₀ n l l₂ set;
+    index_kept = λ i a b. copy_kept.above i (omega arith) ∙ n.kept.above i (omega arith) ∙ k.below i (omega arith);
+  }
+
+-- a file reads as one proof
+pub same-proof : (s : List ℕ) (p p' : Proof) (T : Table) (r : Answer) → read_proof_fields s ≡ gives p → read_proof_fields s ≡ gives p' → r ≡ checked_answer T p → r ≡ checked_answer T p'
+same-proof s p p' T r e e' h = subst (λ (x : Proof). r ≡ checked_answer T x) (same_value (sym e ∙ e')) h
+
 -- what was walked
 pub record Walking (T : Table) (s : List ℕ) (p : Proof) (q : ProofParts) (w₂ w₃ : List ℕ) (r : std.Result Ended Refusal) : Type 0 where
   pub reads : read_proof_fields s ≡ gives p
   pub parts_are : parts_of p ≡ q
   pub goals_are : goals_at w₂ (top q) q.goals ≡ p.goals
   pub walked : Walks T p.term q.term (length s) w₂ w₃ q.goals r
+
+pub walking : (T : Table) (table : List ℕ) (first : ℕ) (s : List ℕ) (p : Proof) (q : ProofParts) (w w₂ w₃ : List ℕ) (r : std.Result Ended Refusal) → read_proof_fields s ≡ gives p → parts_of p ≡ q → LaidOut s p q w w₂
+    → ((T : Table) (t : Term) → TableStands table first T → Ready s q.term t w₂ q.goals → Walks T t q.term (length s) w₂ w₃ q.goals r) → TableStands table first T → Walking T s p q w₂ w₃ r
+walking T table first s p q w w₂ w₃ r e is l walks st = record { reads = e; parts_are = is; goals_are = l.goals_are; walked = walks T p.term st l.ready }
 
 module _ (T : Table) (s : List ℕ) (p : Proof) (q : ProofParts) (w₂ w₃ : List ℕ) (r : std.Result Ended Refusal) (x : Walking T s p q w₂ w₃ r) where
   sizes : Small s q

@@ -43,10 +43,6 @@ use Rattle.checker.proofs.ActLaws.{same_goals, walks_goals}
 pub behind-kept : (table : List ℕ) (first : ℕ) (w w' : List ℕ) (low high : ℕ) → length w' ≡ length w → Kept w w' low high → high ≤ arities_end → Behind table first w → Behind table first w'
 behind-kept table first w w' low high size k h b = record { index = indexed_still table first w w' size (λ i l m. k.above i (omega arith)) b.index }
 
--- and where the set is written, behind it
-pub behind-set : (table : List ℕ) (first : ℕ) (w w' : List ℕ) → length w' ≡ length w → Kept w w' set_place set_end → Behind table first w → Behind table first w'
-behind-set table first w w' size k b = record { index = indexed_still table first w w' size (λ i l m. k.below i (omega arith)) b.index }
-
 -- goals are ready wherever the stacks and the frames alone were written
 pub goals_still : (table : List ℕ) (first : ℕ) (T : Table) (x : Aim ℕ) (A s w : List ℕ) → goals_ready table first T x A s w → Still (goals_ready table first T x) A s w
 goals_still table first T x A s w y w' e k = (y.0, behind-kept table first w w' 0 frames_end e k (omega arith) y.1, set_before w w' set_place A 0 frames_end e k (omega arith) y.2)

@@ -10,6 +10,7 @@ ghost use Rattle.files.specs.Shapes.{parts_of};
 ghost use Rattle.entries.specs.Check.{same_goals};
 ghost use Rattle.checker.specs.Layout.{set_end};
 ghost use Rattle.checker.specs.Acts.{Behind};
+ghost use Rattle.checker.specs.Walks.{LaidOut};
 ghost use Rattle.checker.specs.Checks.{checked_answer};
 
 use crate::layout::SET;
@@ -48,6 +49,17 @@ fn same_goals(space: &[u8], given: usize, proof: &[u8], from: usize, stated: usi
     given == stated && each_same(space, given, proof, from)
 }
 
+// The work space before the walk: the set of rules is empty, the arities are noted, and the goals lie at the end of the stacks.
+fn lay_out(proof: &[u8], work: &mut [u8], parts: ProofParts)
+    requires { ((p : Proof) × (read_proof_fields proof.now ≡ gives p) × (parts_of p ≡ parts)) × (set_end ≤ length work.old) }
+    ensures { (p : Proof) → read_proof_fields proof.now ≡ gives p → parts_of p ≡ parts → LaidOut proof.now p parts work.old work.new }
+{
+    make_empty(work, SET);
+    note_arities(proof, parts.term, work);
+    let size = parts.goals * 2;
+    copy_in(work, STACK_END - size, proof, 3, size);
+}
+
 // The walk of a proof that was read: its refusal, or 21, or the proof's counts.
 pub fn decide(
     table: &[u8],
@@ -59,11 +71,8 @@ pub fn decide(
     requires { ((T : Table) × TableStands table.now first T) × ((p : Proof) × (read_proof_fields proof.now ≡ gives p) × (parts_of p ≡ parts)) × (set_end ≤ length work.old) × Behind table.now first work.old }
     ensures { (T : Table) (p : Proof) → TableStands table.now first T → read_proof_fields proof.now ≡ gives p → result ≡ checked_answer T p }
 {
-    make_empty(work, SET);
-    note_arities(proof, parts.term, work);
-    let goals = parts.goals;
-    copy_in(work, STACK_END - goals * 2, proof, 3, goals * 2);
-    match walk(table, first, proof, parts.term, work, goals) {
+    lay_out(proof, work, parts);
+    match walk(table, first, proof, parts.term, work, parts.goals) {
         Err(refused) => Answer::refused(refused.cause, File::Other, refused.place, 0),
         Ok(ended) => {
             let rest = parts.rest;
