@@ -9,7 +9,7 @@ ghost use Rattle.answers.specs.Answers.{file_number};
 
 use format::refusals::Cause;
 
-/// The file in which the place of a refusal lies; the table is the first file of an entry, the other one is its proof, job, term or text.
+// The file in which the place of a refusal lies; the table is the first file of an entry, the other one is its proof, job, term or text.
 #[derive(Clone, Copy, PartialEq, Eq)]
 pub enum File {
     Neither,
@@ -18,7 +18,7 @@ pub enum File {
 }
 
 impl File {
-    /// The file's number in an answer.
+    // The file's number in an answer.
     pub fn number(self) -> u8
         ensures { result ≡ file_number self }
     {
@@ -67,7 +67,7 @@ const NOTHING: Answer = Answer {
 };
 
 impl Answer {
-    /// A refusal, after so many steps.
+    // A refusal, after so many steps.
     pub fn refused(cause: Cause, file: File, place: usize, steps: usize) -> Answer
         requires { (place ≤ 65535) × (steps ≤ 65535) }
         ensures { result ≡ said.refusal (number cause) (file_number file) place steps }
@@ -81,7 +81,7 @@ impl Answer {
         }
     }
 
-    /// The success of a checker.
+    // The success of a checker.
     pub fn counted(fields: usize, uses: usize, remaining: usize, rules: usize) -> Answer
         requires { (fields ≤ 65535) × (uses ≤ 65535) × (remaining ≤ 65535) × (rules ≤ 65535) }
         ensures { result ≡ said.counted fields uses remaining rules }
@@ -95,7 +95,7 @@ impl Answer {
         }
     }
 
-    /// The success of an entry that writes, after so many steps.
+    // The success of an entry that writes, after so many steps.
     pub fn wrote(length: usize, steps: usize) -> Answer
         requires { (length ≤ 65535) × (steps ≤ 65535) }
         ensures { result ≡ said.wrote length steps }
@@ -108,7 +108,7 @@ impl Answer {
     }
 }
 
-/// Whether all twelve numbers are the same: what `==` of two answers decides, said in a clause.
+// Whether all twelve numbers are the same: what `==` of two answers decides, said in a clause.
 pub fn same_answer(a: Answer, b: Answer) -> bool
     ensures { (result ≡ true → a ≡ b) × (a ≡ b → result ≡ true) }
 {

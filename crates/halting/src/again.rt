@@ -17,8 +17,8 @@ fn steps_of(saved: &[u8]) -> u16
     if saved.len() < 2 { 0 } else { load16(saved, 0) }
 }
 
-// Whether the steps of the state and those that are to follow are too many together. The budget alone may be all that 32 bits hold.
-fn over_limit(steps: u16, budget: u32) -> bool
+// Whether the steps of a state, if there is one, and those that are to follow are too many together. The budget alone may be all that 32 bits hold.
+pub fn over_limit(steps: u16, budget: u32) -> bool
     ensures { result ≡ ltb most_steps (steps + budget) }
 {
     16384 < (steps as u64) + (budget as u64)

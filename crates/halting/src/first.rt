@@ -4,6 +4,7 @@ ghost use Rattle.arities.specs.Layout.{space_end};
 ghost use Rattle.entries.specs.Halting.{halting_outcome};
 ghost use Rattle.halting.specs.Halted.{Comes};
 
+use crate::again::over_limit;
 use crate::halted::Halted;
 use answers::{Answer, File};
 use format::refusals::Cause;
@@ -14,7 +15,7 @@ pub fn first_run(table: &[u8], job: &[u8], budget: u32, work: &mut [u8], out: &m
     requires { space_end ≤ length work.old }
     ensures { Comes (halting_outcome table.now job.now budget) out.old work.new result out.new }
 {
-    if 16384 < budget {
+    if over_limit(0, budget) {
         let answer = Answer::refused(Cause::BudgetTooLarge, File::Neither, 0, 0);
         return Halted::refused(answer);
     }

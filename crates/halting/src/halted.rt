@@ -5,7 +5,6 @@ ghost use Rattle.halting.specs.Halted.{refused_call, Answered};
 
 use answers::Answer;
 use machine::state::State;
-use runner::job::finish;
 use runner::last::Reached;
 
 // The answer so far, and the last state of the run, if there was one; the run halted if a term is to begin in it.
@@ -32,7 +31,7 @@ impl Halted {
         ensures { Answered last.state job.now work.now out.old result out.new }
     {
         Halted {
-            answer: finish(last.state, job, last.term, work, out),
+            answer: last.finish(job, work, out),
             state: Some(last.state),
         }
     }

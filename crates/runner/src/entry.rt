@@ -4,7 +4,6 @@ ghost use Rattle.entries.specs.Run.{run_outcome, run_tactic};
 ghost use Rattle.entries.specs.Left.{kept, left_in};
 ghost use Rattle.arities.specs.Layout.{space_end};
 
-use crate::job::finish;
 use crate::last::run_files;
 use answers::{Answer, File};
 use arities::layout::SPACE_END;
@@ -20,7 +19,7 @@ fn run_budget(table: &[u8], job: &[u8], budget: u32, work: &mut [u8], out: &mut 
         return Answer::refused(Cause::BudgetTooLarge, File::Neither, 0, 0);
     }
     match run_files(table, job, budget as usize, work) {
-        Ok(last) => finish(last.state, job, last.term, work, out),
+        Ok(last) => last.finish(job, work, out),
         Err(answer) => answer,
     }
 }

@@ -33,15 +33,7 @@ pub fn run_files(
     let fields = read.map_err(|e| Answer::refused(e.cause, File::Table, e.place, 0))?;
     let read = read_job(job, work, 0);
     let parts = read.map_err(|e| Answer::refused(e.cause, File::Other, e.place, 0))?;
-    let state = run_job(
-        table,
-        fields.first,
-        fields.definitions,
-        job,
-        parts,
-        budget,
-        work,
-    );
+    let state = run_job(table, fields, job, parts, budget, work);
     Ok(Reached {
         state,
         first: fields.first,

@@ -3,6 +3,7 @@
 #![tactic(auto)]
 
 pub mod entry;
+pub mod finish;
 pub mod job;
 pub mod last;
 pub mod run;

@@ -1,7 +1,7 @@
--- `job::finish` meets its contract: by the mode of the last state.
+-- `Reached::finish` meets its contract: by the mode of the last state.
 -- Assumes nothing.
 use Rattle.runner.proofs.JobLaws.{spent_end, failed_end, overflow_end, exceed_end}
-use Rattle.runner.proofs.job.finish.Goals as goal
+use Rattle.runner.proofs.last.Reached.finish.Goals as goal
 
 pub returns-in-Running : goal.returns-in-Running
 returns-in-Running c = spent_end _ _ _ _ _ c.in-Running.is c.refused.ensures
