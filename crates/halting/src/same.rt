@@ -29,7 +29,8 @@ pub fn same_state(work: &[u8], end: usize, saved: &[u8]) -> bool
     requires { EndsAt end × (end ≤ length work.now) }
     ensures { result ≡ same_bytes (saved_bytes work.now end) saved.now }
 {
-    if saved.len() != SAVED_SIZE {
+    let right_size = saved.len() == SAVED_SIZE;
+    if !right_size {
         return false;
     }
     let n = end - SPACE_END;

@@ -10,18 +10,18 @@ use Rattle.halting.specs.SavedBytes.{all_zero}
 use Rattle.halting.proofs.StateLaws.{size_end, same_end, other_end}
 use Rattle.halting.proofs.same.same_state.Goals as goal
 
-pub returns-then-saved-ne-SAVED_SIZE : goal.returns-then-saved-ne-SAVED_SIZE
-returns-then-saved-ne-SAVED_SIZE c =
+pub returns-then-not-right_size : goal.returns-then-not-right_size
+returns-then-not-right_size c =
     let a = c.args in
-    size_end a.work.now a.end a.saved.now c.requires.0 c.requires.1 _ (λ q. omega (arith, c.if-saved-ne-SAVED_SIZE.true, q)) refl
+    size_end a.work.now a.end a.saved.now c.requires.0 c.requires.1 _ (λ q. c.if-not-right_size.true q) refl
 
 pub returns-then-eq : goal.returns-then-eq
 returns-then-eq c =
     let a = c.args in
-    same_end a.work.now a.end a.saved.now c.requires.0 c.requires.1 (omega (arith, c.if-saved-ne-SAVED_SIZE.false)) _ c.eq.ensures c.if-eq.true _
+    same_end a.work.now a.end a.saved.now c.requires.0 c.requires.1 c.if-not-right_size.false _ c.eq.ensures c.if-eq.true _
     (c.all_zero.ensures ∙ ap all_zero (take_all _ (drop (a.end - space_end) a.saved.now) (omega (arith, length-drop (a.end - space_end) a.saved.now))))
 
 pub returns-else-eq : goal.returns-else-eq
 returns-else-eq c =
     let a = c.args in
-    other_end a.work.now a.end a.saved.now c.requires.0 c.requires.1 (omega (arith, c.if-saved-ne-SAVED_SIZE.false)) _ c.eq.ensures c.if-eq.false
+    other_end a.work.now a.end a.saved.now c.requires.0 c.requires.1 c.if-not-right_size.false _ c.eq.ensures c.if-eq.false
