@@ -68,37 +68,6 @@ fn arity_of(s: &[u8], at: usize, work: &[u8]) -> usize
     }
 }
 
-// Links each field to the one before it, and gives the last.
-fn link(s: &[u8], at: usize, end: usize, work: &mut [u8]) -> usize
-    requires { (t : Term) × Room s.now at end work.old t }
-    ensures { (t : Term) → Room s.now at end work.old t → Threads at end t work.old work.new result }
-{
-    let mut place = at;
-    let mut next = next_at(s, place);
-    while next != end {
-        note(work, next, place);
-        place = next;
-        next = next_at(s, place);
-    }
-    place
-}
-
-// Each field gets its own arity, from the last to the first.
-fn settle(s: &[u8], at: usize, end: usize, last: usize, work: &mut [u8])
-    requires { (t : Term) × (w : List ℕ) × Room s.now at end work.old t × Threads at end t w work.old last }
-    ensures { (t : Term) (w : List ℕ) → Room s.now at end work.old t → Threads at end t w work.old last → Own work.new at t × Kept work.old work.new 0 stack_end }
-{
-    let mut place = last;
-    while place != at {
-        let before = noted(work, place);
-        let arity = arity_of(s, place, work);
-        note(work, place, arity);
-        place = before;
-    }
-    let arity = arity_of(s, at, work);
-    note(work, at, arity);
-}
-
 // Lists the arity of a tensor's left term, and gives the next place of the list.
 fn list_one(s: &[u8], at: usize, work: &mut [u8], next: usize) -> usize
     requires { (t : Term) × (g : List Term) × Listable s.now at work.old next t g }
@@ -112,16 +81,57 @@ fn list_one(s: &[u8], at: usize, work: &mut [u8], next: usize) -> usize
     next + 2
 }
 
-// Lists the arities of the left terms of all tensors, from the first field to the last.
-fn list(s: &[u8], at: usize, end: usize, work: &mut [u8])
-    requires { (t : Term) × Room s.now at end work.old t × Own work.old at t }
-    ensures { (t : Term) → Room s.now at end work.old t → Own work.old at t → Lists work.old work.new t }
-{
-    let mut place = at;
-    let mut next = FRAMES_END;
-    while place < end {
-        next = list_one(s, place, work, next);
-        place = next_at(s, place);
+// The fields of a term, from its own at `at` to the place `end` behind the last.
+#[derive(Clone, Copy)]
+struct Fields<'a> {
+    s: &'a [u8],
+    at: usize,
+    end: usize,
+}
+
+impl<'a> Fields<'a> {
+    // Links each field to the one before it, and gives the last.
+    fn link(&self, work: &mut [u8]) -> usize
+        requires { (t : Term) × Room self.now.s.now self.now.at self.now.end work.old t }
+        ensures { (t : Term) → Room self.now.s.now self.now.at self.now.end work.old t → Threads self.now.at self.now.end t work.old work.new result }
+    {
+        let mut place = self.at;
+        let mut next = next_at(self.s, place);
+        while next != self.end {
+            note(work, next, place);
+            place = next;
+            next = next_at(self.s, place);
+        }
+        place
+    }
+
+    // Each field gets its own arity, from the last to the first.
+    fn settle(&self, last: usize, work: &mut [u8])
+        requires { (t : Term) × (w : List ℕ) × Room self.now.s.now self.now.at self.now.end work.old t × Threads self.now.at self.now.end t w work.old last }
+        ensures { (t : Term) (w : List ℕ) → Room self.now.s.now self.now.at self.now.end work.old t → Threads self.now.at self.now.end t w work.old last → Own work.new self.now.at t × Kept work.old work.new 0 stack_end }
+    {
+        let mut place = last;
+        while place != self.at {
+            let before = noted(work, place);
+            let arity = arity_of(self.s, place, work);
+            note(work, place, arity);
+            place = before;
+        }
+        let arity = arity_of(self.s, self.at, work);
+        note(work, self.at, arity);
+    }
+
+    // Lists the arities of the left terms of all tensors, from the first field to the last.
+    fn list(&self, work: &mut [u8])
+        requires { (t : Term) × Room self.now.s.now self.now.at self.now.end work.old t × Own work.old self.now.at t }
+        ensures { (t : Term) → Room self.now.s.now self.now.at self.now.end work.old t → Own work.old self.now.at t → Lists work.old work.new t }
+    {
+        let mut place = self.at;
+        let mut next = FRAMES_END;
+        while place < self.end {
+            next = list_one(self.s, place, work, next);
+            place = next_at(self.s, place);
+        }
     }
 }
 
@@ -130,8 +140,12 @@ pub fn note_arities(s: &[u8], at: usize, work: &mut [u8])
     requires { (t : Term) × Room s.now at (at + size t) work.old t }
     ensures { (t : Term) → Room s.now at (at + size t) work.old t → Noted work.old work.new t }
 {
-    let end = at + 3 + load16(s, at + 1) as usize;
-    let last = link(s, at, end, work);
-    settle(s, at, end, last, work);
-    list(s, at, end, work);
+    let fields = Fields {
+        s,
+        at,
+        end: at + 3 + load16(s, at + 1) as usize,
+    };
+    let last = fields.link(work);
+    fields.settle(last, work);
+    fields.list(work);
 }
