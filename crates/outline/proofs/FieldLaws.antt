@@ -9,7 +9,6 @@ use lib.Seq.{length-take-le, take_at, get_or-take, ext_get_or}
 use Rattle.format.specs.Encoding.{word_bytes}
 use Rattle.tactics.specs.Memory.{Same}
 use Rattle.tactics.specs.Numbers.{put_header}
-use Rattle.tactics.proofs.NumberLaws.{only_header}
 use Rattle.tactics.proofs.FileLaws.{Written, header-written}
 
 pub take-kept : (w v : List ℕ) (n : ℕ) → Same 0 n w v → length v ≡ length w → n ≤ length w → take n v ≡ take n w
@@ -19,14 +18,6 @@ take-kept w v n h len inside =
     ext_get_or 0 (take n v) (take n w) (a ∙ sym b) (λ i l. get_or-take n v i 0 (omega arith) ∙ h i (omega arith) (omega arith) ∙ sym (get_or-take n w i 0 (omega arith)))
 
 module _ (w : List ℕ) (n tag v : ℕ) where
-  pub field_before : n ≤ length w → take n (put_header w n tag v) ≡ take n w
-  field_before h =
-      let o = only_header w n tag v in
-      take-kept w (put_header w n tag v) n (λ i l r. o.kept.below i r) o.same_length h
-
-  pub field-behind : (m : ℕ) → Same (n + 3) m w (put_header w n tag v)
-  field-behind m i l r = (only_header w n tag v).kept.above i l
-
   pub append-field : n + 3 ≤ length w → take (n + 3) (put_header w n tag v) ≡ take n w ++ (tag ∷ word_bytes v)
   append-field h =
       let before : length (take n w) ≡ n = length-take-le n w (omega arith) in

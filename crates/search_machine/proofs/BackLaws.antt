@@ -98,11 +98,6 @@ module _ (w : List ℕ) (at : ℕ) (room : at + node_size ≤ length w) where
   moved_index : arena_low ≤ at → Same outline_end arena_low w twice
   moved_index low = λ i a b. before i (omega arith) (omega (arith, b, low))
 
--- a state back at a choice, by what was read of its node
-pub returned_as : (s : State) (arena : ℕ) {o : State} {link link' choice choice' mark mark' : ℕ} → o ≡ returned s link choice arena mark → link ≡ link' → choice ≡ choice' → mark ≡ mark'
-    → o ≡ returned s link' choice' arena mark'
-returned_as s arena e e₀ e₁ e₂ = e ∙ (λ i. returned s (e₀ i) (e₁ i) arena (e₂ i))
-
 pub choice_inside : (table job w : List ℕ) (steps top outline : ℕ) (c : List M.Choice) (link : ℕ) → ChoicesAt table job w steps top outline c link → link ≤ top
 unfolding ChoicesAt
 choice_inside table job w steps top outline [] link f = omega (arith, f)

@@ -10,7 +10,6 @@ use borrow.Author.Tests.{le-leb, lt-leb}
 use Rattle.format.specs.declared.values.Goal.{Goal}
 use Rattle.format.specs.Terms.{Term, tensor}
 use Rattle.format.proofs.GoalsLaws.{length-goals_at}
-use Rattle.tactics.specs.Goals.{Gathered}
 use Rattle.tactics.specs.Memory.{Same}
 use Rattle.evaluation.specs.Outcomes.{joined_fits}
 use Rattle.outline.specs.Layout.{outline_end}
@@ -40,13 +39,6 @@ regrouped w n x k p o e h =
 tensor_outline : (q p : Term) → field 20 0 ++ outline_of q ++ outline_of p ≡ outline_of (tensor q p)
 unfolding outline_of
 tensor_outline q p = append_assoc (field 20 0) (outline_of q) (outline_of p)
-
--- a term entered and a term taken off, by what was read of the node
-pub entered_as : {r o o' : State} {l l' a a' b b' n n' : ℕ} → r ≡ entered o l a b n → o ≡ o' → l ≡ l' → a ≡ a' → b ≡ b' → n ≡ n' → r ≡ entered o' l' a' b' n'
-entered_as e e₀ e₁ e₂ e₃ e₄ = e ∙ (λ i. entered (e₀ i) (e₁ i) (e₂ i) (e₃ i) (e₄ i))
-
-pub linked_as : (s : State) {o : State} {link link' : ℕ} → o ≡ linked s link → link ≡ link' → o ≡ linked s link'
-linked_as s e e₀ = e ∙ ap (linked s) e₀
 
 -- what waits behind a node lies before it
 pub link_lower : (table job w : List ℕ) (k : List M.Frame) (top link : ℕ) → 0 < top → FramesAt table job w top k link → link < top
@@ -287,14 +279,3 @@ module _ (w : List ℕ) (s : State) (q : Waiting w s) where
         λ table job p g x k c a h. join_does table job p g x k c (here table job w s.arena s.link x k a h.frames) h,
         (record { same_length = joined_keeps.same_length; same_steps = refl; index_same = λ i a b. same_below i (omega arith) (omega (arith, b, wait_room.low)) }, λ m. lower),
       )
-
--- two lists joined, by what was read of the node
-pub joins_of : (w : List ℕ) (s : State) (v : List ℕ) (o r : State) (link start count : ℕ) → link ≡ (node_at w s.link).link → start ≡ (node_at w s.link).start → count ≡ (node_at w s.link).count
-    → Gathered w v s.arena start count s.start s.count → o ≡ linked s link → r ≡ holding o s.arena (count + s.count) (s.arena + (count + s.count) * 2)
-    → Joins w s (node_at w s.link) v r
-joins_of w s v o r link start count e₁ e₂ e₃ g a b =
-    let n = node_at w s.link in
-    record {
-      gathered = subst (λ (x : ℕ). Gathered w v s.arena x n.count s.start s.count) e₂ (subst (λ (x : ℕ). Gathered w v s.arena start x s.start s.count) e₃ g);
-      state = b ∙ ap₂ (λ (x : State) (y : ℕ). holding x s.arena (y + s.count) (s.arena + (y + s.count) * 2)) (linked_as s a e₁) e₃;
-    }

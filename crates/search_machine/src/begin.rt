@@ -37,6 +37,7 @@ impl State {
         s.give()
     }
 
+    // The next two differ in their definitions (one_goal and no_goal) as in a number and a tag: one function for both would be no plainer.
     pub fn begin_id(self, work: &mut [u8]) -> State
         requires { Room work.old self }
         ensures begun { Does work.old self work.new result id (leaf_next id one_goal) }
@@ -79,9 +80,6 @@ impl State {
         ensures begun { (t u : Term) → right ≡ self.at + 3 + size t → Does work.old self work.new result (sequence t u) (sequence_next down t u) }
         ensures stays { Stays work.old self work.new result }
     {
-        let at = self.at + 3;
-        let start = self.start;
-        let count = self.count;
         let s = self.note(SEQUENCE, 0, work);
         let n = Node {
             kind: SEQUENCE_LEFT,
@@ -91,7 +89,7 @@ impl State {
             ..BLANK
         };
         let t = s.push(n, work);
-        t.enter(down, at, start, count)
+        t.enter(down, self.at + 3, self.start, self.count)
     }
 
     // The right term is kept as a choice.
@@ -100,22 +98,19 @@ impl State {
         ensures begun { (t u : Term) → right ≡ self.at + 3 + size t → Does work.old self work.new result (alternation t u) (alternation_next down t u) }
         ensures stays { Stays work.old self work.new result }
     {
-        let at = self.at + 3;
-        let start = self.start;
-        let count = self.count;
         let n = Node {
             kind: OR_ELSE,
             level: down,
             at: right,
             link: self.link,
-            start,
-            count,
+            start: self.start,
+            count: self.count,
             mark: self.outline,
             other: self.choice,
             ..BLANK
         };
         let s = self.offer(n, work);
-        s.enter(down, at, start, count)
+        s.enter(down, self.at + 3, self.start, self.count)
     }
 
     pub fn begin_label(self, down: u16, name: Label, work: &mut [u8]) -> State
@@ -126,11 +121,8 @@ impl State {
         if self.count != 1 {
             return self.fail();
         }
-        let at = self.at + 5;
-        let start = self.start;
-        let count = self.count;
         let s = self.note(LABEL, name.0, work);
-        s.enter(down, at, start, count)
+        s.enter(down, self.at + 5, self.start, self.count)
     }
 
     // A tensor on its first split, all goals to the right; the splits behind it are kept as a choice.

@@ -1,6 +1,6 @@
 // Nodes of 26 bytes in the arena: terms that wait, and choices to go back to.
 ghost use Rattle.std.specs.Prelude.{◌≡◌, ◌+◌, ◌<◌, length};
-ghost use Rattle.search_machine.specs.Nodes.{node_at, put_first, put_places, put_rest, put_node, Small};
+ghost use Rattle.search_machine.specs.Nodes.{node_at, put_node, Small};
 
 use tactics::numbers::{load32, store32};
 use words::{load16, store16};
@@ -65,39 +65,19 @@ pub fn load_node(work: &[u8], at: usize) -> Node
     }
 }
 
-fn store_first(work: &mut [u8], at: usize, n: Node)
+#[tactic(auto, unfolding(crate::specs::Nodes::put_node, crate::specs::Nodes::put_first, crate::specs::Nodes::put_places, crate::specs::Nodes::put_rest))]
+pub fn store_node(work: &mut [u8], at: usize, n: Node)
     requires { (at + 25 < length work.old) × Small n }
-    ensures { work.new ≡ put_first work.old at n }
+    ensures { work.new ≡ put_node work.old at n }
 {
     store16(work, at, n.kind);
     store16(work, at + 2, n.level);
     store16(work, at + 4, n.at as u16);
     store16(work, at + 6, n.count as u16);
-}
-
-fn store_places(work: &mut [u8], at: usize, n: Node)
-    requires { (at + 25 < length work.old) × Small n }
-    ensures { work.new ≡ put_places work.old at n }
-{
     store32(work, at + 8, n.link);
     store32(work, at + 12, n.start);
-}
-
-fn store_rest(work: &mut [u8], at: usize, n: Node)
-    requires { (at + 25 < length work.old) × Small n }
-    ensures { work.new ≡ put_rest work.old at n }
-{
     store16(work, at + 16, n.left as u16);
     store16(work, at + 18, n.mark as u16);
     store16(work, at + 20, n.right as u16);
     store32(work, at + 22, n.other);
-}
-
-pub fn store_node(work: &mut [u8], at: usize, n: Node)
-    requires { (at + 25 < length work.old) × Small n }
-    ensures { work.new ≡ put_node work.old at n }
-{
-    store_first(work, at, n);
-    store_places(work, at, n);
-    store_rest(work, at, n);
 }

@@ -19,6 +19,7 @@ pub enum Mode {
 
 // The next term to begin, by its place, its level, which is twice the number of levels that may begin below it, and one more if it stands in the job and not in the table, and its goals; or the goals that the last one gave.
 // `link` is the node of the innermost term that waits, `choice` that of the last choice, 0 for none; all lie below `arena`. `outline` is the length of the outline.
+// A level holds a flag beside a number, and 0 says that there is no node, since a node stores both so, in bytes of the work space.
 #[derive(Clone, Copy)]
 pub struct State {
     pub mode: Mode,

@@ -7,8 +7,8 @@ use mathlib.Core.Path.{ap, ◌∙◌}
 use Prim.Native.Nat.{◌+◌}
 use Rattle.search_machine.proofs.state.State.begin_label.Goals as goal
 
-pub returns-then-self-ne1 : goal.returns-then-self-ne1
-returns-then-self-ne1 c = record { begun = (label_fails c.args.work.now c.args.self c.requires.0 c.args.down c.requires.1 c.args.name.0 _ c.if-self-ne1.true c.fail.ensures).0; stays = (label_fails c.args.work.now c.args.self c.requires.0 c.args.down c.requires.1 c.args.name.0 _ c.if-self-ne1.true c.fail.ensures).1 }
+pub returns-then-self-ne1-clause-begun : goal.returns-then-self-ne1-clause-begun
+returns-then-self-ne1-clause-begun c = (label_fails c.args.work.now c.args.self c.requires.0 c.args.down c.requires.1 c.args.name.0 _ c.if-self-ne1.true c.fail.ensures).0
 
 pub returns : goal.returns
-returns c = let a = c.args in record { begun = (label_does a.work.now a.self c.requires.0 a.down c.requires.1 a.name.0 _ _ c.if-self-ne1.false c.note-s.ensures.written (c.enter.ensures ∙ ap (λ (x : State). entered x a.down (a.self.at + 5) a.self.start a.self.count) c.note-s.ensures.state)).0; stays = (label_does a.work.now a.self c.requires.0 a.down c.requires.1 a.name.0 _ _ c.if-self-ne1.false c.note-s.ensures.written (c.enter.ensures ∙ ap (λ (x : State). entered x a.down (a.self.at + 5) a.self.start a.self.count) c.note-s.ensures.state)).1 }
+returns c = let a = c.args in let r = label_does a.work.now a.self c.requires.0 a.down c.requires.1 a.name.0 _ _ c.if-self-ne1.false c.note-s.ensures.written (c.enter.ensures ∙ ap (λ (x : State). entered x a.down (a.self.at + 5) a.self.start a.self.count) c.note-s.ensures.state) in record { begun = r.0; stays = r.1 }

@@ -5,8 +5,8 @@ use native.Mathlib.Omega.{arith}
 use Rattle.search_machine.proofs.BackLaws.{none_left, or_else_lem, choice_node, split_room, last_split, next_split_lem}
 use Rattle.search_machine.proofs.state.State.go_back.Goals as goal
 
-pub returns-then-choice-eq0 : goal.returns-then-choice-eq0
-returns-then-choice-eq0 c = let a = c.args in let r = none_left a.work.now a.self c.if-choice-eq0.true in record { back = r.0; stays = r.1 }
+pub returns-then-choice-eq0-clause-back : goal.returns-then-choice-eq0-clause-back
+returns-then-choice-eq0-clause-back c = let a = c.args in let r = none_left a.work.now a.self c.if-choice-eq0.true in r.0
 
 pub load16-kind-requires : goal.load16-kind-requires
 load16-kind-requires c =
@@ -17,11 +17,11 @@ load16-kind-requires c =
 pub or_else-requires : goal.or_else-requires
 or_else-requires c = choice_node c.args.work.now c.args.self c.requires c.if-choice-eq0.false
 
-pub returns-then-kind-eq-OR_ELSE : goal.returns-then-kind-eq-OR_ELSE
-returns-then-kind-eq-OR_ELSE c =
+pub returns-then-kind-eq-OR_ELSE-clause-back : goal.returns-then-kind-eq-OR_ELSE-clause-back
+returns-then-kind-eq-OR_ELSE-clause-back c =
     let w = c.args.work.now in
     let s = c.args.self in
-    let r = or_else_lem w s c.if-choice-eq0.false (sym c.load16-kind.ensures ∙ c.if-kind-eq-OR_ELSE.true) _ c.or_else.ensures in record { back = r.0; stays = r.1 }
+    let r = or_else_lem w s c.if-choice-eq0.false (sym c.load16-kind.ensures ∙ c.if-kind-eq-OR_ELSE.true) _ c.or_else.ensures in r.0
 
 pub overflow_add-choice : goal.overflow_add-choice
 overflow_add-choice c =

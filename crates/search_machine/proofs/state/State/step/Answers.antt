@@ -13,23 +13,17 @@ step_in-requires c =
     let a = c.args in
     subst (λ (b : List ℕ). Given a.table.now a.first b a.work.now a.self) (from_table a.table.now a.job.now (a.self.level % 2) c.if-self-eq0.true) c.requires
 
-pub shape_of-work-then-self-eq0 : goal.shape_of-work-then-self-eq0
-shape_of-work-then-self-eq0 c = c.step_in.ensures.grown.same_length
-
-pub returns-then-self-eq0 : goal.returns-then-self-eq0
-returns-then-self-eq0 c =
+pub returns-then-self-eq0-clause-steps : goal.returns-then-self-eq0-clause-steps
+returns-then-self-eq0-clause-steps c =
     let a = c.args in
-    let r = in_source a.table.now a.first a.work.now a.self _ c.step_in.result a.table.now _ (from_table a.table.now a.job.now (a.self.level % 2) c.if-self-eq0.true) (c.step_in.ensures.steps, c.step_in.ensures.grown) in record { steps = r.0; grown = r.1 }
+    let r = in_source a.table.now a.first a.work.now a.self _ c.step_in.result a.table.now _ (from_table a.table.now a.job.now (a.self.level % 2) c.if-self-eq0.true) (c.step_in.ensures.steps, c.step_in.ensures.grown) in r.0
 
 pub step_in-requires-2 : goal.step_in-requires-2
 step_in-requires-2 c =
     let a = c.args in
     subst (λ (b : List ℕ). Given a.table.now a.first b a.work.now a.self) (from_job a.table.now a.job.now (a.self.level % 2) c.if-self-eq0.false) c.requires
 
-pub shape_of-work : goal.shape_of-work
-shape_of-work c = c.step_in-2.ensures.grown.same_length
-
-pub returns : goal.returns
-returns c =
+pub returns-clause-steps : goal.returns-clause-steps
+returns-clause-steps c =
     let a = c.args in
-    let r = in_source a.table.now a.first a.work.now a.self _ c.step_in-2.result a.job.now _ (from_job a.table.now a.job.now (a.self.level % 2) c.if-self-eq0.false) (c.step_in-2.ensures.steps, c.step_in-2.ensures.grown) in record { steps = r.0; grown = r.1 }
+    let r = in_source a.table.now a.first a.work.now a.self _ c.step_in-2.result a.job.now _ (from_job a.table.now a.job.now (a.self.level % 2) c.if-self-eq0.false) (c.step_in-2.ensures.steps, c.step_in-2.ensures.grown) in r.0

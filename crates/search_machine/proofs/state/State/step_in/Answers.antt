@@ -1,6 +1,5 @@
 -- `step_in` meets its contract: counted, begun, unwound.
 -- Assumes nothing.
-use mathlib.Core.Path.{◌∙◌}
 use Rattle.search_machine.proofs.StepLaws.{stood, unwinding, steps_on}
 use Rattle.search_machine.proofs.state.State.step_in.Goals as goal
 
@@ -19,11 +18,8 @@ unwind-requires c =
     let p = c.requires in
     unwinding a.table.now a.first a.src.now a.work.now a.self p c.counted-s.result c.counted-s.ensures _ c.begin-r.result c.begin-r.ensures.begun c.begin-r.ensures.stays
 
-pub shape_of-work : goal.shape_of-work
-shape_of-work c = c.unwind.ensures.stays.same_length ∙ c.begin-r.ensures.stays.same_length
-
-pub returns : goal.returns
-returns c =
+pub returns-clause-steps : goal.returns-clause-steps
+returns-clause-steps c =
     let a = c.args in
     let p = c.requires in
-    record { steps = (steps_on a.table.now a.first a.src.now a.work.now a.self p c.counted-s.result c.counted-s.ensures _ c.begin-r.result c.begin-r.ensures.begun c.begin-r.ensures.stays _ c.unwind.result c.unwind.ensures.unwound c.unwind.ensures.stays).0; grown = (steps_on a.table.now a.first a.src.now a.work.now a.self p c.counted-s.result c.counted-s.ensures _ c.begin-r.result c.begin-r.ensures.begun c.begin-r.ensures.stays _ c.unwind.result c.unwind.ensures.unwound c.unwind.ensures.stays).1 }
+    (steps_on a.table.now a.first a.src.now a.work.now a.self p c.counted-s.result c.counted-s.ensures _ c.begin-r.result c.begin-r.ensures.begun c.begin-r.ensures.stays _ c.unwind.result c.unwind.ensures.unwound c.unwind.ensures.stays).0

@@ -1,7 +1,6 @@
 -- `unwind` meets its contract: what is left to unwind comes to the same; every turn takes a waiting term off.
 -- Assumes nothing.
 use Rattle.std.proofs.Common.{rules}
-use mathlib.Core.Path.{◌∙◌}
 use Rattle.search_machine.proofs.UnwindLaws.{start-here, start_stays, waits, stays_next, way_next, at_end, at_next, backs, at_back, left_less}
 use Rattle.search_machine.proofs.state.State.unwind.Goals as goal
 
