@@ -1,5 +1,7 @@
 -- The endings of the entry flatten: which case of the entry's definition holds.
 -- Assumes nothing.
+use Rattle.std.specs.Prelude.{Ok, Err}
+use Rattle.std.specs.Prelude as std
 use mathlib.Core.Path.{◌≡◌, refl}
 use mathlib.Core.Bool.{Bool, true, false, cond}
 use mathlib.Core.List.{List, [], ◌++◌}
@@ -7,8 +9,8 @@ use Prim.Native.Nat.{ℕ, ◌≤◌, ◌<◌}
 use lib.Dec.{ltb}
 use lib.ListN.{length, drop, replicate}
 use borrow.Author.Tests.{lt-ltb, le-ltb}
-use Rattle.format.specs.declared.refusals.Cause.{Cause}
-use Rattle.format.specs.declared.refusals.Cause.TheVariants.{OutputTooShort}
+use Rattle.format.specs.declared.refusals.Refusal.{Refusal}
+use Rattle.format.specs.declared.refusals.Cause.TheVariants.{OutputTooShort, WorkTooShort}
 use Rattle.format.specs.Refusals.{number}
 use Rattle.format.specs.Results.{gives, refused}
 use Rattle.tables.specs.Tables.{Table}
@@ -26,8 +28,8 @@ use Rattle.flattener.specs.Forests.{written, flattened}
 abbrev pub outcome_of : Answer → (out : List ℕ) → Written
 outcome_of a out = record { answer = a; work = []; out = out }
 
-pub no_room : (T : Table) (p : Proof) (out : List ℕ) → length out < length (forest_file T p) → written T p out ≡ outcome_of (answer.refusal 26 0 0 0) out
-unfolding write_out number
+pub no_room : (T : Table) (p : Proof) (out : List ℕ) → length out < length (forest_file T p) → written T p out ≡ outcome_of (answer.refusal (number OutputTooShort) 0 0 0) out
+unfolding write_out
 no_room T p out h = rw (lt-ltb (length out) (length (forest_file T p)) h)
 
 pub has_room : (T : Table) (p : Proof) (out : List ℕ) → length (forest_file T p) ≤ length out
@@ -38,13 +40,13 @@ has_room T p out h = rw (le-ltb (length out) (length (forest_file T p)) h)
 -- ---- the files, by how they read
 
 module _ (t s out : List ℕ) where
-  pub table_refused : (c : Cause) (q : ℕ) → read_table t ≡ refused c q → write_out [] out (on_proof forest_file t s) ≡ outcome_of (answer.refusal (number c) 1 q 0) out
+  pub table_refused : (f : Refusal) → read_table t ≡ refused f.cause f.place → write_out [] out (on_proof forest_file t s) ≡ outcome_of (answer.refusal (number f.cause) 1 f.place 0) out
   unfolding on_proof write_out
-  table_refused c q e = rw e
+  table_refused f e = rw e
 
-  pub proof_refused : (T : Table) (c : Cause) (q : ℕ) → read_table t ≡ gives T → read_proof s ≡ refused c q → write_out [] out (on_proof forest_file t s) ≡ outcome_of (answer.refusal (number c) 2 q 0) out
+  pub proof_refused : (T : Table) (f : Refusal) → read_table t ≡ gives T → read_proof s ≡ refused f.cause f.place → write_out [] out (on_proof forest_file t s) ≡ outcome_of (answer.refusal (number f.cause) 2 f.place 0) out
   unfolding on_proof write_out
-  proof_refused T c q e f = rw (e, f)
+  proof_refused T f e r = rw (e, r)
 
   pub both_read : (T : Table) (p : Proof) → read_table t ≡ gives T → read_proof s ≡ gives p → write_out [] out (on_proof forest_file t s) ≡ flattened T p out
   unfolding on_proof
@@ -69,10 +71,15 @@ alike w out (success bytes k) = by (ltb (length out) (length bytes))
     by false = record { answer_same = refl; out_same = refl; work_is = refl }
 
 module _ (t s w out : List ℕ) where
-  pub too_short : length w < flatten_work → flatten t s w out ≡ record { answer = answer.refusal 29 0 0 0; work = w; out = out }
-  unfolding flatten write_in number
+  pub too_short : length w < flatten_work → flatten t s w out ≡ record { answer = answer.refusal (number WorkTooShort) 0 0 0; work = w; out = out }
+  unfolding flatten write_in
   too_short h = rw (lt-ltb (length w) flatten_work h)
 
   pub long_enough : flatten_work ≤ length w → Alike w (flatten t s w out) (write_out [] out (on_proof forest_file t s))
   unfolding flatten write_in
   long_enough h = rw (le-ltb (length w) flatten_work h) (alike w out (on_proof forest_file t s))
+
+-- the two cases of what the code answers
+pub either : {A E : Type 0} (x : std.Result A E) {G : Type 0} → ((a : A) → x ≡ Ok a → G) → ((e : E) → x ≡ Err e → G) → G
+either (Ok a) ok err = ok a refl
+either (Err e) ok err = err e refl

@@ -1,5 +1,9 @@
 -- The walk of a proof from its stated goals as the first nodes: it can begin, and what it comes to is what the entry flatten comes to.
 -- Assumes nothing.
+use Rattle.std.specs.Prelude.{Ok, Err}
+use Rattle.std.specs.Prelude as std
+use Rattle.format.specs.declared.refusals.Refusal.{Refusal}
+use Rattle.format.specs.declared.refusals.Cause.TheVariants.{RemainingDiffer}
 use mathlib.Core.Path.{◌≡◌, sym, subst, ap, ap₂, ◌∙◌}
 use mathlib.Core.Bool.{Bool, true, false}
 use mathlib.Core.Logic.{inl, inr}
@@ -39,7 +43,6 @@ use Rattle.walks.specs.Walks.{Out, walk_of}
 use Rattle.walks.specs.Loops.{Aim, Begins, start_of}
 use Rattle.walks.proofs.LeafLaws.{aim_of, begun}
 use Rattle.nodes.specs.declared.walk.Walked.{Walked}
-use Rattle.nodes.specs.declared.walk.Walked.TheVariants as W
 use Rattle.nodes.specs.Space.{most_nodes, cell_place, cells_end, cells_from, cells_of, put_opens, put_range, Below, goals_in}
 use Rattle.nodes.specs.NodeActs.{node_act}
 use Rattle.nodes.specs.Walks.{Walkable, Ends}
@@ -161,34 +164,34 @@ module _ (T : Table) (p : Proof) (table : List ℕ) (first : ℕ) (s : List ℕ)
 
   -- ---- the walk ended
 
-  module _ (w₃ : List ℕ) (r : Walked) (ends : Ends aim s w₃ r) (same : length w₃ ≡ length w) where
-    pub ends_refused : (k at : ℕ) → r ≡ W.Refused k at → (o : List ℕ) → (flattened T p o ≡ outcome_of (answer.refusal k 2 at 0) o) × (at ≤ most_bytes)
+  module _ (w₃ : List ℕ) (r : std.Result Walked Refusal) (ends : Ends aim s w₃ r) (same : length w₃ ≡ length w) where
+    pub ends_refused : (f : Refusal) → r ≡ Err f → (o : List ℕ) → (flattened T p o ≡ outcome_of (answer.refusal (number f.cause) 2 f.place 0) o) × (f.place ≤ most_bytes)
     unfolding Ends checked and_then write_out
-    ends_refused k at t o =
+    ends_refused f t o =
         let z = subst (Ends aim s w₃) t ends in
-        let e = (agreed_refused walked_nodes (walk T p.term (term_place p) p.goals) aim.result z.0 at agreed z.2).0 in
-        (rw (e, z.1), omega (arith, z.3, sizes.file))
+        let e = (agreed_refused walked_nodes (walk T p.term (term_place p) p.goals) aim.result f.cause f.place agreed z.0).0 in
+        (rw e, omega (arith, z.1, sizes.file))
 
-    module _ (given u nodes : ℕ) (t : r ≡ W.Gives given u nodes) where
+    module _ (shown : Walked) (t : r ≡ Ok shown) where
       record Gave : Type 0 where
         h : List Goal
         walks : walk T p.term (term_place p) p.goals ≡ gives h
-        cells : cells_of w₃ nodes ≡ forest_cells T p
-        those : goals_in w₃ (values_at w₃ 0 given) ≡ h
-        below : Below nodes (values_at w₃ 0 given)
-        many : nodes ≤ most_nodes
-        uses_are : u ≡ atomics p.term
-        few : given * 2 ≤ stack_end
+        cells : cells_of w₃ shown.nodes ≡ forest_cells T p
+        those : goals_in w₃ (values_at w₃ 0 shown.given) ≡ h
+        below : Below shown.nodes (values_at w₃ 0 shown.given)
+        many : shown.nodes ≤ most_nodes
+        uses_are : shown.uses ≡ atomics p.term
+        few : shown.given * 2 ≤ stack_end
 
       gave : Gave
       unfolding Ends
       gave =
           let z = subst (Ends aim s w₃) t ends in
           let (h, e, o) = agreed_gives walked_nodes (walk T p.term (term_place p) p.goals) aim.result _ agreed z.0 in
-          let c : cells_of w₃ nodes ≡ forest_cells T p = ap (λ (y : Out Cell). y.made) o in
-          let v : values_at w₃ 0 given ≡ walked_nodes.nodes = ap (λ (y : Out Cell). y.values) o in
+          let c : cells_of w₃ shown.nodes ≡ forest_cells T p = ap (λ (y : Out Cell). y.made) o in
+          let v : values_at w₃ 0 shown.given ≡ walked_nodes.nodes = ap (λ (y : Out Cell). y.values) o in
           let g = grows T (walk→validates T (Finds T) (finds_agrees T) p.term (term_place p) p.goals e) (map open_cell p.goals) first_carry in
-          let d = carried w₃ nodes (subst (λ (A : List Cell). Carry A (values_at w₃ 0 given) h) (sym c) (subst (λ (ns : List ℕ). Carry (forest_cells T p) ns h) (sym v) g.carry)) in
+          let d = carried w₃ shown.nodes (subst (λ (A : List Cell). Carry A (values_at w₃ 0 shown.given) h) (sym c) (subst (λ (ns : List ℕ). Carry (forest_cells T p) ns h) (sym v) g.carry)) in
           let m = walked_cells T x.ready.few p.term (term_place p) (map open_cell p.goals) first_carry e in
           record {
             h = h;
@@ -196,24 +199,24 @@ module _ (T : Table) (p : Proof) (table : List ℕ) (first : ℕ) (s : List ℕ)
             cells = c;
             those = d.0;
             below = d.1;
-            many = omega (arith, m, length_cells nodes w₃ index_end, ap length c, length-map p.goals open_cell, goals_are, sizes.goals, atomics-fields p.term, (standing s p x.reads).few_fields);
+            many = omega (arith, m, length_cells shown.nodes w₃ index_end, ap length c, length-map p.goals open_cell, goals_are, sizes.goals, atomics-fields p.term, (standing s p x.reads).few_fields);
             uses_are = z.1;
             few = z.2;
           }
 
       -- what is asked for comparing the goals
-      pub nodes_below : Below most_nodes (values_at w₃ 0 given) × (given * 2 ≤ stack_end) × (cells_end ≤ length w₃) × (q.rest + 3 + q.remaining * 2 ≤ length s)
-      nodes_below = (below_later nodes most_nodes gave.many (values_at w₃ 0 given) gave.below, gave.few, omega (arith, same, length_started, x.space), sizes.remaining_inside)
+      pub nodes_below : Below most_nodes (values_at w₃ 0 shown.given) × (shown.given * 2 ≤ stack_end) × (cells_end ≤ length w₃) × (q.rest + 3 + q.remaining * 2 ≤ length s)
+      nodes_below = (below_later shown.nodes most_nodes gave.many (values_at w₃ 0 shown.given) gave.below, gave.few, omega (arith, same, length_started, x.space), sizes.remaining_inside)
 
       abbrev Compared : Bool → Type 0
-      Compared b = same_goals (goals_in w₃ (values_at w₃ 0 given)) (goals_at s (q.rest + 3) q.remaining) ≡ b
+      Compared b = same_goals (goals_in w₃ (values_at w₃ 0 shown.given)) (goals_at s (q.rest + 3) q.remaining) ≡ b
 
       compared : (b : Bool) → Compared b → same_goals gave.h p.remaining ≡ b
       unfolding parts_of
       compared b f =
           ap₂ same_goals (sym gave.those) ((standing s p x.reads).remaining_stand.goals_are ∙ ap (λ (y : ProofParts). goals_at s (y.rest + 3) y.remaining) x.parts_are) ∙ f
 
-      pub ends_accepted : Compared true → Accepted T p s w₃ q u nodes
+      pub ends_accepted : Compared true → Accepted T p s w₃ q shown.uses shown.nodes
       ends_accepted f = record {
         reads = x.reads;
         parts_are = x.parts_are;
@@ -227,8 +230,8 @@ module _ (T : Table) (p : Proof) (table : List ℕ) (first : ℕ) (s : List ℕ)
       unfolding checked and_then remaining_are
       ends_written f o = rw (gave.walks, compared true f)
 
-      pub ends_other : Compared false → (o : List ℕ) → (flattened T p o ≡ outcome_of (answer.refusal 21 2 q.rest 0) o) × (q.rest ≤ most_bytes)
-      unfolding checked and_then remaining_are write_out number parts_of
+      pub ends_other : Compared false → (o : List ℕ) → (flattened T p o ≡ outcome_of (answer.refusal (number RemainingDiffer) 2 q.rest 0) o) × (q.rest ≤ most_bytes)
+      unfolding checked and_then remaining_are write_out parts_of
       ends_other f o =
           let e : remaining_place p ≡ q.rest = ap (λ (y : ProofParts). y.rest) x.parts_are in
           (rw (gave.walks, compared false f, e), omega (arith, sizes.remaining_inside, sizes.file))

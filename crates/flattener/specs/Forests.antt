@@ -1,5 +1,6 @@
 -- The forest of an accepted proof, as cells in the work space, and what the entry flatten comes to.
-use Rattle.std.specs.Prelude.{ℕ, ◌≤◌, ◌≡◌, List, [], map, length}
+use Rattle.std.specs.Prelude.{ℕ, ◌≤◌, ◌≡◌, List, [], map, length, Ok, Err}
+use Rattle.std.specs.Prelude as std
 use Rattle.format.specs.Results.{gives}
 use Rattle.tables.specs.Tables.{Table}
 use Rattle.tables.specs.Standing.{TableStands}
@@ -11,6 +12,7 @@ use Rattle.hitac.specs.Premises.{FewPremises}
 use Rattle.hitac.specs.Hiproofs.{atomics}
 use Rattle.hitac.specs.Walk.{walk}
 use Rattle.hitac.proofs.Nodes.{Cell, open_cell, range, node_walk}
+use Rattle.answers.specs.declared.Answer.{Answer}
 use Rattle.entries.specs.Outcomes.{in_file, done, other_file}
 use Rattle.entries.specs.LentSpace.{Written, write_out}
 use Rattle.entries.specs.Check.{checked, forest_file}
@@ -42,3 +44,8 @@ written T p out = write_out [] out (done (forest_file T p))
 
 abbrev pub flattened : Table → Proof → (out : List ℕ) → Written
 flattened T p out = write_out [] out (in_file other_file (checked T p (forest_file T p)) done)
+
+-- the answer of a success or of a refusal
+abbrev pub answer_in : std.Result Answer Answer → Answer
+answer_in (Ok a) = a
+answer_in (Err a) = a

@@ -8,17 +8,17 @@ ghost use Rattle.entries.specs.LentSpace.{write_out};
 ghost use Rattle.entries.specs.Check.{on_proof, forest_file};
 ghost use Rattle.entries.specs.Check as entry;
 ghost use Rattle.nodes.specs.Space.{cells_end};
-ghost use Rattle.flattener.specs.Forests.{TableReady, Accepted, written, flattened};
+ghost use Rattle.flattener.specs.Forests.{TableReady, Accepted, written, flattened, answer_in};
 
 use crate::print::{print_forest, write_roots};
 use crate::remaining::same_goals;
-use answers::{Answer, refusal, wrote};
-use files::proofs::{ProofParts, ProofRead, empty_proof, or_empty_proof, read_proof_fields};
+use answers::{Answer, File};
+use files::proofs::{ProofParts, empty_proof, or_empty_proof, read_proof_fields};
+use format::refusals::Cause;
 use input_arities::layout::{ARITIES_END, STACK_END};
 use input_arities::note_arities;
 use nodes::cells::{put_opens, put_range};
-use nodes::walk::{Walked, walk};
-use tables::fields::TableRead;
+use nodes::walk::walk;
 use whole_table::read_table;
 use words::clear;
 
@@ -33,20 +33,20 @@ fn write_flat(
     nodes: usize,
     work: &mut [u8],
     out: &mut [u8],
-) -> Answer
+) -> Result<Answer, Answer>
     requires { (T : Table) × (p : Proof) × Accepted T p proof.now work.old parts uses nodes }
-    ensures answer { (T : Table) (p : Proof) → Accepted T p proof.now work.old parts uses nodes → result ≡ (written T p out.old).answer }
+    ensures answer { (T : Table) (p : Proof) → Accepted T p proof.now work.old parts uses nodes → answer_in result ≡ (written T p out.old).answer }
     ensures out { (T : Table) (p : Proof) → Accepted T p proof.now work.old parts uses nodes → out.new ≡ (written T p out.old).out }
 {
     let goals = parts.goals;
     let place = 3 + goals * 2;
     let size = place + uses * 7 + parts.remaining * 5;
     if out.len() < size {
-        return refusal(26, 0, 0, 0);
+        return Err(Answer::refused(Cause::OutputTooShort, File::Neither, 0, 0));
     }
     write_roots(out, proof, 3, goals);
     print_forest(work, goals, nodes, out, place);
-    wrote(size, 0)
+    Ok(Answer::wrote(size, 0))
 }
 
 // A proof that was read: the stated goals are the first nodes; the refusals of the walk over them, then 21, then 26, or the flat file.
@@ -57,9 +57,9 @@ fn flatten_parts(
     parts: ProofParts,
     work: &mut [u8],
     out: &mut [u8],
-) -> Answer
+) -> Result<Answer, Answer>
     requires { ((T : Table) × TableReady T table.now first work.old) × ((p : Proof) × (read_proof_fields proof.now ≡ gives p) × (parts_of p ≡ parts)) × (cells_end ≤ length work.old) }
-    ensures answer { (T : Table) (p : Proof) → TableReady T table.now first work.old → read_proof_fields proof.now ≡ gives p → result ≡ (flattened T p out.old).answer }
+    ensures answer { (T : Table) (p : Proof) → TableReady T table.now first work.old → read_proof_fields proof.now ≡ gives p → answer_in result ≡ (flattened T p out.old).answer }
     ensures out { (T : Table) (p : Proof) → TableReady T table.now first work.old → read_proof_fields proof.now ≡ gives p → out.new ≡ (flattened T p out.old).out }
 {
     let goals = parts.goals;
@@ -67,35 +67,30 @@ fn flatten_parts(
     put_opens(work, 0, proof, 3, goals);
     put_range(work, STACK_END - goals * 2, 0, goals);
     let walked = walk(table, first, proof, parts.term, goals, work);
-    match walked {
-        Walked::Refused(number, place) => refusal(number, 2, place, 0),
-        Walked::Gives(given, uses, nodes) => {
-            let rest = parts.rest;
-            if same_goals(work, given, proof, rest + 3, parts.remaining) {
-                return write_flat(proof, parts, uses, nodes, work, out);
-            }
-            refusal(21, 2, rest, 0)
-        }
+    let shown = walked.map_err(|r| Answer::refused(r.cause, File::Other, r.place, 0))?;
+    let rest = parts.rest;
+    if !same_goals(work, shown.given, proof, rest + 3, parts.remaining) {
+        return Err(Answer::refused(Cause::RemainingDiffer, File::Other, rest, 0));
     }
+    write_flat(proof, parts, shown.uses, shown.nodes, work, out)
 }
 
 // Both files, of which the proof has a byte, in a work space that is long enough. While they are read, the start of it holds the fields that wait.
-fn flatten_files(table: &[u8], proof: &[u8], work: &mut [u8], out: &mut [u8]) -> Answer
+fn flatten_files(
+    table: &[u8],
+    proof: &[u8],
+    work: &mut [u8],
+    out: &mut [u8],
+) -> Result<Answer, Answer>
     requires { (0 < length proof.now) × (cells_end ≤ length work.old) }
-    ensures answer { result ≡ (write_out [] out.old (on_proof forest_file table.now proof.now)).answer }
+    ensures answer { answer_in result ≡ (write_out [] out.old (on_proof forest_file table.now proof.now)).answer }
     ensures out { out.new ≡ (write_out [] out.old (on_proof forest_file table.now proof.now)).out }
 {
     let read = read_table(table, work, 0, ARITIES_END);
-    match read {
-        TableRead::Refused(number, place) => refusal(number, 1, place, 0),
-        TableRead::Read(_, _, first) => {
-            let file = read_proof_fields(proof, work, 0);
-            match file {
-                ProofRead::Refused(number, place) => refusal(number, 2, place, 0),
-                ProofRead::Read(parts) => flatten_parts(table, first, proof, parts, work, out),
-            }
-        }
-    }
+    let fields = read.map_err(|r| Answer::refused(r.cause, File::Table, r.place, 0))?;
+    let read = read_proof_fields(proof, work, 0);
+    let parts = read.map_err(|r| Answer::refused(r.cause, File::Other, r.place, 0))?;
+    flatten_parts(table, fields.first, proof, parts, work, out)
 }
 
 // The flat file of the proof's forest in the table, or the refusal.
@@ -105,11 +100,11 @@ pub fn flatten(table: &[u8], proof: &[u8], work: &mut [u8], out: &mut [u8]) -> A
     ensures out { out.new ≡ (entry.flatten table.now proof.now work.old out.old).out }
 {
     if work.len() < WORK {
-        return refusal(29, 0, 0, 0);
+        return Answer::refused(Cause::WorkTooShort, File::Neither, 0, 0);
     }
     let empty = empty_proof();
     let file = or_empty_proof(proof, &empty);
-    let answer = flatten_files(table, file, work, out);
+    let (Ok(answer) | Err(answer)) = flatten_files(table, file, work, out);
     clear(work);
     answer
 }

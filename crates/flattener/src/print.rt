@@ -6,7 +6,8 @@ ghost use Rattle.format.specs.Encoding.{goal_list_bytes};
 ghost use Rattle.files.specs.Derivations.{use_entry, open_entry, entry_bytes, entries_bytes};
 ghost use Rattle.flattener.specs.Prints.{PrintReady, NodePrinted, forest_entries, Printable};
 
-use format::values::{Goal, RuleName, goal_at, rule_name_at};
+use format::tags::{GOALS_TAG, OPEN_TAG, USE_TAG};
+use format::values::{Goal, RuleName, value_at};
 use input_arities::layout::STACK_END;
 use nodes::cells::{CELLS, put_range};
 use words::{copy_in, load16, store16};
@@ -23,7 +24,7 @@ pub fn write_roots(out: &mut [u8], file: &[u8], place: usize, count: usize)
     requires { (3 + count * 2 ≤ length out.old) × (place + count * 2 ≤ length file.now) × (count ≤ 256) }
     ensures { out.new ≡ sets out.old 0 (goal_list_bytes (goals_at file.now place count)) }
 {
-    out[0] = 3;
+    out[0] = GOALS_TAG;
     store16(out, 1, (count * 2) as u16);
     copy_in(out, 3, file, place, count * 2);
 }
@@ -33,7 +34,7 @@ fn write_open(out: &mut [u8], at: usize, goal: Goal)
     requires { at + 5 ≤ length out.old }
     ensures { out.new ≡ sets out.old at (entry_bytes (open_entry goal)) }
 {
-    out[at] = 33;
+    out[at] = OPEN_TAG;
     store16(out, at + 1, 2);
     store16(out, at + 3, goal.0);
 }
@@ -43,7 +44,7 @@ fn write_use(out: &mut [u8], at: usize, name: RuleName, goal: Goal)
     requires { at + 7 ≤ length out.old }
     ensures { out.new ≡ sets out.old at (entry_bytes (use_entry name goal)) }
 {
-    out[at] = 32;
+    out[at] = USE_TAG;
     store16(out, at + 1, 4);
     store16(out, at + 3, name.0);
     store16(out, at + 5, goal.0);
@@ -56,7 +57,7 @@ fn print_node(work: &mut [u8], here: Printed, out: &mut [u8]) -> Printed
 {
     let node = load16(work, here.top) as usize;
     let cell = CELLS + node * 8;
-    let goal = goal_at(work, cell);
+    let goal = value_at(work, cell);
     let mark = load16(work, cell + 6) as usize;
     if mark == 0 {
         write_open(out, here.at, goal);
@@ -65,7 +66,7 @@ fn print_node(work: &mut [u8], here: Printed, out: &mut [u8]) -> Printed
             at: here.at + 5,
         };
     }
-    let name = rule_name_at(work, cell + 2);
+    let name = value_at(work, cell + 2);
     let first = load16(work, cell + 4) as usize;
     write_use(out, here.at, name, goal);
     let count = mark - 1;

@@ -1,93 +1,97 @@
 -- `flatten::flatten_files` meets its contract: how the files read says which case of the entry's definition holds.
 -- Assumes nothing.
-use mathlib.Core.Path.{◌≡◌, sym, ap, ◌∙◌}
-use Prim.Native.Nat.{ℕ, ◌≤◌}
-use native.Mathlib.Omega.{arith}
-use lib.ListN.{length}
+use Rattle.std.proofs.Common.{rules, ◌≡◌, ◌∙◌, ◌≤◌, ap, sym, arith}
+use Rattle.std.specs.Prelude.{List, ℕ, Ok, Err}
+use Rattle.std.proofs.lemmas.Grind.{common_steps}
+use Rattle.format.specs.Refusals.{number}
+use Rattle.format.specs.Results.{gives}
+use Rattle.tables.specs.Tables.{Table}
+use Rattle.tables.specs.ReadTables.{read_table}
 use Rattle.tables.proofs.ReadsTable.{reads_few_premises}
-use Rattle.tables.proofs.ToldTable.{ToldRefused, told_refuses}
-use Rattle.whole_table.proofs.ReadLaws.{Told, told_indexed}
-use Rattle.files.specs.Proofs.{read_proof_fields, read_proof}
+use Rattle.tables.proofs.ToldTable.{told_refuses}
+use Rattle.whole_table.proofs.ReadLaws.{told_indexed}
+use Rattle.files.specs.declared.proofs.ProofParts.{ProofParts}
+use Rattle.files.specs.Proofs.{Proof, read_proof_fields, read_proof}
+use Rattle.files.specs.Shapes.{parts_of}
 use Rattle.files.proofs.Answers as files
 use Rattle.files.proofs.EmptyProof.{read_itself}
 use Rattle.files.proofs.RefusedFiles.{Fields-refused}
-use Rattle.answers.specs.Answers as answer
+use Rattle.answers.specs.Answers.{refusal}
 use Rattle.entries.specs.LentSpace.{Written}
-use Rattle.input_arities.specs.Layout.{arities_end}
-use Rattle.nodes.specs.Space.{cells_end}
 use Rattle.walks.proofs.IndexLaws.{indexed_still}
 use Rattle.flattener.specs.Forests.{TableReady}
-use Rattle.flattener.proofs.FlattenLaws.{table_refused, proof_refused, both_read}
+use Rattle.flattener.proofs.FlattenLaws.{either, table_refused, proof_refused, both_read}
+use Rattle.flattener.proofs.flatten.flatten_files.Goals.{In_ok-parts}
 use Rattle.flattener.proofs.flatten.flatten_files.Goals as goal
 
-pub read_table-read-requires : goal.read_table-read-requires
-read_table-read-requires c = (omega arith, omega (arith, c.requires.1))
+pub map_err-requires : goal.map_err-requires
+map_err-requires c = λ e is.
+    let low : e.place ≤ 65535 = omega (arith, (told_refuses _ _ (sym c.read_table-read.ensures.answer ∙ is)).refusal.below) in
+    search rules
 
-pub refusal-requires : goal.refusal-requires
-refusal-requires c =
-    let table-told : ToldRefused c.args.table.now c.in-Refused.number c.in-Refused.place = told_refuses _ _ _ (sym c.read_table-read.ensures.answer ∙ c.in-Refused.is) in
-    (table-told.refusal.below, omega arith)
+pub returns-in_err-fields : goal.returns-in_err-fields
+returns-in_err-fields c =
+    either c.read_table-read.result
+    (λ p is. absurd (grind (arith, common_steps)))
+    (λ e is.
+    let made : c.from_residual.result ≡ Err (refusal (number e.cause) 1 e.place 0) = grind (arith, common_steps) in
+    let left = sym (table_refused _ c.args.proof.now c.args.out.now e (told_refuses _ _ (sym c.read_table-read.ensures.answer ∙ is)).refuses) in
+    record { answer = rw made (ap (λ (y : Written). y.answer) left); out = ap (λ (y : Written). y.out) left })
 
-pub read_proof_fields-file-requires : goal.read_proof_fields-file-requires
-read_proof_fields-file-requires c =
-    let long : cells_end ≤ length c.read_table-read.new.w = omega (arith, c.requires.1, c.read_table-read.auto.w) in
-    omega (arith, long)
+pub map_err-requires-2 : goal.map_err-requires-2
+map_err-requires-2 c = λ e is.
+    let low : e.place ≤ 65535 = omega (arith, (Fields-refused _ _ _ (files.proof_refused _ _ (sym c.read_proof_fields-read.ensures.value ∙ is))).below) in
+    search rules
 
-pub refusal-requires-in-Refused-file : goal.refusal-requires-in-Refused-file
-refusal-requires-in-Refused-file c =
-    let x = files.proof_refused _ _ _ (sym c.read_proof_fields-file.ensures.value ∙ c.in-Refused-file.is) in
-    ((Fields-refused _ x.0 _ x.1).below, omega arith)
+pub returns-in_err-parts : goal.returns-in_err-parts
+returns-in_err-parts c =
+    let was : c.read_table-read.result ≡ Ok c.in_ok-fields.fields = grind (arith, common_steps) in
+    let t = (told_indexed _ _ _ _ _ _ _ c.read_table-read.ensures was).read in
+    let own : read_proof c.args.proof.now ≡ read_proof_fields c.args.proof.now = read_itself _ c.requires.0 in
+    either c.read_proof_fields-read.result
+    (λ p is. absurd (grind (arith, common_steps)))
+    (λ e is.
+    let made : c.from_residual-in_err-parts.result ≡ Err (refusal (number e.cause) 2 e.place 0) = grind (arith, common_steps) in
+    let left = sym (proof_refused _ _ c.args.out.now t.table e t.reads (own ∙ files.proof_refused _ _ (sym c.read_proof_fields-read.ensures.value ∙ is))) in
+    record { answer = rw made (ap (λ (y : Written). y.answer) left); out = ap (λ (y : Written). y.out) left })
+
+-- both files were read
+record Both (table work : List ℕ) (first : ℕ) (proof : List ℕ) (parts : ProofParts) : Type 0 where
+  the_table : Table
+  reads : read_table table ≡ gives the_table
+  ready : TableReady the_table table first work
+  the_proof : Proof
+  proof_reads : read_proof_fields proof ≡ gives the_proof
+  parts_are : parts_of the_proof ≡ parts
+
+both : (c : In_ok-parts) → Both c.args.table.now c.read_proof_fields-read.new.work c.in_ok-fields.fields.first c.args.proof.now c.in_ok-parts.parts
+both c =
+    let was : c.read_table-read.result ≡ Ok c.in_ok-fields.fields = grind (arith, common_steps) in
+    let is : c.read_proof_fields-read.result ≡ Ok c.in_ok-parts.parts = grind (arith, common_steps) in
+    let t = told_indexed _ _ _ _ _ _ _ c.read_table-read.ensures was in
+    let x = files.proof_read _ _ (sym c.read_proof_fields-read.ensures.value ∙ is) in
+    record {
+      the_table = t.read.table;
+      reads = t.read.reads;
+      ready = record {
+        stands = t.read.stands;
+        few = λ a γ h m. reads_few_premises _ t.read.table t.read.reads _ m;
+        indexed = indexed_still _ _ _ _ c.read_proof_fields-read.auto.work (λ i a b. c.read_proof_fields-read.ensures.kept.above i (omega arith)) t.rules;
+      };
+      the_proof = x.0;
+      proof_reads = x.1;
+      parts_are = x.2;
+    }
 
 pub flatten_parts-requires : goal.flatten_parts-requires
 flatten_parts-requires c =
-    let told : Told c.args.table.now c.read_table-read.new.w 0 arities_end c.in-Read.field-0 c.in-Read.field-1 c.in-Read.first = told_indexed _ _ _ _ _ _ _ _ _ c.read_table-read.ensures c.in-Read.is in
-    let long : cells_end ≤ length c.read_table-read.new.w = omega (arith, c.requires.1, c.read_table-read.auto.w) in
-    let ready : TableReady told.read.table c.args.table.now c.in-Read.first c.read_proof_fields-file.new.work = (let t = told in
-    record {
-      stands = t.read.stands;
-      few = λ a γ h m. reads_few_premises _ t.read.table t.read.reads _ m;
-      indexed = indexed_still _ _ _ _ c.read_proof_fields-file.auto.work (λ i a b. c.read_proof_fields-file.ensures.kept.above i (omega arith)) t.rules;
-    }) in
-    let x = files.proof_read _ _ (sym c.read_proof_fields-file.ensures.value ∙ c.in-Read-file.is) in
-    ((told.read.table, ready), (x.0, x.1, x.2), omega (arith, long, c.read_proof_fields-file.auto.work))
+    let b = both (goal.at.flatten_parts-requires c).In_ok-parts in
+    ((b.the_table, b.ready), (b.the_proof, b.proof_reads, b.parts_are), omega (arith, c.requires.1, c.read_table-read.auto.w, c.read_proof_fields-read.auto.work))
 
-pub shape_of-work-in-Refused : goal.shape_of-work-in-Refused
-shape_of-work-in-Refused c = c.read_table-read.auto.w
-
-pub returns-in-Refused : goal.returns-in-Refused
-returns-in-Refused c =
-    let table-told : ToldRefused c.args.table.now c.in-Refused.number c.in-Refused.place = told_refuses _ _ _ (sym c.read_table-read.ensures.answer ∙ c.in-Refused.is) in
-    let x = table-told in
-    let e = sym (table_refused _ c.args.proof.now c.args.out.now x.cause _ x.refuses) in record { answer = c.refusal.ensures ∙ ap (λ (k : ℕ). answer.refusal k 1 c.in-Refused.place 0) (sym x.number_is) ∙ ap (λ (y : Written). y.answer) e; out = ap (λ (y : Written). y.out) e }
-
-pub shape_of-work-in-Refused-file : goal.shape_of-work-in-Refused-file
-shape_of-work-in-Refused-file c = c.read_proof_fields-file.auto.work ∙ c.read_table-read.auto.w
-
-pub returns-in-Refused-file : goal.returns-in-Refused-file
-returns-in-Refused-file c =
-    let told : Told c.args.table.now c.read_table-read.new.w 0 arities_end c.in-Read.field-0 c.in-Read.field-1 c.in-Read.first = told_indexed _ _ _ _ _ _ _ _ _ c.read_table-read.ensures c.in-Read.is in
+pub returns : goal.returns
+returns c =
+    let b = both (goal.at.returns c).In_ok-parts in
     let own : read_proof c.args.proof.now ≡ read_proof_fields c.args.proof.now = read_itself _ c.requires.0 in
-    let t = told.read in
-    let x = files.proof_refused _ _ _ (sym c.read_proof_fields-file.ensures.value ∙ c.in-Refused-file.is) in
-    let e = sym (proof_refused _ _ c.args.out.now t.table x.0 _ t.reads (own ∙ x.1)) in record { answer = c.refusal-in-Refused-file.ensures ∙ ap (λ (k : ℕ). answer.refusal k 2 c.in-Refused-file.place 0) (sym x.2) ∙ ap (λ (y : Written). y.answer) e; out = ap (λ (y : Written). y.out) e }
-
-pub shape_of-work-in-Read-file : goal.shape_of-work-in-Read-file
-shape_of-work-in-Read-file c = c.flatten_parts.auto.work ∙ c.read_proof_fields-file.auto.work ∙ c.read_table-read.auto.w
-
-pub shape_of-out : goal.shape_of-out
-shape_of-out c = c.flatten_parts.auto.out
-
-pub returns-in-Read-file : goal.returns-in-Read-file
-returns-in-Read-file c =
-    let told : Told c.args.table.now c.read_table-read.new.w 0 arities_end c.in-Read.field-0 c.in-Read.field-1 c.in-Read.first = told_indexed _ _ _ _ _ _ _ _ _ c.read_table-read.ensures c.in-Read.is in
-    let own : read_proof c.args.proof.now ≡ read_proof_fields c.args.proof.now = read_itself _ c.requires.0 in
-    let ready : TableReady told.read.table c.args.table.now c.in-Read.first c.read_proof_fields-file.new.work = (let t = told in
-    record {
-      stands = t.read.stands;
-      few = λ a γ h m. reads_few_premises _ t.read.table t.read.reads _ m;
-      indexed = indexed_still _ _ _ _ c.read_proof_fields-file.auto.work (λ i a b. c.read_proof_fields-file.ensures.kept.above i (omega arith)) t.rules;
-    }) in
-    let t = told.read in
-    let x = files.proof_read _ _ (sym c.read_proof_fields-file.ensures.value ∙ c.in-Read-file.is) in
     let f = c.flatten_parts.ensures in
-    let e = sym (both_read _ _ c.args.out.now t.table x.0 t.reads (own ∙ x.1)) in record { answer = f.answer t.table x.0 ready x.1 ∙ ap (λ (y : Written). y.answer) e; out = f.out t.table x.0 ready x.1 ∙ ap (λ (y : Written). y.out) e }
+    let left = sym (both_read _ _ c.args.out.now b.the_table b.the_proof b.reads (own ∙ b.proof_reads)) in
+    record { answer = f.answer b.the_table b.the_proof b.ready b.proof_reads ∙ ap (λ (y : Written). y.answer) left; out = f.out b.the_table b.the_proof b.ready b.proof_reads ∙ ap (λ (y : Written). y.out) left }

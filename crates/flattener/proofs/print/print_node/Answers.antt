@@ -23,7 +23,7 @@ write_open-requires c =
 pub returns-then-mark-eq0 : goal.returns-then-mark-eq0
 returns-then-mark-eq0 c =
     let leaf : top_cell c.args.work.now c.args.here.top ≡ open_cell (goal (word c.args.work.now (cell_place c.load16-node.result))) = open_there _ _ _ _ c.load16-node.ensures c.load16-mark.ensures c.if-mark-eq0.true in
-    printed_open _ _ _ _ _ _ _ c.goal_at-goal.ensures leaf c.write_open.ensures
+    printed_open _ _ _ _ _ _ _ c.value_at-goal.ensures leaf c.write_open.ensures
 
 pub write_use-requires : goal.write_use-requires
 unfolding entry_bytes
@@ -80,5 +80,5 @@ returns c =
       omega (arith, c.requires.premises_there, n, ap first_premise e),
     )) in
     let f = c.load16-first.ensures in
-    printed_use _ _ _ _ _ _ _ _ _ _ _ _ c.rule_name_at-name.ensures c.goal_at-goal.ensures
+    printed_use _ _ _ _ _ _ _ _ _ _ _ _ c.value_at-name.ensures c.value_at-goal.ensures
     (use_here ∙ ap (λ (x : ℕ). use_cell (rule_name (word c.args.work.now (cell + 2))) (goal (word c.args.work.now cell)) x (mark - 1)) (sym f)) c.write_use.ensures _ c.put_range.ensures (omega (arith, use_room.1)) c.requires.on_stack c.requires.within
