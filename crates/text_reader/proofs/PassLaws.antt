@@ -91,9 +91,6 @@ digit_small v b h = go (ltb most_value v) refl h
     go true e h = absurd (omega (arith, ltb-true most_value v e))
     go false e h = (ltb-false most_value v e, refl)
 
-pub passed_none : (s : List ℕ) (from : ℕ) → from ≤ length s → Passed s from 0 from
-passed_none s from h = record { rises = omega arith; placed = h; none = λ e. refl; leaves = λ l. absurd (omega arith); labels = λ l. absurd (omega arith); marks = refl; value = λ l. refl }
-
 module _ (s : List ℕ) (from v at : ℕ) (x : Passed s from v at) (h : at < length s) (e : is_digit (get_or s at 0) ≡ true) where
   leaves_more : (k d f z : ℕ) → scan (scanned M.begun k d f z) from (drop from s) ≡ scan (scanned (M.in_digits (digit_more v (get_or s at 0))) k d f z) (at + 1) (drop (at + 1) s)
   leaves_more k d f z = go (dec_lt from at)

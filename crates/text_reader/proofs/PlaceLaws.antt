@@ -96,26 +96,6 @@ module _ (s w : List ℕ) (p : ScanState) (at depth count : ℕ) (x : Standing s
       (here_scans false 41 due is ∙ closing-scan x.mark depth p.fields p.size at (drop (at + 1) s) some
       ∙ ap (λ (t : Bool). scan (scanned (mode_of t) x.mark (depth - 1) p.fields p.size) (at + 1) (drop (at + 1) s)) (sym due))
 
--- before the first of them, and behind the last
-pub run_starts : (s w : List ℕ) (p : ScanState) → Standing s w p → Standing s w (moved_to p p.at p.depth p.count)
-run_starts s w p x = record { mark = x.mark; placed = x.placed; deep = x.deep; few = x.few; sized = x.sized; scans = x.scans; listed = x.listed }
-
-run_moved : (s w : List ℕ) (p r : ScanState) (at depth count : ℕ) → r ≡ moved_to p at depth count → Standing s w (moved_to p at depth count) → p.at ≤ at → Moved s w p r
-run_moved s w p r at depth count e x h = subst (Moved s w p) (sym e) (record { standing = x; rises = h; same = refl })
-
-module _ (s w : List ℕ) (p r : ScanState) (at depth count : ℕ) (e : r ≡ moved_to p at depth count) (x : Standing s w (moved_to p at depth count)) (up : p.at ≤ at) where
-  pub opened_other : (get_or s at 0 ≡ 32 → ⊥) → (get_or s at 0 ≡ 40 → ⊥) → Opened s w p r
-  opened_other a b = subst (Opened s w p) (sym e) (record { moved = run_moved s w p (moved_to p at depth count) at depth count refl x up; no_blank = λ l. a; no_bracket = λ l. b })
-
-  pub opened_end : length s ≤ at → Opened s w p r
-  opened_end end = subst (Opened s w p) (sym e) (record { moved = run_moved s w p (moved_to p at depth count) at depth count refl x up; no_blank = λ l. absurd (omega arith); no_bracket = λ l. absurd (omega arith) })
-
-  pub closed_other : (get_or s at 0 ≡ 32 → ⊥) → (get_or s at 0 ≡ 41 → depth ≡ 0) → Closed s w p r
-  closed_other a b = subst (Closed s w p) (sym e) (record { moved = run_moved s w p (moved_to p at depth count) at depth count refl x up; no_blank = λ l. a; no_bracket = λ l. b })
-
-  pub closed_end : length s ≤ at → Closed s w p r
-  closed_end end = subst (Closed s w p) (sym e) (record { moved = run_moved s w p (moved_to p at depth count) at depth count refl x up; no_blank = λ l. absurd (omega arith); no_bracket = λ l. absurd (omega arith) })
-
 module _ (s w : List ℕ) (p : ScanState) (h : Ready s w p) where
   -- the scan and the marks from here on, by the byte that stands here
   scans_here : (due : Bool) (b : ℕ) → p.due ≡ due → get_or s p.at 0 ≡ b → scan start 0 s ≡ scan (scanned (mode_of due) h.standing.mark p.depth p.fields p.size) p.at (b ∷ drop (p.at + 1) s)
