@@ -1,4 +1,4 @@
--- The two counts of a waiting term, a law for each return; and the turns of gathering, which keep what is gathered and what is still to come together.
+-- A waiting term that was loaded; and the turns of gathering, which keep what is gathered and what is still to come together.
 -- Assumes nothing.
 use Prim.Native.Nat.{ℕ, zero, suc, ◌+◌, ◌*◌, ◌-◌, ◌≤◌, ◌<◌}
 use mathlib.Core.Path.{◌≡◌, refl, sym, ap, ap₂, subst, ◌∙◌}
@@ -6,7 +6,7 @@ use mathlib.Core.List.{List, [], ◌∷◌, ◌++◌, append_assoc, append-nil}
 use native.Mathlib.Omega.{arith}
 use lib.ListN.{length, get_or, set, take, drop, length-set, take-append-drop}
 use lib.Seq.{take-suc-set, drop-set-lt}
-use borrow.Author.Tests.{eq-eqb, ne_eqb}
+use borrow.Author.Tests.{ne_eqb}
 use Rattle.format.specs.Encoding.{Bytes}
 use Rattle.lent_frames.specs.declared.LentFrame.{LentFrame}
 use Rattle.arities.specs.Layout.{frames_end}
@@ -16,44 +16,8 @@ use Rattle.frames.specs.Frames.{frame_at}
 use Rattle.saver.specs.declared.gather.Gathered.{Gathered}
 use Rattle.saver.specs.Gather.{own_count_of, held_after, own_start, lent_frame, gathered_of, FrameFits, gathered, AllFit, Gathers}
 
-module _ (k c x : ℕ) where
-  pub own_4 : k ≡ 4 → c ≡ own_count_of k c x
-  unfolding own_count_of
-  own_4 e = rw (eq-eqb k 4 e) refl
-
-  pub own_5 : (k ≡ 4 → ⊥) → k ≡ 5 → c ≡ own_count_of k c x
-  unfolding own_count_of
-  own_5 a e = rw (ne_eqb k 4 a, eq-eqb k 5 e) refl
-
-  pub own_6 : (k ≡ 4 → ⊥) → (k ≡ 5 → ⊥) → k ≡ 6 → c - x ≡ own_count_of k c x
-  unfolding own_count_of
-  own_6 a b e = rw (ne_eqb k 4 a, ne_eqb k 5 b, eq-eqb k 6 e) refl
-
-  pub own_none : (k ≡ 4 → ⊥) → (k ≡ 5 → ⊥) → (k ≡ 6 → ⊥) → 0 ≡ own_count_of k c x
-  unfolding own_count_of
-  own_none a b d = rw (ne_eqb k 4 a, ne_eqb k 5 b, ne_eqb k 6 d) refl
-
-  pub held_4 : k ≡ 4 → x + c ≡ held_after k c x
-  unfolding held_after
-  held_4 e = rw (eq-eqb k 4 e) refl
-
-  pub held_6 : (k ≡ 4 → ⊥) → k ≡ 6 → c ≡ held_after k c x
-  unfolding held_after
-  held_6 a e = rw (ne_eqb k 4 a, eq-eqb k 6 e) refl
-
-  pub held_3 : (k ≡ 4 → ⊥) → (k ≡ 6 → ⊥) → k ≡ 3 → 0 ≡ held_after k c x
-  unfolding held_after
-  held_3 a b e = rw (ne_eqb k 4 a, ne_eqb k 6 b, eq-eqb k 3 e) refl
-
-  pub held_same : (k ≡ 4 → ⊥) → (k ≡ 6 → ⊥) → (k ≡ 3 → ⊥) → x ≡ held_after k c x
-  unfolding held_after
-  held_same a b d = rw (ne_eqb k 4 a, ne_eqb k 6 b, ne_eqb k 3 d) refl
-
+-- where own goals begin
 module _ (c s : ℕ) where
-  pub start_none : c ≡ 0 → 0 ≡ own_start c s
-  unfolding own_start
-  start_none e = rw (eq-eqb c 0 e) refl
-
   pub start_some : (c ≡ 0 → ⊥) → s ≡ own_start c s
   unfolding own_start
   start_some n = rw (ne_eqb c 0 n) refl
