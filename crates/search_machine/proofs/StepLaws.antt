@@ -15,6 +15,7 @@ use Rattle.format.specs.Terms.{Term, atomic, id, label, sequence, tensor, empty,
 use Rattle.format.specs.Standing.{Stands}
 use Rattle.format.proofs.StandsLaws.{tag_of, known}
 use Rattle.format.proofs.ByTag.{by_tag}
+use Rattle.tables.specs.declared.repeats.Repeat.TheVariants as K
 use Rattle.tables.specs.Tables.{Table}
 use Rattle.tables.specs.Standing.{TableStands}
 use Rattle.tables.specs.Lookup.{find_body}
@@ -44,14 +45,14 @@ indexed_still bytes first w v e h x = record {
   rules = (
     x.rules.0,
     x.rules.1,
-    (x.rules.2.0, tree_kept 6 bytes x.rules.0 w v rules_place x.rules.2.0 (omega (arith, e)) (λ i a b. h i (omega (arith, a)) (omega (arith, b, x.rules.2.1.sound.few))) x.rules.2.1),
+    (x.rules.2.0, tree_kept K.Rule bytes x.rules.0 w v rules_place x.rules.2.0 (omega (arith, e)) (λ i a b. h i (omega (arith, a)) (omega (arith, b, x.rules.2.1.sound.few))) x.rules.2.1),
   );
   definitions = (
     x.definitions.0,
     x.definitions.1,
     (
       x.definitions.2.0,
-      tree_kept 8 bytes x.definitions.0 w v definitions_place x.definitions.2.0 (omega (arith, e)) (λ i a b. h i (omega (arith, a)) (omega (arith, b, x.definitions.2.1.sound.few)))
+      tree_kept K.Tactic bytes x.definitions.0 w v definitions_place x.definitions.2.0 (omega (arith, e)) (λ i a b. h i (omega (arith, a)) (omega (arith, b, x.definitions.2.1.sound.few)))
           x.definitions.2.1,
     ),
   );
