@@ -6,6 +6,7 @@ use mathlib.Core.Path.{◌≡◌, refl, sym, ap, subst, ◌∙◌}
 use mathlib.Core.List.{List, ◌∷◌}
 use mathlib.Core.Option.{Option, some}
 use native.Mathlib.Omega.{arith}
+use native.Mathlib.Decide.{dec_lt}
 use lib.ListN.{length, get_or}
 use Rattle.words.specs.Word.{word, put_word}
 use Rattle.words.proofs.WordLaws.{word_same}
@@ -35,7 +36,7 @@ use Rattle.machine.specs.declared.state.Mode.{Mode}
 use Rattle.machine.specs.declared.state.Mode.TheVariants as is
 use Rattle.machine.specs.declared.state.State.{State}
 use Rattle.machine.specs.Shows.{here, GoalsIs, FrameIs, Began, FramesAt, Sizes, Runs, Lost, exceeds, Ends, Config, next, done, Holds}
-use Rattle.machine.specs.Begun.{enter, Room, Ready, Begins, lost, failed, exceeded, kept, entered, id_next, empty_next, assert_next, sequence_next, alternation_next, label_next, sequence_frame, alternation_frame, label_frame}
+use Rattle.machine.specs.Begun.{enter, Room, Ready, Begins, Keeps, lost, failed, exceeded, kept, entered, id_next, empty_next, assert_next, sequence_next, alternation_next, label_next, sequence_frame, alternation_frame, label_frame}
 use Rattle.machine.specs.Step.{Grown}
 use Rattle.machine.proofs.HeldLaws.{within-fits, within_over}
 use Rattle.machine.proofs.KeepLaws.{kept_output, kept-behind, goals_kept_lem, frames_kept}
@@ -121,10 +122,21 @@ module _ (w : List ℕ) (s : State) (room : Room w s) where
     pub beyond_output : (i : ℕ) → frames_end ≤ i → get_or v i 0 ≡ get_or w i 0
     beyond_output i b = only.kept.above i (omega (arith, room.output_fits))
 
-  pub keep_grown : (tag : ℕ) (v : List ℕ) (r : State) → v ≡ put_header w s.out tag 0 → r ≡ kept s → Grown w s v r
-  keep_grown tag v r q₁ q₂ =
+  -- a field without contents is left, or one more cannot be held
+  keeps : (P : List ℕ → State → Type 0) (tag : ℕ) → ((r : State) → most_held ≤ s.held → r ≡ exceeded s → P w r)
+      → ((v : List ℕ) (r : State) → s.held < most_held → v ≡ put_header w s.out tag 0 → r ≡ kept s → P v r) → (v : List ℕ) (r : State) → Keeps w s tag v r → P v r
+  keeps P tag a b v r k = go (dec_lt s.held most_held)
+    where
+      go : Dec (s.held < most_held) → P v r
+      go (yes h) = let x = k.fits h in b v r h x.0 x.1
+      go (no h) = let x = k.full (omega (arith, h)) in subst (λ (y : List ℕ). P y r) (sym x.0) (a r (omega (arith, h)) x.1)
+
+  pub keep_grown : (tag : ℕ) (v : List ℕ) (r : State) → Keeps w s tag v r → Grown w s v r
+  keep_grown tag = keeps (λ v r. Grown w s v r) tag
+      (λ r h q. subst (λ (x : State). Grown w s w x) (sym q) (record { beyond = λ i b. refl; same_length = refl; one_step = refl }))
+      (λ v r h q₁ q₂.
       let only : Only s.out (s.out + 3) w v = subst (λ (x : List ℕ). Only s.out (s.out + 3) w x) (sym q₁) (only_header w s.out tag 0) in
-      subst (λ (x : State). Grown w s v x) (sym q₂) (record { beyond = beyond_output v 3 only (omega arith); same_length = only.same_length; one_step = refl })
+      subst (λ (x : State). Grown w s v x) (sym q₂) (record { beyond = beyond_output v 3 only (omega arith); same_length = only.same_length; one_step = refl }))
 
   -- the term gives its goals back
   keep_begins : (tag : ℕ) (p t : Term) (c : M.Place → List Goal → List M.Frame → Config) → ((v : List ℕ) (at : ℕ) → Head v at tag 0 → Stands v at p) → size p ≡ 3 → fields p ≡ 1
@@ -196,22 +208,28 @@ module _ (w : List ℕ) (s : State) (room : Room w s) where
   pub id_fails : (r : State) → (s.count ≡ 1 → ⊥) → r ≡ failed s → Begins w s w r id id_next
   id_fails r n q = fail_begins id id_next (λ π g k h. by_none w s.start s.count one_goal (λ o. done (finished (held k) id o) k) g h.are (not_one_at w s.start _ s.count n)) r q
 
-  pub id_exceeds : (r : State) → s.count ≡ 1 → most_held ≤ s.held → r ≡ exceeded s → Begins w s w r id id_next
+  id_exceeds : (r : State) → s.count ≡ 1 → most_held ≤ s.held → r ≡ exceeded s → Begins w s w r id id_next
   id_exceeds r n full q = exceed_begins id id_next (gives_much id one_id one_goal (same_one w s.start s.count n) full) r q
 
-  pub id_keeps : (v : List ℕ) (r : State) → s.count ≡ 1 → s.held < most_held → v ≡ put_header w s.out 17 0 → r ≡ kept s → Begins w s v r id id_next
+  id_keeps : (v : List ℕ) (r : State) → s.count ≡ 1 → s.held < most_held → v ≡ put_header w s.out 17 0 → r ≡ kept s → Begins w s v r id id_next
   id_keeps v r n fits q₁ q₂ =
       keep_begins 17 id id id_next stands_id three_id one_id fits (omega (arith, n)) (gives_back id one_id one_goal (same_one w s.start s.count n) fits) v r q₁ q₂
+
+  pub id_ends : s.count ≡ 1 → (v : List ℕ) (r : State) → Keeps w s 17 v r → Begins w s v r id id_next
+  id_ends n = keeps (λ v r. Begins w s v r id id_next) 17 (λ r h q. id_exceeds r n h q) (λ v r h q₁ q₂. id_keeps v r n h q₁ q₂)
 
   pub empty_fails : (r : State) → (s.count ≡ 0 → ⊥) → r ≡ failed s → Begins w s w r empty empty_next
   empty_fails r n q = fail_begins empty empty_next (λ π g k h. by_none w s.start s.count no_goal (λ o. done (finished (held k) empty o) k) g h.are (not_none_at w s.start s.count n)) r q
 
-  pub empty_exceeds : (r : State) → s.count ≡ 0 → most_held ≤ s.held → r ≡ exceeded s → Begins w s w r empty empty_next
+  empty_exceeds : (r : State) → s.count ≡ 0 → most_held ≤ s.held → r ≡ exceeded s → Begins w s w r empty empty_next
   empty_exceeds r n full q = exceed_begins empty empty_next (gives_much empty one_empty no_goal (none_at w s.start s.count n) full) r q
 
-  pub empty_keeps : (v : List ℕ) (r : State) → s.count ≡ 0 → s.held < most_held → v ≡ put_header w s.out 21 0 → r ≡ kept s → Begins w s v r empty empty_next
+  empty_keeps : (v : List ℕ) (r : State) → s.count ≡ 0 → s.held < most_held → v ≡ put_header w s.out 21 0 → r ≡ kept s → Begins w s v r empty empty_next
   empty_keeps v r n fits q₁ q₂ =
       keep_begins 21 empty empty empty_next stands_empty three_empty one_empty fits (omega (arith, n)) (gives_back empty one_empty no_goal (none_at w s.start s.count n) fits) v r q₁ q₂
+
+  pub empty_ends : s.count ≡ 0 → (v : List ℕ) (r : State) → Keeps w s 21 v r → Begins w s v r empty empty_next
+  empty_ends n = keeps (λ v r. Begins w s v r empty empty_next) 21 (λ r h q. empty_exceeds r n h q) (λ v r h q₁ q₂. empty_keeps v r n h q₁ q₂)
 
   abbrev Asserts : ℕ → List ℕ → State → Type 0
   Asserts value v r = (T : Table) (γ : Goal) → value ≡ γ.0 → Begins w s v r (assert γ) (assert_next T γ)
@@ -225,14 +243,17 @@ module _ (w : List ℕ) (s : State) (room : Room w s) where
       λ T γ e. fail_begins (assert γ) (assert_next T γ)
       (λ π g k h. by_none w s.start s.count (assert_gives T γ) (λ o. done (finished (held k) id o) k) g h.are (assert_not_at w s.start T γ s.count (λ i. n (i ∙ sym e)))) r q
 
-  pub assert_exceeds : (value : ℕ) (r : State) → s.count ≡ 1 → word w s.start ≡ value → most_held ≤ s.held → r ≡ exceeded s → Asserts value w r
+  assert_exceeds : (value : ℕ) (r : State) → s.count ≡ 1 → word w s.start ≡ value → most_held ≤ s.held → r ≡ exceeded s → Asserts value w r
   assert_exceeds value r n i full q =
       λ T γ e. exceed_begins (assert γ) (assert_next T γ) (gives_much id one_id (assert_gives T γ) (assert_at w s.start T γ s.count n (i ∙ e)) full) r q
 
-  pub assert_end : (value : ℕ) (v : List ℕ) (r : State) → s.count ≡ 1 → word w s.start ≡ value → s.held < most_held → v ≡ put_header w s.out 17 0 → r ≡ kept s → Asserts value v r
+  assert_end : (value : ℕ) (v : List ℕ) (r : State) → s.count ≡ 1 → word w s.start ≡ value → s.held < most_held → v ≡ put_header w s.out 17 0 → r ≡ kept s → Asserts value v r
   assert_end value v r n i fits q₁ q₂ =
       λ T γ e. keep_begins 17 id (assert γ) (assert_next T γ) stands_id three_id one_id fits (omega (arith, n))
       (gives_back id one_id (assert_gives T γ) (assert_at w s.start T γ s.count n (i ∙ e)) fits) v r q₁ q₂
+
+  pub assert_ends : (value : ℕ) → s.count ≡ 1 → word w s.start ≡ value → (v : List ℕ) (r : State) → Keeps w s 17 v r → Asserts value v r
+  assert_ends value n i = keeps (λ v r. Asserts value v r) 17 (λ r h q. assert_exceeds value r n i h q) (λ v r h q₁ q₂. assert_end value v r n i h q₁ q₂)
 
   -- a frame laid on the others: what lies before it stays
   module _ (y : List ℕ) (len : length y ≡ length w) (f : Frame) where

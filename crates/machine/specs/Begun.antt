@@ -1,5 +1,5 @@
 -- One term begun: what is next, or how it ended; and the code's states after it.
-use Rattle.std.specs.Prelude.{ℕ, ◌+◌, ◌*◌, ◌-◌, ◌≤◌, ◌<◌, List, ◌∷◌, length}
+use Rattle.std.specs.Prelude.{ℕ, ◌+◌, ◌*◌, ◌-◌, ◌≤◌, ◌<◌, ◌≡◌, List, ◌∷◌, length}
 use Rattle.std.proofs.Math.Option.{Option, none, some}
 use Rattle.format.specs.declared.values.RuleName.{RuleName}
 use Rattle.format.specs.declared.values.Goal.{Goal}
@@ -16,6 +16,7 @@ use Rattle.evaluation.specs.Outcomes.{rule_gives, one_goal, no_goal, assert_give
 use Rattle.evaluation.specs.Machine as M
 use Rattle.evaluation.specs.Machine.{past, labelled, sequence_left, tensor_left, alternation_left, held}
 use Rattle.arities.specs.Layout.{output_end, goals_end, frames_end, space_end}
+use Rattle.tactics.specs.Numbers.{put_header}
 use Rattle.frames.specs.declared.Frame.{Frame}
 use Rattle.machine.specs.declared.state.Mode.{Mode}
 use Rattle.machine.specs.declared.state.Mode.TheVariants as is
@@ -108,6 +109,11 @@ exceeded = lost is.Exceeded
 -- the term gives its goals back and leaves a field of three bytes
 abbrev pub kept : State → State
 kept s = record { mode = is.Proved; file = s.file; at = s.at; start = s.start; count = s.count; top = s.top; arena = s.arena; out = s.out + 3; held = s.held + 1; steps = s.steps + 1 }
+
+-- a field without contents is left, or one more cannot be held
+pub record Keeps (w : List ℕ) (s : State) (tag : ℕ) (v : List ℕ) (r : State) : Type 0 where
+  pub full : most_held ≤ s.held → (v ≡ w) × (r ≡ exceeded s)
+  pub fits : s.held < most_held → (v ≡ put_header w s.out tag 0) × (r ≡ kept s)
 
 -- the inner term is next: so many bytes on in the file, on the first of the goals; the hiproof's new end
 abbrev pub entered : State → (on count out : ℕ) → State

@@ -12,7 +12,7 @@ ghost use Rattle.tables.specs.Tables.{Table};
 ghost use Rattle.tables.specs.Standing.{TableStands};
 ghost use Rattle.arities.specs.Arities.{arity_code};
 ghost use Rattle.tactics.specs.Numbers.{put_header};
-ghost use Rattle.machine.specs.Begun.{Room, Ready, Begins, BeginsIn, id_next, empty_next, assert_next, sequence_next, alternation_next, label_next, tensor_next, atomic_next, rule_next, defined_next, lost, kept, entered, frame_of};
+ghost use Rattle.machine.specs.Begun.{Room, Ready, Begins, Keeps, BeginsIn, id_next, empty_next, assert_next, sequence_next, alternation_next, label_next, tensor_next, atomic_next, rule_next, defined_next, lost, entered, frame_of};
 ghost use Rattle.machine.specs.Step.{Given, BeginsAny, BeginsPair, Grown, PairStands};
 
 use crate::state::{MOST_HELD, Mode, State};
@@ -40,12 +40,14 @@ impl State {
         }
     }
 
-    // The term gives its goals back and leaves a field without contents.
+    // The term gives its goals back and leaves a field without contents, unless one more cannot be held.
     fn keep(self, tag: u8, work: &mut [u8]) -> State
-        requires { Room work.old self × (self.held < most_held) }
-        ensures written { work.new ≡ put_header work.old self.out tag 0 }
-        ensures kept { result ≡ kept self }
+        requires { Room work.old self }
+        ensures { Keeps work.old self tag work.new result }
     {
+        if MOST_HELD <= self.held {
+            return self.lose(Mode::Exceeded);
+        }
         put_header(work, self.out, tag, 0);
         State {
             mode: Mode::Proved,
@@ -97,9 +99,6 @@ impl State {
         if self.count != 1 {
             return self.lose(Mode::Failed);
         }
-        if MOST_HELD <= self.held {
-            return self.lose(Mode::Exceeded);
-        }
         self.keep(ID, work)
     }
 
@@ -110,9 +109,6 @@ impl State {
     {
         if self.count != 0 {
             return self.lose(Mode::Failed);
-        }
-        if MOST_HELD <= self.held {
-            return self.lose(Mode::Exceeded);
         }
         self.keep(EMPTY, work)
     }
@@ -125,9 +121,6 @@ impl State {
     {
         if self.count != 1 || goal != value_at(work, self.start) {
             return self.lose(Mode::Failed);
-        }
-        if MOST_HELD <= self.held {
-            return self.lose(Mode::Exceeded);
         }
         self.keep(ASSERTED, work)
     }

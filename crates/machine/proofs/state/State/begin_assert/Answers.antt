@@ -3,7 +3,7 @@
 use mathlib.Core.Path.{◌≡◌, sym, ◌∙◌}
 use native.Mathlib.Omega.{arith}
 use Rattle.std.proofs.lemmas.Bool.Decides.{nat_tests}
-use Rattle.machine.proofs.BeginLaws.{assert_many_end, assert_other_end, assert_exceeds, assert_end, keep_grown}
+use Rattle.machine.proofs.BeginLaws.{assert_many_end, assert_other_end, assert_ends, keep_grown}
 use Rattle.machine.proofs.state.State.begin_assert.Goals.{then-self-ne1-via-then-self-ne1, then-self-ne1-via-else-self-ne1+then-ne}
 use Rattle.machine.proofs.state.State.begin_assert.Goals as goal
 
@@ -17,17 +17,11 @@ returns-then-self-ne1-clause-begun c =
           assert_other_end a.work.now a.self c.requires.room a.goal.0 _ (λ e. differ (sym (w.value_at.ensures ∙ e))) c.lose.ensures
     ]
 
-pub returns-then-self-ge-MOST_HELD-clause-begun : goal.returns-then-self-ge-MOST_HELD-clause-begun
-returns-then-self-ge-MOST_HELD-clause-begun c =
-    let a = c.args in
-    let same : a.goal.0 ≡ c.value_at.result.0 = grind (arith, nat_tests, c.if-ne.false, c.ne.ensures) in
-    assert_exceeds a.work.now a.self c.requires.room a.goal.0 _ c.if-self-ne1.false (sym (same ∙ c.value_at.ensures)) c.if-self-ge-MOST_HELD.true c.lose-then-self-ge-MOST_HELD.ensures
-
 pub returns-clause-begun : goal.returns-clause-begun
 returns-clause-begun c =
     let a = c.args in
     let same : a.goal.0 ≡ c.value_at.result.0 = grind (arith, nat_tests, c.if-ne.false, c.ne.ensures) in
-    assert_end a.work.now a.self c.requires.room a.goal.0 _ _ c.if-self-ne1.false (sym (same ∙ c.value_at.ensures)) (omega (arith, c.if-self-ge-MOST_HELD.false)) c.keep.ensures.written c.keep.ensures.kept
+    assert_ends a.work.now a.self c.requires.room a.goal.0 c.if-self-ne1.false (sym (same ∙ c.value_at.ensures)) _ _ c.keep.ensures
 
 pub returns-clause-grown : goal.returns-clause-grown
-returns-clause-grown c = keep_grown c.args.work.now c.args.self c.requires.room 17 _ _ c.keep.ensures.written c.keep.ensures.kept
+returns-clause-grown c = keep_grown c.args.work.now c.args.self c.requires.room 17 _ _ c.keep.ensures
