@@ -53,9 +53,7 @@ impl State {
         ensures steps { Stepped table.now first (source table.now job.now self.file) work.old self work.new result }
         ensures grown { Grown work.old self work.new result }
     {
-        if self.file == 0 {
-            return self.step_in(table, first, table, work);
-        }
-        self.step_in(table, first, job, work)
+        let src = if self.file == 0 { table } else { job };
+        self.step_in(table, first, src, work)
     }
 }
