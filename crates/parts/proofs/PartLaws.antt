@@ -6,7 +6,7 @@ use Rattle.parts.specs.declared.state.Mode.{Mode}
 use Rattle.parts.specs.declared.state.Mode.TheVariants.{Refused, Reads, Gave}
 use Rattle.parts.specs.declared.state.Part.{Part}
 use Rattle.parts.specs.declared.state.Part.TheVariants.{Roots, Entries, Fields, JobGoals, ProofGoals, Remaining, Body, JobTerm, ProofTerm}
-use Rattle.parts.specs.States.{by_mode, by_part, is_term, is_list}
+use Rattle.parts.specs.States.{by_part, is_term, is_list}
 
 pub list_chosen : {A : Type 0} (p : Part) (e f l t : A) → is_list p ≡ true → by_part p e f l t ≡ l
 list_chosen Roots e f l t h = refl

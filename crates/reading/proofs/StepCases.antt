@@ -1,6 +1,6 @@
 -- The cases of a turn, as the laws of each kind of file take them: a field outside terms, or within a term a turn that goes on, stops or ends the term.
 -- Assumes nothing.
-use mathlib.Core.Path.{◌≡◌, refl, sym, subst, ◌∙◌}
+use mathlib.Core.Path.{◌≡◌, refl, sym, ◌∙◌}
 use mathlib.Core.Bool.{true, false}
 use mathlib.Core.List.{List}
 use Prim.Native.Nat.{ℕ, ◌≤◌}

@@ -8,7 +8,7 @@ use Prim.Native.Nat.{ℕ, ◌+◌, ◌*◌, ◌-◌, ◌/◌, ◌≤◌, ◌<◌
 use native.Mathlib.Omega.{arith}
 use lib.Dec.{eqb, leb, ltb}
 use lib.ListN.{length}
-use borrow.Author.Tests.{eqb-true, leb-false, eq-eqb, ne_eqb}
+use borrow.Author.Tests.{leb-false}
 use Rattle.words.proofs.KeptLaws.{kept_same}
 use Rattle.std.specs.Prelude.{Ok, Err}
 use Rattle.std.specs.Prelude as std
@@ -25,7 +25,7 @@ use Rattle.parts.specs.declared.state.Part.{Part}
 use Rattle.parts.specs.declared.state.Part.TheVariants as P
 use Rattle.parts.specs.declared.state.State.{State}
 use Rattle.parts.specs.States.{by_mode, by_part, is_term, is_list, low_of, high_of, full_of, refusing, asking, counted, next_of, next_field, next_entry, table_field, entry_taken, remaining_taken, behind_list, list_taken, taken, end_of, behind_body, behind_job, behind_hiproof, behind_part, behind_term}
-use Rattle.parts.proofs.PartLaws.{list_chosen, list_outside}
+use Rattle.parts.proofs.PartLaws.{list_outside}
 use Rattle.parts.specs.Reader.{Encloses}
 use Rattle.parts.proofs.ReaderLaws.{encloses}
 use Rattle.parts.proofs.AskLaws.{asks_field, asks_term}

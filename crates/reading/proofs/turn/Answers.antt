@@ -1,6 +1,6 @@
 -- `reading::turn` meets its contract: the part says whether it is a field outside terms or a turn within one.
 -- Assumes nothing.
-use mathlib.Core.Path.{◌≡◌, sym, ◌∙◌}
+use mathlib.Core.Path.{◌≡◌}
 use mathlib.Core.Bool.{true, false}
 use Rattle.std.proofs.Common.{rules}
 use Rattle.parts.specs.declared.state.Mode.TheVariants.{Gave}
