@@ -12,10 +12,7 @@ use words::load16;
 fn notes_of(file: u16) -> usize
     ensures { result ≡ notes_of file }
 {
-    if file == 0 {
-        return TABLE_NOTES;
-    }
-    JOB_NOTES
+    if file == 0 { TABLE_NOTES } else { JOB_NOTES }
 }
 
 // The noted arity of the left term of a tensor whose right term stands at a place: with one added, and 0 for none.

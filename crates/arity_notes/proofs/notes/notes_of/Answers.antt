@@ -7,5 +7,5 @@ use Rattle.arity_notes.proofs.notes.notes_of.Goals as goal
 pub returns-then-file-eq0 : goal.returns-then-file-eq0
 returns-then-file-eq0 c = sym (notes_table _ c.if-file-eq0.true)
 
-pub returns : goal.returns
-returns c = sym (notes_job _ c.if-file-eq0.false)
+pub returns-else-file-eq0 : goal.returns-else-file-eq0
+returns-else-file-eq0 c = sym (notes_job _ c.if-file-eq0.false)
