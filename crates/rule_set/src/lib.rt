@@ -1,5 +1,6 @@
 // The set of the rule numbers met so far, in a part of the lent work space: one bit for each rule that document 01 lets in, and behind them the count of the bits set. The count is kept as bits are set, so that to ask for it costs one read.
 // Document 02, P6: "the count of different rules used".
+// A set is named by the work space and the place where it begins, and not by a struct that holds a slice: other parts of that space are written between two uses, and contracts speak of the whole space, so that such a struct would be no plainer.
 #![tactic(auto)]
 
 pub mod layout;

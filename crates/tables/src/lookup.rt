@@ -30,6 +30,7 @@ pub fn find_rule(table: &[u8], first: usize, name: RuleName, goal: Goal) -> Opti
 {
     let mut at: usize = 0;
     let mut number: usize = 0;
+    // A turn goes on by the length of its rule: no count of places, so no `for`.
     while at < first {
         let len = load16(table, at + 1) as usize;
         if carries(table, at, name, goal) {
@@ -51,6 +52,7 @@ pub fn find_body(table: &[u8], first: usize, tactic: TacticNo) -> Option<usize>
     ensures { FindsBody table.now first tactic result }
 {
     let mut at = first;
+    // A turn goes on by the length of its definition: no count, so no `for`.
     while at < table.len() {
         if tactic == value_at(table, at + 3) {
             return Some(at + 5);

@@ -12,6 +12,17 @@ use Rattle.index.proofs.TurnLaws.{turn_first, header, own, room_left, turn_clash
 use Rattle.index.proofs.BuildLaws.{tree_empty, built}
 use Rattle.index.proofs.tree.first_clash.Invariants.{T}
 use Rattle.index.proofs.tree.first_clash.Goals as goal
+use Rattle.index.proofs.tree.first_clash.Goals.{In-loop-at}
+
+-- the turn at a place before the end, its header, and the room for its node
+turn : (c : In-loop-at) → T c.args.kind c.args.s.now c.loop-at.w c.requires.0.0 c.args.base c.args.to c.loop-at.at c.loop-at.count
+turn c = let p = c.requires.0 in c.loop-at.invariant.2 p.0 p.1 p.2
+
+here : (c : In-loop-at) → Room c.args.s.now c.loop-at.at × (c.loop-at.at + step_at c.args.kind c.args.s.now c.loop-at.at ≤ c.args.to)
+here c = header _ _ _ _ _ _ _ (turn c) c.loop-at-test.true
+
+more : (c : In-loop-at) → c.loop-at.count < length c.requires.0.0
+more c = omega (arith, room_left _ _ _ _ _ _ _ (turn c) c.loop-at-test.true, (turn c).has.many)
 
 pub clear_part-requires : goal.clear_part-requires
 clear_part-requires c = omega (arith, c.requires.0.4)
@@ -21,43 +32,31 @@ loop-at-init c = (refl, kept_same _ _ _, λ ps h e. turn_first _ _ _ _ ps _ _ h 
 
 pub enter-requires : goal.enter-requires
 enter-requires c =
-    let turn : T c.args.kind c.args.s.now c.loop-at.w c.requires.0.0 c.args.base c.args.to c.loop-at.at c.loop-at.count = let p = c.requires.0 in c.loop-at.invariant.2 p.0 p.1 p.2 in
-    let here : Room c.args.s.now c.loop-at.at × (c.loop-at.at + step_at c.args.kind c.args.s.now c.loop-at.at ≤ c.args.to) = header _ _ _ _ _ _ _ turn c.loop-at-test.true in
-    let more : c.loop-at.count < length c.requires.0.0 = omega (arith, room_left _ _ _ _ _ _ _ turn c.loop-at-test.true, turn.has.many) in
+    let inside = (goal.at.enter-requires c).In-loop-at in
     let p = c.requires in
-    let n = more in
-    record { by_index = (turn.seen, turn.has); tagged = (own _ _ _ _ _ _ _ turn c.loop-at-test.true, here.0, p.1, p.2, omega (arith, n, p.0.3), omega (arith, n, p.0.4, c.clear_part.auto.s, c.loop-at.invariant.0)) }
+    let n = more inside in
+    record { by_index = ((turn inside).seen, (turn inside).has); tagged = (own _ _ _ _ _ _ _ (turn inside) c.loop-at-test.true, (here inside).0, p.1, p.2, omega (arith, n, p.0.3), omega (arith, n, p.0.4, c.clear_part.auto.s, c.loop-at.invariant.0)) }
 
 pub shape_of-w-then-enter : goal.shape_of-w-then-enter
 shape_of-w-then-enter c = c.enter.auto.w ∙ c.loop-at.invariant.0 ∙ c.clear_part.auto.s
 
 pub returns-then-enter : goal.returns-then-enter
 returns-then-enter c =
-    let turn : T c.args.kind c.args.s.now c.loop-at.w c.requires.0.0 c.args.base c.args.to c.loop-at.at c.loop-at.count = let p = c.requires.0 in c.loop-at.invariant.2 p.0 p.1 p.2 in
-    let more : c.loop-at.count < length c.requires.0.0 = omega (arith, room_left _ _ _ _ _ _ _ turn c.loop-at-test.true, turn.has.many) in
+    let inside = (goal.at.returns-then-enter c).In-loop-at in
     let p = c.requires.0 in
     let e = c.enter.ensures in
     let cleared = c.clear_part.ensures.kept in
-    let kept = kept_both _ _ _ _ _ _ _ c.args.base (c.args.base + heads_room + length p.0 * 5) c.loop-at.invariant.1 e.kept (omega arith) (omega arith) (omega (arith, more)) (omega (arith, more)) in
-    built _ _ _ _ _ _ _ _ p.0 p.1 (turn_clash _ _ _ _ _ _ _ turn c.loop-at-test.true (e.told _ turn.has ∙ c.if-enter.true)) (kept_both _ _ _ _ _ _ _ _ (c.args.base + heads_room + length p.0 * 5) cleared kept (omega arith) (omega arith) (omega arith) (omega arith)) (λ h. absurd (let z : ◌≡◌ {A = ℕ} 0 1 = cc in omega arith))
+    let kept = kept_both _ _ _ _ _ _ _ c.args.base (c.args.base + heads_room + length p.0 * 5) c.loop-at.invariant.1 e.kept (omega arith) (omega arith) (omega (arith, more inside)) (omega (arith, more inside)) in
+    built _ _ _ _ _ _ _ _ p.0 p.1 (turn_clash _ _ _ _ _ _ _ (turn inside) c.loop-at-test.true (e.told _ (turn inside).has ∙ c.if-enter.true)) (kept_both _ _ _ _ _ _ _ _ (c.args.base + heads_room + length p.0 * 5) cleared kept (omega arith) (omega arith) (omega arith) (omega arith)) (λ h. absurd (let z : ◌≡◌ {A = ℕ} 0 1 = cc in omega arith))
 
 pub overflow_add-count : goal.overflow_add-count
-overflow_add-count c =
-    let turn : T c.args.kind c.args.s.now c.loop-at.w c.requires.0.0 c.args.base c.args.to c.loop-at.at c.loop-at.count = let p = c.requires.0 in c.loop-at.invariant.2 p.0 p.1 p.2 in
-    let more : c.loop-at.count < length c.requires.0.0 = omega (arith, room_left _ _ _ _ _ _ _ turn c.loop-at-test.true, turn.has.many) in
-    omega (arith, more, c.requires.0.3)
+overflow_add-count c = omega (arith, more (goal.at.overflow_add-count c).In-loop-at, c.requires.0.3)
 
 pub step-at-requires : goal.step-at-requires
-step-at-requires c =
-    let turn : T c.args.kind c.args.s.now c.loop-at.w c.requires.0.0 c.args.base c.args.to c.loop-at.at c.loop-at.count = let p = c.requires.0 in c.loop-at.invariant.2 p.0 p.1 p.2 in
-    let here : Room c.args.s.now c.loop-at.at × (c.loop-at.at + step_at c.args.kind c.args.s.now c.loop-at.at ≤ c.args.to) = header _ _ _ _ _ _ _ turn c.loop-at-test.true in
-    here.0
+step-at-requires c = (here (goal.at.step-at-requires c).In-loop-at).0
 
 pub overflow_add-at : goal.overflow_add-at
-overflow_add-at c =
-    let turn : T c.args.kind c.args.s.now c.loop-at.w c.requires.0.0 c.args.base c.args.to c.loop-at.at c.loop-at.count = let p = c.requires.0 in c.loop-at.invariant.2 p.0 p.1 p.2 in
-    let here : Room c.args.s.now c.loop-at.at × (c.loop-at.at + step_at c.args.kind c.args.s.now c.loop-at.at ≤ c.args.to) = header _ _ _ _ _ _ _ turn c.loop-at-test.true in
-    omega (arith, here.1, c.step-at.ensures)
+overflow_add-at c = omega (arith, (here (goal.at.overflow_add-at c).In-loop-at).1, c.step-at.ensures)
 
 pub loop-at-smaller : goal.loop-at-smaller
 loop-at-smaller c = omega (arith, c.loop-at-test.true, c.step-at.ensures, step_positive c.args.kind c.args.s.now c.loop-at.at)

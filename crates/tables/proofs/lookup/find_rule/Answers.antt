@@ -6,41 +6,35 @@ use Rattle.tables.specs.Lookup.{find_rule}
 use Rattle.tables.specs.Found.{rule_found, FoundInside}
 use Rattle.tables.proofs.LookupLaws.{RuleBounds, rule_bounds, no_rule, this_rule, next_rule}
 use Rattle.tables.proofs.lookup.find_rule.Goals as goal
+use Rattle.tables.proofs.lookup.find_rule.Goals.{In-loop-at}
+
+-- the field of the rule at the place
+here : (c : In-loop-at) → RuleBounds c.args.table.now c.loop-at.at c.args.first
+here c = let i = c.loop-at.invariant.0 c.requires.0 c.requires.1 in rule_bounds _ i.0 _ _ i.1 c.loop-at-test.true
 
 pub loop-at-init : goal.loop-at-init
 unfolding find_rule
 loop-at-init c = (λ T st. (T.rules, st.rules_stand, refl), omega arith)
 
 pub overflow_add-at : goal.overflow_add-at
-overflow_add-at c =
-    let here : RuleBounds c.args.table.now c.loop-at.at c.args.first = let i = c.loop-at.invariant.0 c.requires.0 c.requires.1 in rule_bounds _ i.0 _ _ i.1 c.loop-at-test.true in
-    omega (arith, here)
+overflow_add-at c = omega (arith, here (goal.at.overflow_add-at c).In-loop-at)
 
 pub load16-len-requires : goal.load16-len-requires
-load16-len-requires c =
-    let here : RuleBounds c.args.table.now c.loop-at.at c.args.first = let i = c.loop-at.invariant.0 c.requires.0 c.requires.1 in rule_bounds _ i.0 _ _ i.1 c.loop-at-test.true in
-    omega (arith, here)
+load16-len-requires c = omega (arith, here (goal.at.load16-len-requires c).In-loop-at)
 
 pub carries-requires : goal.carries-requires
-carries-requires c =
-    let here : RuleBounds c.args.table.now c.loop-at.at c.args.first = let i = c.loop-at.invariant.0 c.requires.0 c.requires.1 in rule_bounds _ i.0 _ _ i.1 c.loop-at-test.true in
-    here.seven
+carries-requires c = (here (goal.at.carries-requires c).In-loop-at).seven
 
 pub overflow_add-result : goal.overflow_add-result
-overflow_add-result c =
-    let here : RuleBounds c.args.table.now c.loop-at.at c.args.first = let i = c.loop-at.invariant.0 c.requires.0 c.requires.1 in rule_bounds _ i.0 _ _ i.1 c.loop-at-test.true in
-    omega (arith, here)
+overflow_add-result c = omega (arith, here (goal.at.overflow_add-result c).In-loop-at)
 
 pub overflow_sub-result : goal.overflow_sub-result
-overflow_sub-result c =
-    let here : RuleBounds c.args.table.now c.loop-at.at c.args.first = let i = c.loop-at.invariant.0 c.requires.0 c.requires.1 in rule_bounds _ i.0 _ _ i.1 c.loop-at-test.true in
-    omega (arith, here, c.load16-len.ensures)
+overflow_sub-result c = omega (arith, here (goal.at.overflow_sub-result c).In-loop-at, c.load16-len.ensures)
 
 pub returns-then-carries : goal.returns-then-carries
 unfolding rule_found FoundInside
 returns-then-carries c =
-    let here : RuleBounds c.args.table.now c.loop-at.at c.args.first = let i = c.loop-at.invariant.0 c.requires.0 c.requires.1 in rule_bounds _ i.0 _ _ i.1 c.loop-at-test.true in
-    let b = here in
+    let b = here (goal.at.returns-then-carries c).In-loop-at in
     let len = c.load16-len.ensures in
     record {
       found = λ T st.
@@ -50,19 +44,13 @@ returns-then-carries c =
     }
 
 pub overflow_add-at-in-loop-at : goal.overflow_add-at-in-loop-at
-overflow_add-at-in-loop-at c =
-    let here : RuleBounds c.args.table.now c.loop-at.at c.args.first = let i = c.loop-at.invariant.0 c.requires.0 c.requires.1 in rule_bounds _ i.0 _ _ i.1 c.loop-at-test.true in
-    omega (arith, here, c.load16-len.ensures)
+overflow_add-at-in-loop-at c = omega (arith, here (goal.at.overflow_add-at-in-loop-at c).In-loop-at, c.load16-len.ensures)
 
 pub overflow_add-at-in-loop-at-2 : goal.overflow_add-at-in-loop-at-2
-overflow_add-at-in-loop-at-2 c =
-    let here : RuleBounds c.args.table.now c.loop-at.at c.args.first = let i = c.loop-at.invariant.0 c.requires.0 c.requires.1 in rule_bounds _ i.0 _ _ i.1 c.loop-at-test.true in
-    omega (arith, here, c.load16-len.ensures)
+overflow_add-at-in-loop-at-2 c = omega (arith, here (goal.at.overflow_add-at-in-loop-at-2 c).In-loop-at, c.load16-len.ensures)
 
 pub overflow_add-number : goal.overflow_add-number
-overflow_add-number c =
-    let here : RuleBounds c.args.table.now c.loop-at.at c.args.first = let i = c.loop-at.invariant.0 c.requires.0 c.requires.1 in rule_bounds _ i.0 _ _ i.1 c.loop-at-test.true in
-    omega (arith, here, c.loop-at.invariant.1)
+overflow_add-number c = omega (arith, here (goal.at.overflow_add-number c).In-loop-at, c.loop-at.invariant.1)
 
 pub loop-at-smaller : goal.loop-at-smaller
 loop-at-smaller c = omega (arith, c.loop-at-test.true)
