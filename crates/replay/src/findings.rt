@@ -1,149 +1,66 @@
 // How the files of a case read, compared with what its answer tells of them.
 use crate::records::{CHECK_FLAT, READ_TEXT, RUN, SEARCH, WRITE_PROOF, WRITE_TEXT};
 use crate::tally::{Verdict, compared};
-use answers::Answer;
-use files::flats::{FlatRead, read_flat};
-use files::jobs::{JobRead, read_job};
-use files::proofs::{ProofRead, empty_proof, or_empty_proof, read_proof_fields};
-use files::terms::{TermFileRead, read_term_file};
-use tables::fields::TableRead;
+use answers::{Answer, File};
+use files::flats::read_flat;
+use files::jobs::read_job;
+use files::proofs::{empty_proof, or_empty_proof, read_proof_fields};
+use files::terms::read_term_file;
+use format::refusals::Refusal;
 use whole_table::layout::READING_SCRATCH;
 use whole_table::read_table;
 
 // More than the reading of any file takes.
 const SPACE: usize = 65536;
 
-// How a file reads: the refusal's number and place, or 0 and 0.
-#[derive(Clone, Copy)]
-struct Finding {
-    number: u8,
-    place: usize,
+// What refuses a table.
+fn table_refusal(s: &[u8], space: &mut [u8; SPACE]) -> Option<Refusal> {
+    read_table(s, space, 0, READING_SCRATCH).err()
 }
 
-fn table_finding(s: &[u8], space: &mut [u8; SPACE]) -> Finding {
-    let read = read_table(s, space, 0, READING_SCRATCH);
-    match read {
-        TableRead::Refused(number, place) => Finding { number, place },
-        TableRead::Read(_, _, _) => Finding {
-            number: 0,
-            place: 0,
-        },
+// What refuses the other file, read as the entry reads it.
+fn other_refusal(entry: u8, s: &[u8], space: &mut [u8; SPACE]) -> Option<Refusal> {
+    match entry {
+        RUN | SEARCH => read_job(s, space, 0).err(),
+        CHECK_FLAT | WRITE_PROOF => read_flat(s, space, 0).err(),
+        WRITE_TEXT => read_term_file(s, space, 0).err(),
+        _ => {
+            let empty = empty_proof();
+            read_proof_fields(or_empty_proof(s, &empty), space, 0).err()
+        }
     }
-}
-
-fn proof_finding(s: &[u8], space: &mut [u8; SPACE]) -> Finding {
-    let empty = empty_proof();
-    let file = or_empty_proof(s, &empty);
-    let read = read_proof_fields(file, space, 0);
-    match read {
-        ProofRead::Refused(number, place) => Finding { number, place },
-        ProofRead::Read(_) => Finding {
-            number: 0,
-            place: 0,
-        },
-    }
-}
-
-fn job_finding(s: &[u8], space: &mut [u8; SPACE]) -> Finding {
-    let read = read_job(s, space, 0);
-    match read {
-        JobRead::Refused(number, place) => Finding { number, place },
-        JobRead::Read(_) => Finding {
-            number: 0,
-            place: 0,
-        },
-    }
-}
-
-fn flat_finding(s: &[u8], space: &mut [u8; SPACE]) -> Finding {
-    let read = read_flat(s, space, 0);
-    match read {
-        FlatRead::Refused(number, place) => Finding { number, place },
-        FlatRead::Read(_) => Finding {
-            number: 0,
-            place: 0,
-        },
-    }
-}
-
-fn term_finding(s: &[u8], space: &mut [u8; SPACE]) -> Finding {
-    let read = read_term_file(s, space, 0);
-    match read {
-        TermFileRead::Refused(number, place) => Finding { number, place },
-        TermFileRead::Read => Finding {
-            number: 0,
-            place: 0,
-        },
-    }
-}
-
-// The other file, read as the entry reads it.
-fn other_finding(entry: u8, s: &[u8], space: &mut [u8; SPACE]) -> Finding {
-    if entry == RUN {
-        return job_finding(s, space);
-    }
-    if entry == SEARCH {
-        return job_finding(s, space);
-    }
-    if entry == CHECK_FLAT {
-        return flat_finding(s, space);
-    }
-    if entry == WRITE_PROOF {
-        return flat_finding(s, space);
-    }
-    if entry == WRITE_TEXT {
-        return term_finding(s, space);
-    }
-    proof_finding(s, space)
 }
 
 // Whether the answer is a reader's refusal of this file; last is the reader's last number.
-fn refuses(told: Answer, file: u32, last: u32) -> bool {
-    if told.file != file {
-        return false;
-    }
-    if told.number == 0 {
-        return false;
-    }
-    told.number <= last
+fn refuses(told: Answer, file: File, last: u32) -> bool {
+    told.file == u32::from(file.number()) && told.number != 0 && told.number <= last
 }
 
 // Whether a file reads as told: it is refused as the answer says, or not at all.
-fn reads_as_told(found: Finding, refused: bool, told: Answer) -> bool {
-    if refused {
-        if found.number as u32 != told.number {
-            return false;
+fn reads_as_told(found: Option<Refusal>, refused: bool, told: Answer) -> bool {
+    match found {
+        Some(e) => {
+            refused
+                && u32::from(e.cause.number()) == told.number
+                && e.place as u64 == u64::from(told.place)
         }
-        return found.place as u64 == told.place as u64;
+        None => !refused,
     }
-    found.number == 0
 }
 
 // The reading of a case. After 29, 25 and 42 the answer tells nothing of the files; a refused table tells nothing of the other file; a text is no file of fields.
 pub fn replay_reading(entry: u8, table: &[u8], other: &[u8], told: Answer) -> Verdict {
-    if told.number == 29 {
+    if entry == READ_TEXT || matches!(told.number, 25 | 29 | 42) {
         return Verdict::Untold;
     }
-    if told.number == 25 {
-        return Verdict::Untold;
-    }
-    if told.number == 42 {
-        return Verdict::Untold;
-    }
-    if entry == READ_TEXT {
-        return Verdict::Untold;
-    }
-    let table_refused = refuses(told, 1, 9);
+    let refused = refuses(told, File::Table, 9);
     let mut space = [0u8; SPACE];
-    let table_found = table_finding(table, &mut space);
-    let table_same = reads_as_told(table_found, table_refused, told);
-    if !table_same {
+    if !reads_as_told(table_refusal(table, &mut space), refused, told) {
         return Verdict::Different;
     }
-    if table_refused {
+    if refused {
         return Verdict::Same;
     }
-    let other_refused = refuses(told, 2, 5);
-    let other_found = other_finding(entry, other, &mut space);
-    compared(reads_as_told(other_found, other_refused, told))
+    let found = other_refusal(entry, other, &mut space);
+    compared(reads_as_told(found, refuses(told, File::Other, 5), told))
 }

@@ -13,6 +13,7 @@ pub mod tally;
 
 use std::fs::File;
 use std::io::{Print, Read};
+use std::rt::Files;
 use steps::replay;
 use tally::Tally;
 
@@ -26,19 +27,16 @@ const SPACE: usize = 73728;
 const WORK: usize = 2768896;
 
 // One read, behind the bytes read so far: how many bytes came; none where it fails.
-fn read_more(file: &mut File, buf: &mut [u8], from: usize) -> usize
+fn read_more(file: &mut impl Read, buf: &mut [u8], from: usize) -> usize
     requires { from ≤ length buf.old }
     ensures { from + result ≤ length buf.old }
 {
     let rest = &mut buf[from..];
-    match file.read(rest) {
-        Err(_) => 0,
-        Ok(count) => count,
-    }
+    file.read(rest).unwrap_or(0)
 }
 
 // Reads until buf is full, the file ends or a read fails.
-fn read_full(file: &mut File, buf: &mut [u8]) -> usize
+fn read_full(file: &mut impl Read, buf: &mut [u8]) -> usize
     ensures { IsPrefixLen result buf.new }
 {
     let mut count: usize = 0;
@@ -53,50 +51,37 @@ fn read_full(file: &mut File, buf: &mut [u8]) -> usize
 }
 
 // The file's bytes at the start of buf, and how many; none where it cannot be opened.
-fn load(rt: &HostRuntime, path: &str, buf: &mut [u8]) -> usize
+fn load(rt: &impl Files, path: &str, buf: &mut [u8]) -> usize
     ensures { IsPrefixLen result buf.new }
 {
     match File::open(rt, path) {
-        Err(_) => 0,
         Ok(mut file) => read_full(&mut file, buf),
+        Err(_) => 0,
     }
 }
 
-// Text on the standard output. What cannot be written is let go, as the counts go on.
-pub fn print(rt: &HostRuntime, text: &[u8]) {
-    match rt.write_all(text) {
-        Err(_) => {}
-        Ok(()) => {}
-    }
-}
-
-// A number in base ten on the standard output.
-pub fn print_decimal(rt: &HostRuntime, n: u64) {
-    let mut digits = [0u8; 20];
-    let count = io::decimal(n, &mut digits);
-    print(rt, &digits[..count]);
-}
-
-// A word with its count.
-fn print_count(rt: &HostRuntime, word: &[u8], count: u64) {
-    print(rt, word);
-    print_decimal(rt, count);
+// Bytes on the standard output. What cannot be written is let go, as the counts go on.
+pub fn print(rt: &impl Print, text: &[u8]) {
+    let _ = rt.write_all(text);
 }
 
 // The line of a vector file.
-fn print_tally(rt: &HostRuntime, name: &str, tally: Tally) {
-    print(rt, name.as_bytes());
-    print_count(rt, b" cases ", tally.cases);
-    print_count(rt, b" reading ", tally.reading);
-    print_count(rt, b" calls ", tally.calls);
-    print_count(rt, b" skipped ", tally.skipped);
-    print_count(rt, b" differences ", tally.differences);
-    print(rt, b"\n");
+fn print_tally(rt: &impl Print, name: &str, tally: Tally) {
+    let Tally {
+        cases,
+        reading,
+        calls,
+        skipped,
+        differences,
+    } = tally;
+    let _ = println!(rt;
+        "{name} cases {cases} reading {reading} calls {calls} skipped {skipped} differences {differences}"
+    );
 }
 
 // Replays a vector file of the current directory, prints its line, and gives the differences. A file that cannot be opened is damaged.
 fn replay_in(
-    rt: &HostRuntime,
+    rt: &(impl Files + Print),
     name: &str,
     vectors: &mut [u8],
     table: &mut [u8],
@@ -113,7 +98,7 @@ fn replay_in(
 
 // The same in arrays, which come by reference so that their lengths are known from their types: the prover could hardly count so many bytes.
 fn replay_in_arrays(
-    rt: &HostRuntime,
+    rt: &(impl Files + Print),
     name: &str,
     vectors: &mut [u8; VECTORS],
     table: &mut [u8; SPACE],
@@ -126,7 +111,7 @@ fn replay_in_arrays(
 }
 
 // The same in arrays of its own.
-fn replay_file(rt: &HostRuntime, name: &str) -> u64
+fn replay_file(rt: &(impl Files + Print), name: &str) -> u64
     ensures { result ≤ 1000001 }
 {
     let mut vectors = [0u8; VECTORS];
@@ -136,24 +121,31 @@ fn replay_file(rt: &HostRuntime, name: &str) -> u64
     replay_in_arrays(rt, name, &mut vectors, &mut table, &mut other, &mut work)
 }
 
+// The vector files of the fixed set.
+const FILES: [&str; 16] = [
+    "read-table.vec",
+    "read-proof.vec",
+    "read-job.vec",
+    "read-flat.vec",
+    "check.vec",
+    "flatten.vec",
+    "check-flat.vec",
+    "write-proof.vec",
+    "run.vec",
+    "read-text.vec",
+    "write-text.vec",
+    "search.vec",
+    "reasons.vec",
+    "no-bytes.vec",
+    "rules.vec",
+    "longer.vec",
+];
+
 // The whole program.
-pub fn run(rt: &HostRuntime) {
-    let mut differences = replay_file(rt, "read-table.vec");
-    differences += replay_file(rt, "read-proof.vec");
-    differences += replay_file(rt, "read-job.vec");
-    differences += replay_file(rt, "read-flat.vec");
-    differences += replay_file(rt, "check.vec");
-    differences += replay_file(rt, "flatten.vec");
-    differences += replay_file(rt, "check-flat.vec");
-    differences += replay_file(rt, "write-proof.vec");
-    differences += replay_file(rt, "run.vec");
-    differences += replay_file(rt, "read-text.vec");
-    differences += replay_file(rt, "write-text.vec");
-    differences += replay_file(rt, "search.vec");
-    differences += replay_file(rt, "reasons.vec");
-    differences += replay_file(rt, "no-bytes.vec");
-    differences += replay_file(rt, "rules.vec");
-    differences += replay_file(rt, "longer.vec");
-    print_count(rt, b"all differences ", differences);
-    print(rt, b"\n");
+pub fn run(rt: &(impl Files + Print)) {
+    let mut differences = 0;
+    for name in FILES {
+        differences += replay_file(rt, name);
+    }
+    let _ = println!(rt; "all differences {differences}");
 }

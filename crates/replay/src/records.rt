@@ -1,5 +1,5 @@
 // The records of a vector file (docs/VECTORS.md). Nothing is believed: every length is compared with what is left.
-ghost use Rattle.std.specs.Prelude.{◌≡◌, ◌+◌, ◌*◌, ◌≤◌, ◌<◌, length};
+ghost use Rattle.std.specs.Prelude.{◌≡◌, ◌+◌, ◌*◌, ◌≤◌, ◌<◌, IfSome, length};
 ghost use Rattle.words.specs.Word.{word};
 ghost use Rattle.replay.specs.Bounds.{Inside};
 
@@ -24,7 +24,7 @@ pub const CASE: u8 = 3;
 // The length of a case record up to the height, which only a case of search has, in four bytes.
 pub const CASE_BYTES: usize = 66;
 
-// The entries.
+// The entries. They are numbers, as a case tells them: case_bytes, load_case and findings::replay_reading take any byte.
 pub const CHECK: u8 = 1;
 
 pub const RUN: u8 = 2;
@@ -53,7 +53,7 @@ pub struct Case {
     pub height: u32,
 }
 
-// What a file record gives: the place behind it and the size of the file. Where the record is damaged, the place is the end of the vector file, so that no end record follows, and the size is 0.
+// What a file record gives: the place behind it and the size of the file.
 #[derive(Clone, Copy)]
 pub struct Expanded {
     pub next: usize,
@@ -61,83 +61,68 @@ pub struct Expanded {
 }
 
 // The number in four bytes, high byte first.
+#[tactic(auto, unfolding(words::specs::Word::word))]
 pub fn load32(s: &[u8], at: usize) -> u32
     requires { at + 3 < length s.now }
     ensures { result ≡ word s.now at * 65536 + word s.now (at + 2) }
 {
-    (load16(s, at) as u32) * 65536 + (load16(s, at + 2) as u32)
+    u32::from_be_bytes([s[at], s[at + 1], s[at + 2], s[at + 3]])
 }
 
 // Whether a header is of this format and version.
 pub fn begins_right(s: &[u8]) -> bool
     requires { 30 ≤ length s.now }
 {
-    let mut i: usize = 0;
-    while i < 10 {
-        if s[i] != MAGIC[i] {
-            return false;
-        }
-        i += 1;
-    }
-    true
+    s.starts_with(&MAGIC)
 }
 
-// One piece of a file record, at a place of the buffer: the place behind the piece, and how far the buffer is filled.
-fn expand_piece(s: &[u8], at: usize, out: &mut [u8], filled: usize) -> Expanded
+// One piece of a file record, at a place of the buffer: the place behind the piece, and how far the buffer is filled; none where the piece is damaged.
+fn expand_piece(s: &[u8], at: usize, out: &mut [u8], filled: usize) -> Option<Expanded>
     requires { (at ≤ length s.now) × (filled ≤ length out.old) }
-    ensures { Inside result at (length s.now) (length out.old) }
+    ensures { IfSome result (λ r. Inside r at (length s.now) (length out.old)) }
 {
-    let end = s.len();
-    if end - at < 7 {
-        return Expanded { next: end, size: 0 };
+    if s.len() - at < 7 {
+        return None;
     }
     let from = at + 6;
     let block = load16(s, at + 4) as usize;
-    if block == 0 {
-        return Expanded { next: end, size: 0 };
-    }
-    if end - from < block {
-        return Expanded { next: end, size: 0 };
+    if block == 0 || s.len() - from < block {
+        return None;
     }
     let mut to = filled;
-    let mut left = load32(s, at);
-    while 0 < left {
+    for _ in 0..load32(s, at) {
         if out.len() - to < block {
-            return Expanded { next: end, size: 0 };
+            return None;
         }
         copy_in(out, to, s, from, block);
         to += block;
-        left -= 1;
     }
-    Expanded {
+    Some(Expanded {
         next: from + block,
         size: to,
-    }
+    })
 }
 
-// The file of a file record, at the beginning of the buffer.
-pub fn expand(s: &[u8], at: usize, out: &mut [u8]) -> Expanded
+// The file of a file record, at the beginning of the buffer; none where the record is damaged.
+pub fn expand(s: &[u8], at: usize, out: &mut [u8]) -> Option<Expanded>
     requires { at < length s.now }
-    ensures { Inside result (at + 1) (length s.now) (length out.old) }
+    ensures { IfSome result (λ r. Inside r (at + 1) (length s.now) (length out.old)) }
 {
-    let end = s.len();
-    if end - at < 7 {
-        return Expanded { next: end, size: 0 };
+    if s.len() - at < 7 {
+        return None;
     }
     let size = load32(s, at + 1) as usize;
-    let mut left = load16(s, at + 5);
-    let mut next = at + 7;
-    let mut filled: usize = 0;
-    while 0 < left {
-        let piece = expand_piece(s, next, out, filled);
-        next = piece.next;
-        filled = piece.size;
-        left -= 1;
+    let mut file = Expanded {
+        next: at + 7,
+        size: 0,
+    };
+    for _ in 0..load16(s, at + 5) {
+        file = expand_piece(s, file.next, out, file.size)?;
     }
-    if filled != size {
-        return Expanded { next: end, size: 0 };
+    if file.size != size {
+        return None;
     }
-    Expanded { next, size: filled }
+    Some(file)
 }
 
 // The twelve numbers of an answer.
@@ -165,9 +150,10 @@ pub fn case_bytes(entry: u8) -> usize
     ensures { (66 ≤ result) × (result ≤ 70) × (entry ≡ 8 → result ≡ 70) }
 {
     if entry == SEARCH {
-        return CASE_BYTES + 4;
+        CASE_BYTES + 4
+    } else {
+        CASE_BYTES
     }
-    CASE_BYTES
 }
 
 // The height that a case of search tells last; 0 in every other.
@@ -175,24 +161,23 @@ fn load_height(s: &[u8], at: usize, entry: u8) -> u32
     requires { entry ≡ 8 → at + 70 ≤ length s.now }
 {
     if entry == SEARCH {
-        return load32(s, at + CASE_BYTES);
+        load32(s, at + CASE_BYTES)
+    } else {
+        0
     }
-    0
 }
 
 // An entry's case record of which all bytes are there.
 pub fn load_case(s: &[u8], at: usize, entry: u8) -> Case
     requires { (at + 66 ≤ length s.now) × (entry ≡ 8 → at + 70 ≤ length s.now) }
 {
-    let told = load_answer(s, at + 14);
-    let height = load_height(s, at, entry);
     Case {
         entry,
         budget: load32(s, at + 2),
         lent: load32(s, at + 6) as usize,
         room: load32(s, at + 10) as usize,
-        told,
+        told: load_answer(s, at + 14),
         digest: load32(s, at + 62),
-        height,
+        height: load_height(s, at, entry),
     }
 }

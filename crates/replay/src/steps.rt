@@ -4,12 +4,13 @@ ghost use Rattle.replay.specs.Bounds.{Below, Placed, Sum};
 
 use crate::calls::replay_call;
 use crate::findings::replay_reading;
+use crate::print;
 use crate::records::{
     CASE, CASE_BYTES, Case, END, HEADER, OTHER, SEARCH, TABLE, begins_right, case_bytes, expand,
     load_case, load32,
 };
-use crate::tally::{Tally, nothing, one_case, sum};
-use crate::{print, print_decimal};
+use crate::tally::Tally;
+use std::io::Print;
 
 // No vector file is longer.
 const LONGEST: usize = 1000000;
@@ -28,24 +29,20 @@ pub struct Progress {
 }
 
 // Names a case that differs, counted from 0 as the second engine does.
-fn print_difference(rt: &HostRuntime, name: &[u8], number: u64) {
+fn print_difference(rt: &impl Print, name: &[u8], number: u64) {
     print(rt, name);
-    print(rt, b" case ");
-    print_decimal(rt, number);
-    print(rt, b" differs\n");
+    let _ = println!(rt; " case {number} differs");
 }
 
 // The counts with one case more, which is named if it differs.
-fn count_case(rt: &HostRuntime, name: &[u8], before: Tally, case: Tally) -> Tally
+fn count_case(rt: &impl Print, name: &[u8], before: Tally, case: Tally) -> Tally
     requires { Below before 1000000 × Below case 1 }
     ensures { Sum before case result }
 {
-    if case.differences != 0 {
-        if before.differences < MOST_NAMED {
-            print_difference(rt, name, before.cases);
-        }
+    if case.differences != 0 && before.differences < MOST_NAMED {
+        print_difference(rt, name, before.cases);
     }
-    sum(before, case)
+    before.sum(case)
 }
 
 // The reading and the call of one case.
@@ -54,7 +51,7 @@ fn replay_case(case: Case, table: &[u8], other: &[u8], work: &mut [u8]) -> Tally
 {
     let reading = replay_reading(case.entry, table, other, case.told);
     let call = replay_call(case, table, other, work);
-    one_case(reading, call)
+    Tally::one_case(reading, call)
 }
 
 // Goes to the end of the vector file. Without an end record there the file counts as damaged.
@@ -62,19 +59,16 @@ fn stopped(s: &[u8], p: Progress, ended: bool) -> Progress
     requires { (p.at ≤ length s.now) × Below p.tally p.at }
     ensures { Placed result (length s.now) (length s.now) p.table p.other }
 {
-    let tally = p.tally;
     Progress {
         at: s.len(),
-        table: p.table,
-        other: p.other,
         ended,
-        tally,
+        ..p
     }
 }
 
 // A case record.
 fn step_case(
-    rt: &HostRuntime,
+    rt: &impl Print,
     name: &[u8],
     s: &[u8],
     table: &[u8],
@@ -91,64 +85,51 @@ fn step_case(
     }
     let entry = s[at + 1];
     let size = case_bytes(entry);
-    if s.len() - at < size {
-        return stopped(s, p, false);
-    }
-    if entry == 0 {
-        return stopped(s, p, false);
-    }
-    if SEARCH < entry {
+    if s.len() - at < size || entry == 0 || SEARCH < entry {
         return stopped(s, p, false);
     }
     let case = load_case(s, at, entry);
-    let t = p.table;
-    let o = p.other;
-    let counted = replay_case(case, &table[..t], &other[..o], work);
-    let tally = count_case(rt, name, p.tally, counted);
+    let counted = replay_case(case, &table[..p.table], &other[..p.other], work);
     Progress {
         at: at + size,
-        table: t,
-        other: o,
-        ended: false,
-        tally,
+        tally: count_case(rt, name, p.tally, counted),
+        ..p
     }
 }
 
 // A table record.
 fn step_table(s: &[u8], table: &mut [u8], p: Progress) -> Progress
-    requires { (p.at < length s.now) × Below p.tally p.at }
+    requires { (p.at < length s.now) × (p.table ≤ length table.old) × Below p.tally p.at }
     ensures { Placed result (p.at + 1) (length s.now) (length table.old) p.other }
 {
-    let file = expand(s, p.at, table);
-    let tally = p.tally;
-    Progress {
-        at: file.next,
-        table: file.size,
-        other: p.other,
-        ended: false,
-        tally,
+    match expand(s, p.at, table) {
+        Some(file) => Progress {
+            at: file.next,
+            table: file.size,
+            ..p
+        },
+        None => stopped(s, p, false),
     }
 }
 
 // A record of the other file.
 fn step_other(s: &[u8], other: &mut [u8], p: Progress) -> Progress
-    requires { (p.at < length s.now) × Below p.tally p.at }
+    requires { (p.at < length s.now) × (p.other ≤ length other.old) × Below p.tally p.at }
     ensures { Placed result (p.at + 1) (length s.now) p.table (length other.old) }
 {
-    let file = expand(s, p.at, other);
-    let tally = p.tally;
-    Progress {
-        at: file.next,
-        table: p.table,
-        other: file.size,
-        ended: false,
-        tally,
+    match expand(s, p.at, other) {
+        Some(file) => Progress {
+            at: file.next,
+            other: file.size,
+            ..p
+        },
+        None => stopped(s, p, false),
     }
 }
 
 // The record at the present place.
 fn step(
-    rt: &HostRuntime,
+    rt: &impl Print,
     name: &[u8],
     s: &[u8],
     table: &mut [u8],
@@ -159,27 +140,18 @@ fn step(
     requires { (p.at < length s.now) × (length s.now ≤ 1000000) × Placed p 0 (length s.now) (length table.old) (length other.old) }
     ensures { Placed result (p.at + 1) (length s.now) (length table.old) (length other.old) }
 {
-    let at = p.at;
-    let kind = s[at];
-    if kind == TABLE {
-        return step_table(s, table, p);
+    match s[p.at] {
+        TABLE => step_table(s, table, p),
+        OTHER => step_other(s, other, p),
+        CASE => step_case(rt, name, s, table, other, work, p),
+        // Nothing follows an end record.
+        kind => stopped(s, p, kind == END && s.len() - p.at == 1),
     }
-    if kind == OTHER {
-        return step_other(s, other, p);
-    }
-    if kind == CASE {
-        return step_case(rt, name, s, table, other, work, p);
-    }
-    // Nothing follows an end record.
-    if kind != END {
-        return stopped(s, p, false);
-    }
-    stopped(s, p, s.len() - at == 1)
 }
 
 // All records behind the header.
 fn replay_records(
-    rt: &HostRuntime,
+    rt: &impl Print,
     name: &[u8],
     s: &[u8],
     table: &mut [u8],
@@ -189,14 +161,14 @@ fn replay_records(
     requires { (30 ≤ length s.now) × (length s.now ≤ 1000000) }
     ensures { Below result.tally (length s.now) }
 {
-    let none = nothing();
     let mut p = Progress {
         at: HEADER,
         table: 0,
         other: 0,
         ended: false,
-        tally: none,
+        tally: Tally::nothing(),
     };
+    // A record ends where its own lengths say, so no count of records is known before.
     while p.at < s.len() {
         p = step(rt, name, s, table, other, work, p);
     }
@@ -204,24 +176,21 @@ fn replay_records(
 }
 
 // The counts with one difference more, for a vector file that is damaged or needs longer buffers.
-fn damaged(rt: &HostRuntime, name: &[u8], tally: Tally) -> Tally
+fn damaged(rt: &impl Print, name: &[u8], tally: Tally) -> Tally
     requires { Below tally 1000000 }
     ensures { Below result 1000001 }
 {
     print(rt, name);
     print(rt, b" is damaged, or gives a file longer than the buffer\n");
     Tally {
-        cases: tally.cases,
-        reading: tally.reading,
-        calls: tally.calls,
-        skipped: tally.skipped,
         differences: tally.differences + 1,
+        ..tally
     }
 }
 
 // A whole vector file. The table and the other file are expanded into the lent buffers; cases lend at most the work space.
 pub fn replay(
-    rt: &HostRuntime,
+    rt: &impl Print,
     name: &[u8],
     s: &[u8],
     table: &mut [u8],
@@ -230,24 +199,13 @@ pub fn replay(
 ) -> Tally
     ensures { Below result 1000001 }
 {
-    if s.len() < HEADER {
-        return damaged(rt, name, nothing());
-    }
-    if LONGEST < s.len() {
-        return damaged(rt, name, nothing());
-    }
-    let right = begins_right(s);
-    if !right {
-        return damaged(rt, name, nothing());
+    if s.len() < HEADER || LONGEST < s.len() || !begins_right(s) {
+        return damaged(rt, name, Tally::nothing());
     }
     let cases = load32(s, 10);
     let p = replay_records(rt, name, s, table, other, work);
-    let tally = p.tally;
-    if !p.ended {
-        return damaged(rt, name, tally);
+    if !p.ended || p.tally.cases != u64::from(cases) {
+        return damaged(rt, name, p.tally);
     }
-    if tally.cases != cases as u64 {
-        return damaged(rt, name, tally);
-    }
-    tally
+    p.tally
 }

@@ -1,12 +1,9 @@
--- `records::expand` meets its contract. The invariant: the next piece begins behind the header of the record, and the buffer is filled within bounds.
+-- `records::expand`: the pieces so far end within the vector file, and what they fill within the buffer.
 -- Assumes nothing.
-use Prim.Native.Nat.{◌+◌, ◌≤◌, ◌<◌}
-use mathlib.Core.Path.{◌≡◌}
+use Prim.Native.Nat.{◌+◌}
 use lib.ListN.{length}
+use Rattle.replay.specs.Bounds.{Inside}
 use Rattle.replay.proofs.records.expand.Given as goal
 
-abbrev pub invariant-loop-left : goal.invariant-loop-left
-invariant-loop-left l = (l.at + 1 ≤ l.next) × (l.next ≤ length l.s) × (l.end ≡ length l.s) × (l.filled ≤ length l.out) × (length l.out ≡ length l.initial.out) × (l.at < length l.s)
-
-abbrev pub decreases-loop-left : goal.decreases-loop-left
-decreases-loop-left l = l.left
+abbrev pub invariant-loop : goal.invariant-loop
+invariant-loop l = Inside l.file (l.at + 1) (length l.s) (length l.out)
