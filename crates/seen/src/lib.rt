@@ -37,9 +37,9 @@ fn mark_seen(w: &mut [u8], base: usize, value: usize, mark: u8)
     let both = w[at];
     if value < SEEN_ROOM {
         w[at] = both + mark;
-        return;
+    } else {
+        w[at] = both + mark * 16;
     }
-    w[at] = both + mark * 16;
 }
 
 // The mark of a field: for 9 it is 1; for 7 it is half the length of the rule, the count of its premises and 2.
@@ -88,6 +88,7 @@ pub fn first_repeat(
 {
     make_ready(s, w, base, from, to, kind);
     let mut at = from;
+    // A turn goes on by the length of its field: no count, so no `for`.
     while at < to {
         if meets(s, w, base, at, kind) {
             return Some(at);

@@ -30,6 +30,7 @@ pub fn make_ready(s: &[u8], w: &mut [u8], base: usize, from: usize, to: usize, k
         return;
     }
     let mut at = from;
+    // A turn goes on by the length of its field: no count, so no `for`.
     while at < to {
         forget(s, w, base, at, kind);
         at += kind.step(s, at);

@@ -16,9 +16,9 @@ pub returns-then-value-lt-SEEN_ROOM : goal.returns-then-value-lt-SEEN_ROOM
 unfolding put_seen
 returns-then-value-lt-SEEN_ROOM c = ap (λ (b : ℕ). set c.args.w.now (c.args.base + c.args.value % seen_room) b) (low-put _ _ _ c.if-value-lt-SEEN_ROOM.true)
 
-pub overflow_add-w-2 : goal.overflow_add-w-2
-overflow_add-w-2 c = omega (arith, c.requires.1, high_room c.args.w.now c.args.base c.args.value c.args.mark c.if-value-lt-SEEN_ROOM.false c.requires.2, c.slice_known-1.given (c.args.base + c.args.value % seen_room))
+pub overflow_add-w-else-value-lt-SEEN_ROOM : goal.overflow_add-w-else-value-lt-SEEN_ROOM
+overflow_add-w-else-value-lt-SEEN_ROOM c = omega (arith, c.requires.1, high_room c.args.w.now c.args.base c.args.value c.args.mark c.if-value-lt-SEEN_ROOM.false c.requires.2, c.slice_known-1.given (c.args.base + c.args.value % seen_room))
 
-pub returns : goal.returns
+pub returns-else-value-lt-SEEN_ROOM : goal.returns-else-value-lt-SEEN_ROOM
 unfolding put_seen
-returns c = ap (λ (b : ℕ). set c.args.w.now (c.args.base + c.args.value % seen_room) b) (high_put _ _ _ c.if-value-lt-SEEN_ROOM.false)
+returns-else-value-lt-SEEN_ROOM c = ap (λ (b : ℕ). set c.args.w.now (c.args.base + c.args.value % seen_room) b) (high_put _ _ _ c.if-value-lt-SEEN_ROOM.false)

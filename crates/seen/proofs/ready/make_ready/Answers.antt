@@ -9,6 +9,11 @@ use Rattle.tables.proofs.SearchLaws.{step_positive}
 use Rattle.tables.proofs.RowLaws.{row_le}
 use Rattle.seen.proofs.ReadyLaws.{ahead_first, ahead_header, ahead_next, ready_blank, ready_last}
 use Rattle.seen.proofs.ready.make_ready.Goals as goal
+use Rattle.seen.proofs.ready.make_ready.Goals.{In-loop-at}
+
+-- the header at a place before the end
+here : (c : In-loop-at) → Room c.args.s.now c.loop-at.at × (c.loop-at.at + step_at c.args.kind c.args.s.now c.loop-at.at ≤ c.args.to)
+here c = let p = c.requires.0 in ahead_header _ _ _ _ _ _ _ (c.loop-at.invariant.2 p.0 p.1) c.loop-at-test.true
 
 pub overflow_sub-to : goal.overflow_sub-to
 overflow_sub-to c = omega (arith, row_le (λ at p. (p ≡ at) × Room c.args.s.now at) (step_at c.args.kind c.args.s.now) c.requires.0.0 c.args.from c.args.to c.requires.0.1)
@@ -27,18 +32,13 @@ loop-at-init c = (refl, kept_same _ _ _, λ ps h. ahead_first _ _ _ _ ps _ _ h)
 
 pub forget-requires : goal.forget-requires
 forget-requires c =
-    let here : Room c.args.s.now c.loop-at.at × (c.loop-at.at + step_at c.args.kind c.args.s.now c.loop-at.at ≤ c.args.to) = let p = c.requires.0 in ahead_header _ _ _ _ _ _ _ (c.loop-at.invariant.2 p.0 p.1) c.loop-at-test.true in
-    (here.0, omega (arith, c.requires.1, c.loop-at.invariant.0))
+    ((here (goal.at.forget-requires c).In-loop-at).0, omega (arith, c.requires.1, c.loop-at.invariant.0))
 
 pub step-at-requires : goal.step-at-requires
-step-at-requires c =
-    let here : Room c.args.s.now c.loop-at.at × (c.loop-at.at + step_at c.args.kind c.args.s.now c.loop-at.at ≤ c.args.to) = let p = c.requires.0 in ahead_header _ _ _ _ _ _ _ (c.loop-at.invariant.2 p.0 p.1) c.loop-at-test.true in
-    here.0
+step-at-requires c = (here (goal.at.step-at-requires c).In-loop-at).0
 
 pub overflow_add-at : goal.overflow_add-at
-overflow_add-at c =
-    let here : Room c.args.s.now c.loop-at.at × (c.loop-at.at + step_at c.args.kind c.args.s.now c.loop-at.at ≤ c.args.to) = let p = c.requires.0 in ahead_header _ _ _ _ _ _ _ (c.loop-at.invariant.2 p.0 p.1) c.loop-at-test.true in
-    omega (arith, here.1, c.step-at.ensures)
+overflow_add-at c = omega (arith, (here (goal.at.overflow_add-at c).In-loop-at).1, c.step-at.ensures)
 
 pub loop-at-smaller : goal.loop-at-smaller
 loop-at-smaller c = omega (arith, c.loop-at-test.true, c.step-at.ensures, step_positive c.args.kind c.args.s.now c.loop-at.at)
