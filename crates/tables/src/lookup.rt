@@ -16,6 +16,7 @@ pub struct RuleFound {
 }
 
 // Whether the rule at a place has that name and that goal.
+#[tactic(auto, unfolding(crate::specs::Found::is_carried))]
 pub fn carries(table: &[u8], at: usize, name: RuleName, goal: Goal) -> bool
     requires { at + 7 ≤ length table.now }
     ensures { result ≡ is_carried table.now at name goal }
