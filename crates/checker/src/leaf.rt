@@ -21,7 +21,7 @@ use rule_set::put;
 use walks::state::{Ended, Next};
 use words::{copy_in, load16, store16};
 
-// An atomic term: one goal, with a rule of that name for it; gives the premises, and the rule is used. The goal is read before the premises may overwrite it.
+// An atomic term: one goal, with a rule of that name for it; gives the premises, and the rule is used. The goal is read before the premises may overwrite it. The table and the place of its first definition are handed on as the look-up takes them, so a struct of both would be no plainer.
 fn take_rule(
     table: &[u8],
     first: usize,

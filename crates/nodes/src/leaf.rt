@@ -50,7 +50,7 @@ fn grow(
     put_range(work, low, next, count);
 }
 
-// An atomic term: one node, with a rule of that name for its goal; gives the premises.
+// An atomic term: one node, with a rule of that name for its goal; gives the premises. The table and the place of its first definition are handed on as the look-up takes them, so a struct of both would be no plainer.
 fn use_rule(
     table: &[u8],
     first: usize,
