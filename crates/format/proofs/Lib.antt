@@ -1,5 +1,4 @@
 pub mod Rows
-pub mod KindLaws
 pub mod ResultLaws
 mod HeaderCases
 pub mod HeaderLaws

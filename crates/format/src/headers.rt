@@ -2,10 +2,9 @@
 ghost use Rattle.std.specs.Prelude.{◌≤◌, ◌≡◌, length};
 ghost use Rattle.format.specs.Headers.{header_at};
 ghost use Rattle.format.specs.Shapes.{header_shape};
-ghost use Rattle.format.specs.Kinds.{kind_number};
 
 use crate::refusals::{Cause, Refusal};
-use crate::tags::{Kind, row_of};
+use crate::tags::row_of;
 use words::load16;
 
 // A field's header: the tag and the length of the contents.
@@ -15,24 +14,25 @@ pub struct Header {
     pub len: usize,
 }
 
-// The header at a place before the end of what encloses it. Kinds from low to high may stand there, and full says that no more fields of its kind may come.
+// The header at a place before the end of what encloses it. Kinds from low to high may stand there, which are numbers, since the contract promises header_at of every number; and full says that no more fields of its kind may come.
 pub fn read_header(
     s: &[u8],
     at: usize,
     end: usize,
-    low: Kind,
-    high: Kind,
+    low: u8,
+    high: u8,
     full: bool,
 ) -> Result<Header, Refusal>
     requires { (at ≤ end) × (end ≤ length s.now) }
-    ensures { result ≡ header_shape (header_at s.now at end (kind_number low) (kind_number high) full) }
+    ensures { result ≡ header_shape (header_at s.now at end low high full) }
 {
     if end < at + 3 {
         return Err(Refusal::new(Cause::FieldTorn, at));
     }
     let tag = s[at];
     let row = row_of(tag);
-    if row.kind < low || high < row.kind {
+    let kind = row.kind.number();
+    if kind < low || high < kind {
         return Err(Refusal::new(Cause::TagNotAllowed, at));
     }
     if full {

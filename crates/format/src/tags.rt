@@ -34,7 +34,7 @@ pub const USE_TAG: u8 = 32;
 pub const OPEN_TAG: u8 = 33;
 
 // Where a tag may stand: nowhere, or as a field of that kind. A term of a hiproof is also one of a tactic; Tactic are the others. A table has its kinds in rising order.
-#[derive(Clone, Copy, PartialEq, Eq, PartialOrd, Ord)]
+#[derive(Clone, Copy, PartialEq, Eq)]
 pub enum Kind {
     NoTag,
     Rule,
@@ -43,6 +43,23 @@ pub enum Kind {
     Hiproof,
     Tactic,
     Entry,
+}
+
+impl Kind {
+    // Its number, by which kinds are in order. The gaps are for kinds that later requests add.
+    pub fn number(self) -> u8
+        ensures { result ≡ kind_number self }
+    {
+        match self {
+            Kind::NoTag => 0,
+            Kind::Rule => 10,
+            Kind::Definition => 30,
+            Kind::GoalList => 40,
+            Kind::Hiproof => 50,
+            Kind::Tactic => 60,
+            Kind::Entry => 70,
+        }
+    }
 }
 
 // A row of the table: where the tag may stand, the fixed or smallest and the fixed or greatest length of its contents, and the number of its inner terms.

@@ -39,7 +39,7 @@ pub fn read_on(file: &[u8], start: State, work: &mut [u8], base: usize) -> State
     let mut reader = Reader::new(file, start.at, start.end);
     let mut x = start;
     while x.mode == Mode::Reads {
-        let header = reader.header(x.low(), x.high(), x.is_full(file));
+        let header = reader.header(x.low().number(), x.high().number(), x.is_full(file));
         x = turn(x, header, file, work, base);
         reader = reader.to(x.at, x.end);
     }

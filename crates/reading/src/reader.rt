@@ -2,12 +2,10 @@
 // The reader holds the lent file, its offset and the end of what encloses it. Its methods are thin: the work is done by functions on the slice and the numbers.
 ghost use Rattle.std.specs.Prelude.{◌≡◌, ◌≤◌, length};
 ghost use Rattle.format.specs.Headers.{header_at};
-ghost use Rattle.format.specs.Kinds.{kind_number};
 ghost use Rattle.format.specs.Shapes.{header_shape};
 
 use format::headers::{Header, read_header};
 use format::refusals::Refusal;
-use format::tags::Kind;
 
 #[derive(Clone, Copy)]
 pub struct Reader<'a> {
@@ -25,9 +23,9 @@ impl<'a> Reader<'a> {
     }
 
     // The header of the field at which the reader stands.
-    pub fn header(self, low: Kind, high: Kind, full: bool) -> Result<Header, Refusal>
+    pub fn header(self, low: u8, high: u8, full: bool) -> Result<Header, Refusal>
         requires { (self.at ≤ self.end) × (self.end ≤ length self.file.now) }
-        ensures { result ≡ header_shape (header_at self.entry.file.now self.entry.at self.entry.end (kind_number low) (kind_number high) full) }
+        ensures { result ≡ header_shape (header_at self.entry.file.now self.entry.at self.entry.end low high full) }
     {
         read_header(self.file, self.at, self.end, low, high, full)
     }

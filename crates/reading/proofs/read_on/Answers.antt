@@ -29,7 +29,7 @@ pub turn-x-requires : goal.turn-x-requires
 turn-x-requires c =
     let i = c.loop-reader.invariant in
     let reads : c.loop-reader.x.mode ≡ Reads = search rules in
-    reads_at _ _ _ _ _ i.reading reads (c.header-header.ensures ∙ (λ j. header_shape (header_at (i.file j) (i.at j) (i.end j) (c.low.ensures j) (c.high.ensures j) (c.is_full.ensures j))))
+    reads_at _ _ _ _ _ i.reading reads (c.header-header.ensures ∙ (λ j. header_shape (header_at (i.file j) (i.at j) (i.end j) ((c.number.ensures ∙ c.low.ensures) j) ((c.number-in-loop-reader.ensures ∙ c.high.ensures) j) (c.is_full.ensures j))))
 
 pub loop-reader-preserved : goal.loop-reader-preserved
 loop-reader-preserved c =
