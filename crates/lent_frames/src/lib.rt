@@ -15,6 +15,7 @@ pub struct LentFrame {
     pub stage: u16,
 }
 
+// The frames are lent and have a length beside them, since the engine has no heap.
 // Puts a frame at a place, and says the next place.
 pub fn push(frames: &mut [LentFrame], n: usize, f: LentFrame) -> usize
     requires { n < length frames.old }

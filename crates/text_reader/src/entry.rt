@@ -14,7 +14,7 @@ use format::refusals::Cause;
 use parts::MOST_BYTES;
 use words::clear;
 
-// The length of the work space: three bytes for each mark, of which a text has no more than bytes, and above them, from the end down, three for each sign or closing bracket that waits; as marks are read from the last to the first, the two never meet.
+// The length of the work space: three bytes for each mark, of which a text has no more than bytes, and above them, from the end down, three for each sign or closing bracket that waits; as marks are read from the last to the first, the two never meet. Both stand in lent bytes, since the engine has no heap.
 const WORK: usize = FRAMES_END;
 
 // The term of marks that were scanned to the end of their text, if there is room for it.

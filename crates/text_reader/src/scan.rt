@@ -318,6 +318,7 @@ pub fn scan_text(text: &[u8], work: &mut [u8]) -> Result<Scanned, Refusal>
         size: 0,
         count: 0,
     };
+    // It goes on by the length of each mark, so this is no count.
     while here.at < text.len() {
         here = here.pass(text, work)?;
     }

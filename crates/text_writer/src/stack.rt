@@ -1,4 +1,4 @@
-// The stack of what follows the term that is written now, in the work space behind the text: a byte for each bracket to close and for each pair whose right part is still to be written.
+// The stack of what follows the term that is written now, in the work space behind the text: a byte for each bracket to close and for each pair whose right part is still to be written. It stands in lent bytes, since the engine has no heap.
 ghost use Rattle.std.specs.Prelude.{◌≡◌, ◌+◌, ◌≤◌, ◌<◌, length};
 ghost use Rattle.text_writer.specs.Stack.{stack_place, pair_byte, tag_in, bracket_on_top};
 

@@ -204,6 +204,7 @@ pub fn write_term(s: &[u8], work: &mut [u8]) -> usize
         binds: 0,
         followed: false,
     };
+    // It goes on by the length of each field, so this is no count.
     while x.at < s.len() {
         x = x.turn(s, work);
     }
