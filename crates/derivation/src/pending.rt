@@ -8,6 +8,7 @@ use crate::layout::CURSORS;
 use format::values::{Goal, value_at};
 use words::{load16, store16};
 
+// The lists are cursors in the work space, not a Vec: an engine in lent space has no heap.
 // How many lists have goals left, and how many of the last roots are left.
 #[derive(Clone, Copy)]
 pub struct Pending {

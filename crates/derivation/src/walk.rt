@@ -54,6 +54,7 @@ fn is_rule_of(table: &[u8], rule: usize, flat: &[u8], at: usize) -> bool
 }
 
 // Walks over the entries of a flat file, behind its roots. The place is that of the first entry that does not apply, or the file's length. The rule of a use is looked up by the index; its node has the rule's number, which is put into the set of the rules used.
+// Both loops stay in one function, the outer left by its label with the place as value: the form F1 of docs/DECISIONS.md. The way down the index stands here, and is no call of index::find_rule, for the same reason.
 pub fn walk(table: &[u8], rules: usize, flat: &[u8], roots: usize, work: &mut [u8]) -> Stop
     requires { Ready table.now rules flat.now roots work.old }
     ensures { Walks table.now rules flat.now roots work.old work.new result }

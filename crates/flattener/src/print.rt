@@ -50,7 +50,7 @@ fn write_use(out: &mut [u8], at: usize, name: RuleName, goal: Goal)
     store16(out, at + 5, goal.0);
 }
 
-// The entry of the node on top of the stack, in whose place its premises come.
+// The entry of the node on top of the stack, in whose place its premises come. The last value of a cell is 0 for an open, else one more than the number of premises: it stands in the bytes of the work space, so that it stays a number.
 fn print_node(work: &mut [u8], here: Printed, out: &mut [u8]) -> Printed
     requires { PrintReady work.old here.top here.at (length out.old) }
     ensures { NodePrinted work.old work.new here.top here.at out.old out.new result }

@@ -10,6 +10,7 @@ ghost use Rattle.nodes.specs.Space.{most_nodes, cell_place, cells_end, Below, go
 use nodes::cells::CELLS;
 use words::load16;
 
+// The checker compares the goals themselves; here each stands in the cell of a node, so that the two searches read in different ways.
 // Whether the goal of the node at a place of the stacks is the one at a place of the proof.
 fn same_goal(work: &[u8], at: usize, proof: &[u8], place: usize) -> bool
     requires { (at + 2 ≤ stack_end) × (cells_end ≤ length work.now) × (word work.now at < most_nodes) × (place + 2 ≤ length proof.now) }

@@ -9,7 +9,7 @@ use format::tags::ATOMIC;
 use format::values::RuleName;
 use words::{load16, store16};
 
-// A field's tag and length, in front of the contents.
+// A field's tag and length, in front of the contents. It stores at the start of a part that was lent, and its promise is said of that part, as the writers of trees need it.
 pub fn write_header(out: &mut [u8], tag: u8, len: usize)
     requires { (3 ≤ length out.old) × (len < 65536) }
     ensures { out.new ≡ header tag len ++ drop 3 out.old }

@@ -20,7 +20,7 @@ use words::store16;
 // The most entries of a flat file that is written.
 pub const MOST_ENTRIES: usize = 2048;
 
-// The bytes of the plan: three for each entry.
+// The bytes of the plan: three for each entry (docs/DECISIONS.md, C29b), where an array of enums would take four and pass the machine stack that docs/ENTRIES.md names.
 pub const PLAN: usize = 3 * MOST_ENTRIES;
 
 // The number that marks an open. It stands in a byte of the plan, so that it stays a number.

@@ -1,4 +1,4 @@
-// The term of a forest: a tree is written through its forest of premises, and a forest through its trees.
+// The term of a forest: a tree is written through its forest of premises, and a forest through its trees (F3 of docs/DECISIONS.md).
 // The two functions take and give back few values and keep few, so that each level takes little of the machine's stack: the plan is an array, whose reference is one word, and the length of what was written is read back from its header.
 ghost use Rattle.std.specs.Prelude.{◌≡◌, ◌++◌, ◌+◌, ◌≤◌, ◌<◌, length, drop};
 ghost use Rattle.words.specs.Word.{word};

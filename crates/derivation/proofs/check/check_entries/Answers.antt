@@ -12,9 +12,6 @@ use Rattle.derivation.specs.Layout.{cursors_place, set_place, set_end}
 use Rattle.derivation.proofs.CheckLaws.{parts_hold, ready_entries, wrong_entry, goals_left, used_rules, all_right}
 use Rattle.derivation.proofs.check.check_entries.Goals as goal
 
-pub make_empty-requires : goal.make_empty-requires
-make_empty-requires c = omega (arith, c.requires.table_len_bound.1)
-
 pub walk-stop-requires : goal.walk-stop-requires
 walk-stop-requires c =
     let flat : List ℕ = c.args.flat.now in

@@ -17,9 +17,6 @@ returns-then-work-lt-WORK c =
     let e = too_short a.table.now a.flat.now a.work.now (omega (arith, c.if-work-lt-WORK.true)) in
     record { answer = c.refused.ensures ∙ sym (ap (λ (x : Checked). x.answer) e); work = sym (ap (λ (x : Checked). x.work) e) }
 
-pub check_within-requires : goal.check_within-requires
-check_within-requires c = omega (arith, c.if-work-lt-WORK.false)
-
 pub returns : goal.returns
 returns c =
     let a = c.args in

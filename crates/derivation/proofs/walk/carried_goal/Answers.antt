@@ -1,12 +1,8 @@
 -- `walk::carried_goal` meets its contract, by the tag of the entry.
 -- Assumes nothing.
 use mathlib.Core.Path.{sym, ◌∙◌}
-use native.Mathlib.Omega.{arith}
 use Rattle.derivation.proofs.EntryLaws.{use_goal, open_goal, as_told}
 use Rattle.derivation.proofs.walk.carried_goal.Goals as goal
-
-pub value_at-requires : goal.value_at-requires
-value_at-requires c = omega (arith, c.requires.some_use c.if-flat-at-eq-USE_TAG.true)
 
 pub returns-then-flat-at-eq-USE_TAG : goal.returns-then-flat-at-eq-USE_TAG
 returns-then-flat-at-eq-USE_TAG c = as_told _ _ c.value_at.ensures ∙ sym (use_goal _ _ c.if-flat-at-eq-USE_TAG.true)

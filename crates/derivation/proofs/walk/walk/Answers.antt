@@ -18,7 +18,7 @@ use Rattle.derivation.specs.Layout.{index_place, set_place, set_end}
 use Rattle.derivation.specs.Pending.{first_entry, pending_in, carries_first, Passes, Takes}
 use Rattle.derivation.specs.Walks.{EntryInside, carried_goal, Given}
 use Rattle.derivation.proofs.PendingLaws.{pending-kept}
-use Rattle.derivation.proofs.RuleLaws.{indexed_still, at_first, none_headed, AtNode, node_few, node_inside, rule_here, rule_inside, rule_found_lem, none_found, goes_down, higher}
+use Rattle.derivation.proofs.RuleLaws.{indexed_still, none_headed, AtNode, node_few, node_inside, rule_here, rule_inside, rule_found_lem, none_found, goes_down, higher}
 use Rattle.derivation.proofs.UsedLaws.{Used, used-kept}
 use Rattle.derivation.proofs.WalkLaws.{other_told, left_told, Keeps, keeps_first, keeps_passed, keeps_pushed, keeps_put, Reached, reached_first, here_inside, lists_few, at_end, all_used, entry_inside, not_first, goes_open, no_rule, room_for, goes_use}
 use Rattle.derivation.proofs.walk.walk.Goals.{At-walk, Else-flat-at, In-Some, At-loop-place, Else-is_rule_of, Then-is_rule_of}
@@ -49,9 +49,6 @@ inside c more = entry_inside _ _ _ _ _ _ _ _ (reached c) more
 pub carried_goal-goal-requires : goal.carried_goal-goal-requires
 carried_goal-goal-requires c = inside (goal.at.carried_goal-goal-requires c).At-walk c.if-flat-at.false
 
-pub take-requires : goal.take-requires
-take-requires c = (c.walk.invariant.0.pends, c.requires.short)
-
 -- the entry carries the first pending goal, which was taken off
 told : (c : In-Some) → (carries_first (carried_goal c.args.flat.now c.walk.at) (pending_in c.args.table.now c.args.flat.now c.args.roots c.walk.work c.walk.pending) ≡ true)
     × Passes c.args.table.now c.args.flat.now c.args.roots c.walk.work c.take.new.work c.walk.pending c.in-Some.others
@@ -80,9 +77,6 @@ walk-preserved-then-flat-at-ne-USE_TAG c =
 
 pub digits_at-digits-requires : goal.digits_at-digits-requires
 digits_at-digits-requires c = (inside (goal.at.digits_at-digits-requires c).At-walk c.if-flat-at.false).some_use c.if-flat-at-ne-USE_TAG.false
-
-pub loop-place-init : goal.loop-place-init
-loop-place-init c = at_first _ _ _ _ _ _ c.digits_at-digits.ensures c.head_of-head.ensures c.if-head-eq0.false
 
 -- a node on the way down to the rule of the use
 at_node : (c : At-loop-place) → AtNode c.args.table.now c.args.rules c.take.new.work (word c.args.flat.now (c.walk.at + 3)) (word c.args.flat.now (c.walk.at + 5)) c.loop-place.rest c.loop-place.node

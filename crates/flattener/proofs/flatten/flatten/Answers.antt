@@ -27,12 +27,6 @@ flatten_files-requires c =
     let read = c.or_empty_proof-file.ensures in
     (subst (λ (l : List ℕ). 0 < length l) (sym read) (some_read c.args.proof.now), omega (arith, c.if-work-lt-WORK.false))
 
-pub shape_of-work : goal.shape_of-work
-shape_of-work c = c.clear.auto.s ∙ c.flatten_files.auto.work
-
-pub shape_of-out : goal.shape_of-out
-shape_of-out c = c.flatten_files.auto.out
-
 pub returns : goal.returns
 returns c =
     let a = c.args in

@@ -5,22 +5,13 @@ use mathlib.Core.List.{List}
 use Prim.Native.Nat.{◌+◌, ◌*◌, ◌-◌}
 use native.Mathlib.Omega.{arith}
 use lib.ListN.{length}
-use lib.Seq.{sets, length-sets}
+use lib.Seq.{sets}
 use Rattle.files.specs.Derivations.{entries_bytes}
 use Rattle.hitac.proofs.Nodes.{Cell, range, node_entries}
 use Rattle.input_arities.specs.Layout.{stack_end}
 use Rattle.flattener.specs.Prints.{Printable}
 use Rattle.flattener.proofs.PassLaws.{pushed_cells, pushed_roots, printable_still, pass_begins, node_ready, pass_goes_on, pass_ends}
 use Rattle.flattener.proofs.print.print_forest.Goals as goal
-
-pub overflow_mul-top : goal.overflow_mul-top
-overflow_mul-top c = omega (arith, c.requires.roots_there, c.requires.few)
-
-pub overflow_sub-top : goal.overflow_sub-top
-overflow_sub-top c = omega (arith, c.requires.roots_there, c.requires.few)
-
-pub put_range-requires : goal.put_range-requires
-put_range-requires c = (omega (arith, c.requires.roots_there, c.requires.few, c.requires.within), omega (arith, c.requires.roots_there, c.requires.few))
 
 pub loop-init : goal.loop-init
 loop-init c =
@@ -41,12 +32,6 @@ loop-preserved c =
     let back : stack_end - c.args.roots * 2 + c.args.roots * 2 ≡ stack_end = omega (arith, c.requires.roots_there, c.requires.few) in
     let printable : Printable c.put_range.new.s c.args.roots c.args.nodes c.args.at (length c.args.out.now) = printable_still _ _ _ _ _ _ _ c.requires back c.put_range.ensures in
     pass_goes_on _ _ _ _ _ printable _ _ _ _ (c.args.nodes - (c.loop.counter + 1)) _ (omega (arith, c.loop-test)) c.loop.invariant _ _ _ c.print_node-here.auto.work c.print_node-here.ensures
-
-pub shape_of-work : goal.shape_of-work
-shape_of-work c = c.loop.invariant.space ∙ c.put_range.auto.s
-
-pub shape_of-out : goal.shape_of-out
-shape_of-out c = ap length c.loop.invariant.out_is ∙ length-sets c.args.out.now c.args.at c.loop.invariant.written
 
 pub returns : goal.returns
 returns c =

@@ -19,9 +19,6 @@ returns-then-work-lt-WORK c =
     let e = unbegun_end write_proof_work a.work.now a.out.now (write_outcome a.table.now a.flat.now) _ (omega (arith, c.if-work-lt-WORK.true)) c.refused.ensures in
     record { answer = e.0; work = e.1.0; out = e.1.1 }
 
-pub write_within-requires : goal.write_within-requires
-write_within-requires c = omega (arith, c.if-work-lt-WORK.false)
-
 pub returns : goal.returns
 unfolding write_proof
 returns c =

@@ -25,12 +25,6 @@ returns-then-out-size c =
       out = λ d st e. ap (λ (x : Written). x.out) (no_room (proof_of d) 0 o (omega (arith, e, short)));
     }
 
-pub overflow_mul-roots : goal.overflow_mul-roots
-overflow_mul-roots c = omega (arith, few_roots c.requires.table_stands.0)
-
-pub overflow_add-roots : goal.overflow_add-roots
-overflow_add-roots c = omega (arith, few_roots c.requires.table_stands.0)
-
 pub plan_entries-requires : goal.plan_entries-requires
 plan_entries-requires c =
     let p = c.requires in

@@ -19,11 +19,6 @@ returns-in_err-read c =
 stand : (c : In_ok-read) → FilesStand c.args.table.now c.args.flat.now c.read_files.new.work c.in_ok-read.read.rules c.in_ok-read.read.parts
 stand c = c.in_ok-read.ensures
 
-pub write_entries-requires : goal.write_entries-requires
-write_entries-requires c =
-    let f = stand (goal.at.write_entries-requires c).In_ok-read in
-    record { table_stands = (f.the_table, f.stands); derivation_at = (f.derivation, f.at); table_len_bound = (f.short, omega (arith, c.requires, c.read_files.auto.work)); rules_indexed = f.indexed }
-
 pub returns : goal.returns
 returns c =
     let f = stand (goal.at.returns c).In_ok-read in

@@ -1,12 +1,8 @@
 -- `fields::write_header` meets its contract: the tag first, then the length.
 -- Assumes nothing.
 use mathlib.Core.Path.{◌∙◌}
-use lib.ListN.{length-set}
 use Rattle.writer.proofs.Lent.{header_stored}
 use Rattle.writer.proofs.fields.write_header.Goals as goal
-
-pub shape_of-out : goal.shape_of-out
-shape_of-out c = c.store16.auto.s ∙ length-set c.args.out.now 0 _
 
 pub returns : goal.returns
 returns c =

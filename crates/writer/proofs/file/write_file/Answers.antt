@@ -67,12 +67,6 @@ module _ {flat : List ℕ} {roots : ℕ} {plan : List ℕ} (out : List ℕ) (f :
         rest_room : from + (3 + length (leaves (entries_of f.file)) * 2) ≤ length out2
         rest_room = omega (arith, from_is, room, same2)
 
-pub overflow_mul-term : goal.overflow_mul-term
-overflow_mul-term c = omega (arith, few_roots c.requires.0)
-
-pub overflow_add-term : goal.overflow_add-term
-overflow_add-term c = omega (arith, few_roots c.requires.0)
-
 pub write_goals-requires : goal.write_goals-requires
 write_goals-requires c =
     let f : Fits c.args.flat.now c.args.roots c.args.plan.now (length c.args.out.now) = record { file = c.requires.0; planned = c.requires.1; fits = c.requires.2 } in

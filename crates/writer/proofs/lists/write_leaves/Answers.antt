@@ -7,19 +7,13 @@ use mathlib.Core.List.{◌++◌}
 use lib.ListN.{length, take, drop}
 use Rattle.format.specs.Encoding.{goal_bytes, field_bytes}
 use Rattle.writer.specs.Leaves.{leaves_of}
-use Rattle.writer.proofs.Lent.{room_is, length-put}
+use Rattle.writer.proofs.Lent.{room_is}
 use Rattle.format.proofs.GoalBytes.{length-goal_bytes}
 use Rattle.writer.proofs.GoalLaws.{field_bytes_lem}
 use Rattle.writer.proofs.lists.write_leaves.Goals as goal
 
 pub put_leaves-len-requires : goal.put_leaves-len-requires
 put_leaves-len-requires c = (c.requires.0, omega (arith, c.requires.1, room_is 3 c.args.out.now))
-
-pub write_header-requires : goal.write_header-requires
-write_header-requires c = (omega (arith, c.requires.1, length-put 3 c.args.out.now c.put_leaves-len.new.out c.put_leaves-len.auto.out), omega (arith, c.requires.2, (c.put_leaves-len.ensures c.requires.0).0))
-
-pub overflow_add-result : goal.overflow_add-result
-overflow_add-result c = omega (arith, c.requires.2, (c.put_leaves-len.ensures c.requires.0).0)
 
 pub returns : goal.returns
 returns c =
