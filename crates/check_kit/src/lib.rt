@@ -16,6 +16,7 @@ use checker::check::check;
 use line::put_line;
 use load::load;
 use std::io::Print;
+use std::rt::Files;
 
 // The answer whose line is printed. Without a proof it is that of a proof of one byte, which is 2 at place 0 once the table is read.
 fn answer_for(table: &[u8], proof: &[u8], opened: bool, work: &mut [u8]) -> Answer
@@ -23,13 +24,15 @@ fn answer_for(table: &[u8], proof: &[u8], opened: bool, work: &mut [u8]) -> Answ
     ensures work_after { work.new ≡ (check_program table.now proof.now opened work.old).work }
 {
     if opened {
-        return check(table, proof, work);
+        check(table, proof, work)
+    } else {
+        let torn = [0u8; 1];
+        check(table, &torn, work)
     }
-    let torn = [0u8; 1];
-    check(table, &torn, work)
 }
 
 // Checks a proof in a table, if proof.hip was opened, and puts the line of the answer at the start of a lent space; gives the line's length. The longest line has 76 bytes.
+// `opened` stands beside the bytes, as in check_program, by which this promise is stated.
 pub fn check_line(
     table: &[u8],
     proof: &[u8],
@@ -46,15 +49,20 @@ pub fn check_line(
 
 // The whole program: loads both files, and writes the line of check_line once. A table.kit that cannot be opened counts as zero bytes; of proof.hip check_line is told whether it was opened.
 // What the system reads and writes is outside the logic, so that no contract says it.
-pub fn run(rt: &HostRuntime) -> std::io::Result<()> {
+pub fn run(rt: &(impl Files + Print)) -> std::io::Result<()> {
     let mut table = [0u8; 65536];
     let mut proof = [0u8; 65536];
     let mut work = [0u8; 65536];
     let mut line = [0u8; 80];
-    let kit = load(rt, "table.kit", &mut table);
+    let t = load(rt, "table.kit", &mut table).unwrap_or(0);
     let hip = load(rt, "proof.hip", &mut proof);
-    let t = kit.count;
-    let p = hip.count;
-    let n = check_line(&table[..t], &proof[..p], hip.opened, &mut work, &mut line);
+    let p = hip.unwrap_or(0);
+    let n = check_line(
+        &table[..t],
+        &proof[..p],
+        hip.is_some(),
+        &mut work,
+        &mut line,
+    );
     rt.write_all(&line[..n])
 }

@@ -1,4 +1,4 @@
-// The line that the check program prints, as bytes at the start of a lent space.
+// The line that the check program prints, as bytes at the start of a lent space. No heap is used, and the promise names the bytes (`Puts`): std's `write!` into a slice promises neither the bytes nor that it succeeds where there is room, so the line is put by these functions.
 ghost use Rattle.std.specs.Prelude.{◌++◌, ◌+◌, ◌≤◌, length};
 ghost use Rattle.entries.specs.PrintedLine.{decimal, printed_line};
 ghost use Rattle.check_kit.specs.Line.{Puts};
@@ -58,7 +58,7 @@ pub fn put_line(line: &mut [u8], answer: Answer) -> usize
     ensures { Puts line.old 0 (printed_line answer) line.new result }
 {
     if answer.number == 0 {
-        let mut at = put_numbers(
+        let at = put_numbers(
             line,
             b"accepted fields ",
             answer.fields,
@@ -67,17 +67,18 @@ pub fn put_line(line: &mut [u8], answer: Answer) -> usize
             b" open ",
             answer.remaining,
         );
-        at = put_number(line, at, b" rules ", answer.rules);
-        return put_text(line, at, b"\n");
+        let next = put_number(line, at, b" rules ", answer.rules);
+        put_text(line, next, b"\n")
+    } else {
+        let at = put_numbers(
+            line,
+            b"refused ",
+            answer.number,
+            b" file ",
+            answer.file,
+            b" place ",
+            answer.place,
+        );
+        put_text(line, at, b"\n")
     }
-    let at = put_numbers(
-        line,
-        b"refused ",
-        answer.number,
-        b" file ",
-        answer.file,
-        b" place ",
-        answer.place,
-    );
-    put_text(line, at, b"\n")
 }

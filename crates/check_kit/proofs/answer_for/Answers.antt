@@ -13,8 +13,8 @@ returns-then-opened c =
     let e = ap outcome c.if-opened.true ∙ opened_checks c.args.table.now c.args.proof.now c.args.work.now in
     record { value = c.check.ensures.value ∙ ap (λ (x : Checked). x.answer) (sym e); work_after = c.check.ensures.work_after ∙ ap (λ (x : Checked). x.work) (sym e) }
 
-pub returns : goal.returns
-returns c =
+pub returns-else-opened : goal.returns-else-opened
+returns-else-opened c =
     let outcome : (opened : Bool) → Checked = (λ b. check_program c.args.table.now c.args.proof.now b c.args.work.now) in
     let e = ap outcome c.if-opened.false ∙ unopened_checks c.args.table.now c.args.proof.now c.args.work.now 0 in
-    record { value = c.check-2.ensures.value ∙ ap (λ (x : Checked). x.answer) (sym e); work_after = c.check-2.ensures.work_after ∙ ap (λ (x : Checked). x.work) (sym e) }
+    record { value = c.check-else-opened.ensures.value ∙ ap (λ (x : Checked). x.answer) (sym e); work_after = c.check-else-opened.ensures.work_after ∙ ap (λ (x : Checked). x.work) (sym e) }
