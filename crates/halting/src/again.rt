@@ -25,7 +25,7 @@ pub fn over_limit(steps: u16, budget: u32) -> bool
 }
 
 // 25 before any reading, then the files and the steps of the state; or the answer that refuses one of them.
-pub fn run_again(
+pub(crate) fn run_again(
     table: &[u8],
     job: &[u8],
     saved: &[u8],

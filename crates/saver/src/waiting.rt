@@ -3,7 +3,7 @@ ghost use Rattle.std.specs.Prelude.{take};
 ghost use Rattle.saver.specs.Put.{Writes};
 ghost use Rattle.saver.specs.Waiting.{frame_bytes, frames_bytes, FrameGiven, WaitingGiven};
 
-use lent_frames::LentFrame;
+use lent_frames::{LentFrame, pop};
 use words::{move_within, store16};
 
 // One waiting term: its stage, the file and the place of its last inner term, and its own goals, which lie further down in the work space.
@@ -27,7 +27,8 @@ pub fn write_waiting(work: &mut [u8], frames: &[LentFrame], n: usize, to: usize)
 {
     let mut next = to;
     for i in (0..n).rev() {
-        next = write_frame(work, next, frames[i]);
+        let f = pop(frames, i);
+        next = write_frame(work, next, f);
     }
     next
 }
