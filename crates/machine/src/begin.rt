@@ -59,6 +59,7 @@ impl State {
     }
 
     // The frame of a term that begins here, with the place of its right term and the goals that it keeps.
+    #[inline(always)]
     fn frame(self, kind: u16, at: u16, count: usize, start: usize) -> Frame
         requires { (self.held ≤ most_held) × (count ≤ 256) }
         ensures { result ≡ frame_of self kind at count start }
@@ -76,6 +77,7 @@ impl State {
     }
 
     // The inner term so many bytes on is next, on the first of the goals, under one frame more.
+    #[inline(always)]
     fn enter(self, on: usize, count: usize, out: usize) -> State
         requires { (self.steps < most_steps) × (self.at < 65536) × (on ≤ 5) × (19 ≤ self.top) }
         ensures { result ≡ entered self on count out }

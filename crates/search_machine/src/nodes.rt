@@ -47,6 +47,8 @@ pub const BLANK: Node = Node {
     other: 0,
 };
 
+// Inlined, so that a caller reads the fields alone that it asks for.
+#[inline(always)]
 pub fn load_node(work: &[u8], at: usize) -> Node
     requires { at + 25 < length work.now }
     ensures { result ≡ node_at work.now at }
@@ -65,6 +67,8 @@ pub fn load_node(work: &[u8], at: usize) -> Node
     }
 }
 
+// Inlined, so that a node is built where it will stand.
+#[inline(always)]
 #[tactic(auto, unfolding(crate::specs::Nodes::put_node, crate::specs::Nodes::put_first, crate::specs::Nodes::put_places, crate::specs::Nodes::put_rest))]
 pub fn store_node(work: &mut [u8], at: usize, n: Node)
     requires { (at + 25 < length work.old) × Small n }
