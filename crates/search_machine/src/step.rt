@@ -65,8 +65,7 @@ impl State {
         }
     }
 
-    // One term of a file counted and begun, then the next term to begin or the end of the search. Inlined: a call would hand the whole state over in memory at each step.
-    #[inline(always)]
+    // One term of a file counted and begun, then the next term to begin or the end of the search.
     fn step_in(self, table: &[u8], first: usize, src: &[u8], work: &mut [u8]) -> State
         requires { Given table.now first src.now work.old self }
         ensures steps { Stepped table.now first src.now work.old self work.new result }
