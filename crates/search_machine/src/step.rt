@@ -81,10 +81,8 @@ impl State {
         ensures steps { Stepped table.now first (source table.now job.now (self.level % 2)) work.old self work.new result }
         ensures grown { Grown work.old self work.new result }
     {
-        if self.level % 2 == 0 {
-            return self.step_in(table, first, table, work);
-        }
-        self.step_in(table, first, job, work)
+        let src = if self.level % 2 == 0 { table } else { job };
+        self.step_in(table, first, src, work)
     }
 }
 
