@@ -1,9 +1,10 @@
--- The steps of a saved state run again: its step count, and the limit for both budgets.
+-- The steps of a saved state run again: its step count, the limit for both budgets, and 30 for a run that ends within those steps.
 -- Assumes nothing.
 use Prim.Native.Nat.{ℕ, ◌+◌, ◌≤◌, ◌<◌}
-use mathlib.Core.Path.{◌≡◌, sym, subst, ◌∙◌}
+use mathlib.Core.Path.{◌≡◌, sym, ap, subst, ◌∙◌}
 use mathlib.Core.Bool.{Bool, true, false}
 use mathlib.Core.List.{List}
+use mathlib.Core.Option.{Option}
 use native.Mathlib.Omega.{arith}
 use lib.Dec.{ltb}
 use lib.ListN.{length}
@@ -12,14 +13,19 @@ use Rattle.std.specs.Prelude as std
 use Rattle.std.specs.Prelude.{Ok, Err}
 use Rattle.words.specs.Word.{word}
 use Rattle.format.specs.Limits.{most_steps}
-use Rattle.format.specs.declared.refusals.Cause.TheVariants.{BudgetTooLarge}
+use Rattle.format.specs.declared.refusals.Cause.TheVariants.{BudgetTooLarge, StateNotGenuine}
 use Rattle.format.specs.Refusals.{number}
 use Rattle.answers.specs.declared.Answer.{Answer}
 use Rattle.answers.specs.Answers as said
-use Rattle.entries.specs.Halting.{steps_of, going_on, resume_outcome}
+use Rattle.entries.specs.Outcomes.{refusal}
+use Rattle.entries.specs.Halting.{unbegun, steps_of, is_saved, genuine, going_on, resume_outcome}
+use Rattle.entries.proofs.HaltingLaws.{both_read, not_genuine}
+use Rattle.machine.specs.declared.state.Mode.TheVariants as is
+use Rattle.machine.specs.declared.state.State.{State}
 use Rattle.runner.specs.declared.last.Reached as told
-use Rattle.runner.specs.LastState.{Reaches}
+use Rattle.runner.specs.LastState.{Reached, Reaches}
 use Rattle.halting.specs.Again.{Refuses, RanAgain, Again}
+use Rattle.halting.proofs.HaltLaws.{keeps}
 use Rattle.halting.proofs.ComesLaws.{limit_refuses, files_refuse}
 
 -- the step count of a saved state
@@ -39,6 +45,20 @@ module _ (saved : List ℕ) (n c : ℕ) (e : n ≡ steps_of saved) (r : Bool) (t
   pub within : r ≡ false → steps_of saved + c ≤ most_steps
   within q = omega (arith, e, ltb-false most_steps (n + c) (sym told ∙ q))
 
+-- a state that is not genuine
+module _ (t s saved : List ℕ) (c : ℕ) (fits : steps_of saved + c ≤ most_steps) (w : List ℕ) (x : State) (first term : ℕ) (q : Reached t s (steps_of saved) w x first term) where
+  pub not_genuine_is_30 : genuine q.table q.job saved ≡ false → resume_outcome t s saved c ≡ unbegun (refusal StateNotGenuine 0 0 0)
+  unfolding resume_outcome
+  not_genuine_is_30 g = both_read t s (steps_of saved + c) (going_on saved c) fits q.table q.job q.table_reads q.job_reads ∙ not_genuine q.table q.job saved c g
+
+  -- a run that has ended has no saved state
+  ended_not_genuine : (x.mode ≡ is.Running → ⊥) → genuine q.table q.job saved ≡ false
+  unfolding genuine is_saved
+  ended_not_genuine n = ap (λ (o : Option (List ℕ)). is_saved o saved) ((keeps t s (steps_of saved) w x first term q (omega (arith, fits))).ended n)
+
+  ended_is_30 : (x.mode ≡ is.Running → ⊥) → resume_outcome t s saved c ≡ unbegun (refusal StateNotGenuine 0 0 0)
+  ended_is_30 n = not_genuine_is_30 (ended_not_genuine n)
+
 module _ (t s saved : List ℕ) (c : ℕ) (v : List ℕ) where
   pub limit_again : (a : Answer) → most_steps < steps_of saved + c → a ≡ said.refusal (number BudgetTooLarge) 0 0 0 → Again t s saved c v (Err a)
   unfolding Again resume_outcome
@@ -48,7 +68,9 @@ module _ (t s saved : List ℕ) (c : ℕ) (v : List ℕ) where
   pub run_again : steps_of saved + c ≤ most_steps → (n : ℕ) → n ≡ steps_of saved → (r : std.Result told.Reached Answer) → Reaches t s n v r → Again t s saved c v r
   unfolding Again Reaches resume_outcome
   run_again fits n e (Err a) h = files_refuse t s (steps_of saved + c) (going_on saved c) fits a h
-  run_again fits n e (Ok r) h = record { within = fits; reached = subst (λ (i : ℕ). Reaches t s i v (Ok r)) e h }
+  run_again fits n e (Ok r) h =
+      let q : Reached t s (steps_of saved) v r.state r.first r.term = subst (λ (i : ℕ). Reaches t s i v (Ok r)) e h in
+      record { within = fits; reached = q; ended = ended_is_30 t s saved c fits v r.state r.first r.term q }
 
 -- from what the code tells
 module _ (t s saved : List ℕ) (c : ℕ) (v : List ℕ) (r : std.Result told.Reached Answer) (h : Again t s saved c v r) where

@@ -20,7 +20,7 @@ use Rattle.lent_frames.specs.declared.LentFrame.{LentFrame}
 use Rattle.entries.specs.Run.{begins}
 use Rattle.entries.specs.SavedState.{saved_state}
 use Rattle.entries.specs.Halting.{steps_of, is_saved, genuine, going_on, resume_outcome}
-use Rattle.entries.proofs.HaltingLaws.{both_read, not_genuine, genuine_goes_on}
+use Rattle.entries.proofs.HaltingLaws.{both_read, genuine_goes_on}
 use Rattle.arities.specs.Layout.{space_end}
 use Rattle.arities.specs.Arities.{arities}
 use Rattle.tactics.specs.Memory.{Same}
@@ -38,6 +38,7 @@ use Rattle.halting.specs.Halted.{refused_call, Answered, Keeps, Comes}
 use Rattle.halting.specs.GoOn.{GoOnGiven}
 use Rattle.halting.proofs.SavedLaws.{either}
 use Rattle.halting.proofs.HaltLaws.{keeps, steps_stand}
+use Rattle.halting.proofs.AgainLaws.{not_genuine_is_30}
 use Rattle.halting.proofs.ComesLaws.{refusal_comes, run_comes}
 
 -- a halted run, and steps from its state on
@@ -104,7 +105,7 @@ module _ (t s saved : List ℕ) (c : ℕ) (w : List ℕ) (fs : List LentFrame) (
       file = 0;
       place = 0;
       answer_is = e;
-      outcome_is = both_read t s (steps_of saved + c) (going_on saved c) q.again.within p.table p.job p.table_reads p.job_reads ∙ not_genuine p.table p.job saved c (compared ∙ z);
+      outcome_is = not_genuine_is_30 t s saved c q.again.within w r.state r.first r.term p (compared ∙ z);
     }) k
 
     module _ (z : x ≡ true) where

@@ -24,8 +24,8 @@ pub fn over_limit(steps: u16, budget: u32) -> bool
     16384 < (steps as u64) + (budget as u64)
 }
 
-// 25 before any reading, then the files and the steps of the state; or the answer that refuses one of them.
-pub(crate) fn run_again(
+// 25 before any reading, then the files and the steps of the state; or the answer that refuses one of them. A run that ends within those steps halted nowhere, so that the state is not genuine, and 30 is what resume comes to.
+pub fn run_again(
     table: &[u8],
     job: &[u8],
     saved: &[u8],

@@ -5,6 +5,7 @@ ghost use Rattle.replay.specs.Calls.{answer_of};
 use crate::lent::{BLANK, FILLED, is_digest, is_left};
 use crate::records::{CHECK, CHECK_FLAT, Case, FLATTEN, READ_TEXT, RUN, SEARCH, WRITE_TEXT};
 use crate::tally::{Verdict, compared};
+use answers::same_answer;
 use checker::check::check;
 use derivation::check::check_flat;
 use flattener::flatten::flatten;
@@ -33,7 +34,7 @@ fn call_agrees(case: Case, table: &[u8], other: &[u8], work: &mut [u8], out: &mu
         WRITE_TEXT => write_text(other, work, out),
         _ => write_proof(table, other, work, out),
     };
-    answer == case.told
+    same_answer(answer, case.told)
         && is_left(work, case.told.number)
         && (matches!(case.entry, CHECK | CHECK_FLAT) || is_digest(out, case.digest))
 }
