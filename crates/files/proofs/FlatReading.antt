@@ -21,7 +21,7 @@ use Rattle.parts.specs.declared.state.Mode.TheVariants as M
 use Rattle.parts.specs.declared.state.Part.{Part}
 use Rattle.parts.specs.declared.state.Part.TheVariants as P
 use Rattle.parts.specs.declared.state.State.{State}
-use Rattle.parts.specs.States.{by_part, is_term, asking, counted, next_of, next_entry, entry_taken, behind_list, taken, begun_file}
+use Rattle.parts.specs.States.{cause_of, by_part, is_term, asking, refusal_of, counted, next_of, next_entry, entry_taken, behind_list, taken, begun_file}
 use Rattle.parts.proofs.AskLaws.{asks_entry}
 use Rattle.reading.specs.Reading.{Reading, header_of, Step, Reaches}
 use Rattle.reading.proofs.ReachLaws.{holds_on}
@@ -47,7 +47,7 @@ module _ (s : List ℕ) where
 
   -- where the reading of a flat file stands: it was refused, at its roots, at an entry or at the end
   data FlatState (x : State) : Type 0 where
-    was_refused : x.mode ≡ M.Refused → whole ≡ Err x.refusal → FlatState x
+    was_refused : x.mode ≡ M.Refused → whole ≡ Err (refusal_of x) → FlatState x
     at_roots : First s P.Roots x → FlatState x
     at_entries : x.mode ≡ M.Reads → x.part ≡ P.Entries → whole ≡ entries_from x x.at → FlatState x
     all_read : x.mode ≡ M.Gave → length s ≤ x.at → whole ≡ entries_from x x.at → FlatState x
@@ -92,7 +92,7 @@ module _ (s : List ℕ) where
   -- the roots
   behind_roots : (x : State) → First s P.Roots x → (y : State) → ListStep s x (stated s) y → FlatState y
   unfolding behind_list
-  behind_roots x f y (stops m e) = was_refused m (roots_refused s y.refusal.cause y.refusal.place e)
+  behind_roots x f y (stops m e) = was_refused m (roots_refused s (cause_of y.why) y.place e)
   behind_roots x f y (reads n close e q) =
       rw (q, f.part_is)
       (next _ close (roots_read s n close e ∙ rw (f.none_counted.1, f.none_counted.2)))

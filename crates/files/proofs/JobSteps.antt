@@ -14,7 +14,7 @@ use Rattle.format.specs.Tags.{tactic_kind}
 use Rattle.parts.specs.declared.state.Mode.TheVariants as M
 use Rattle.parts.specs.declared.state.Part.TheVariants as P
 use Rattle.parts.specs.declared.state.State.{State}
-use Rattle.parts.specs.States.{refusing, behind_list, behind_job, behind_part, behind_term, begun_file}
+use Rattle.parts.specs.States.{refusing, refusal_of, behind_list, behind_job, behind_part, behind_term, begun_file}
 use Rattle.parts.proofs.AskLaws.{high_of_job}
 use Rattle.reading.specs.Reading.{Reading, Step, Reaches}
 use Rattle.reading.proofs.ReachLaws.{holds_on}
@@ -31,7 +31,7 @@ module _ (s : List ℕ) (base : ℕ) where
 
   -- by how far it was read
   data Known (w : List ℕ) (x : State) : Type 0 where
-    is_refused : x.mode ≡ M.Refused → job_shape (read_job s) ≡ Err x.refusal → Known w x
+    is_refused : x.mode ≡ M.Refused → job_shape (read_job s) ≡ Err (refusal_of x) → Known w x
     in_goals : First s P.JobGoals x → Known w x
     in_term : InTerm s P.JobTerm tactic_kind Front base w x → Known w x
     is_read : x.mode ≡ M.Gave → job_shape (read_job s) ≡ Ok (job_parts x.goals x.from) → Known w x

@@ -27,7 +27,7 @@ use Rattle.parts.specs.declared.state.Mode.TheVariants as M
 use Rattle.parts.specs.declared.state.Part.{Part}
 use Rattle.parts.specs.declared.state.Part.TheVariants as P
 use Rattle.parts.specs.declared.state.State.{State}
-use Rattle.parts.specs.States.{is_term, is_list, refusing, asking, behind_list, list_taken, taken, blank_state, begun_file}
+use Rattle.parts.specs.States.{cause_of, is_term, is_list, refusing, asking, behind_list, list_taken, taken, blank_state, begun_file}
 use Rattle.parts.proofs.PartLaws.{list_chosen, list_outside}
 use Rattle.parts.proofs.AskLaws.{asks_list}
 use Rattle.reading.specs.Waiting.{reading_room}
@@ -41,7 +41,7 @@ stated s = goals_shape (of_size s (read_goals s 0 (length s)))
 
 -- from the state x to r over a goal list of which l is told
 pub data ListStep (s : List ℕ) (x : State) (l : GoalsRead) (r : State) : Type 0 where
-  stops : r.mode ≡ M.Refused → l ≡ G.Refused r.refusal.cause r.refusal.place → ListStep s x l r
+  stops : r.mode ≡ M.Refused → l ≡ G.Refused (cause_of r.why) r.place → ListStep s x l r
   reads : (n close : ℕ) → l ≡ G.Read n close → r ≡ behind_list s x n close x.part → ListStep s x l r
 
 module _ (s w : List ℕ) (base : ℕ) (x : State) (h : Reading s w base x) (m : x.mode ≡ M.Reads) (o : is_list x.part ≡ true) where
@@ -74,7 +74,7 @@ pub record First (s : List ℕ) (part : Part) (x : State) : Type 0 where
 
 -- how such a file begins
 pub data Begins (s : List ℕ) (part : Part) (x : State) : Type 0 where
-  long : x.mode ≡ M.Refused → stated s ≡ G.Refused x.refusal.cause x.refusal.place → Begins s part x
+  long : x.mode ≡ M.Refused → stated s ≡ G.Refused (cause_of x.why) x.place → Begins s part x
   first : First s part x → Begins s part x
 
 module _ (s : List ℕ) (part : Part) where

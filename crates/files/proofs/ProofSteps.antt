@@ -17,7 +17,7 @@ use Rattle.format.specs.Shapes.{goals_shape}
 use Rattle.parts.specs.declared.state.Mode.TheVariants as M
 use Rattle.parts.specs.declared.state.Part.TheVariants as P
 use Rattle.parts.specs.declared.state.State.{State}
-use Rattle.parts.specs.States.{refusing, asking, counted, remaining_taken, behind_list, behind_part, behind_term, begun_file}
+use Rattle.parts.specs.States.{refusing, refusal_of, asking, counted, remaining_taken, behind_list, behind_part, behind_term, begun_file}
 use Rattle.parts.proofs.AskLaws.{high_of_proof}
 use Rattle.reading.specs.Reading.{Reading, Step, Reaches}
 use Rattle.reading.proofs.ReachLaws.{holds_on}
@@ -34,7 +34,7 @@ module _ (s : List ℕ) (base : ℕ) where
 
   -- by how far it was read
   data Known (w : List ℕ) (x : State) : Type 0 where
-    is_refused : x.mode ≡ M.Refused → proof_shape (read_proof_fields s) ≡ Err x.refusal → Known w x
+    is_refused : x.mode ≡ M.Refused → proof_shape (read_proof_fields s) ≡ Err (refusal_of x) → Known w x
     in_goals : First s P.ProofGoals x → Known w x
     in_hiproof : InTerm s P.ProofTerm hiproof_kind Front base w x → Known w x
     in_remaining : x.mode ≡ M.Reads → x.part ≡ P.Remaining → x.at ≡ x.rest → stated s ≡ G.Read x.goals x.from → term_at s P.ProofTerm hiproof_kind Front x.from ≡ T.Read x.rest x.fields → Known w x

@@ -17,7 +17,7 @@ use Rattle.format.specs.Tags.{tactic_kind}
 use Rattle.parts.specs.declared.state.Mode.TheVariants as M
 use Rattle.parts.specs.declared.state.Part.TheVariants as P
 use Rattle.parts.specs.declared.state.State.{State}
-use Rattle.parts.specs.States.{refusing, asking, behind_job, behind_part, behind_term, blank_state, begun_file}
+use Rattle.parts.specs.States.{refusing, refusal_of, asking, behind_job, behind_part, behind_term, blank_state, begun_file}
 use Rattle.parts.proofs.AskLaws.{high_of_job}
 use Rattle.reading.specs.Waiting.{resumed, outcome}
 use Rattle.reading.specs.Reading.{Reading, Step, Reaches}
@@ -39,7 +39,7 @@ module _ (s : List ℕ) (base : ℕ) where
 
   -- by how far it was read
   data Known (w : List ℕ) (x : State) : Type 0 where
-    is_refused : x.mode ≡ M.Refused → term_file_shape (read_term_file s) ≡ Err x.refusal → Known w x
+    is_refused : x.mode ≡ M.Refused → term_file_shape (read_term_file s) ≡ Err (refusal_of x) → Known w x
     in_term : InTerm s P.JobTerm tactic_kind Front base w x → Known w x
     is_read : x.mode ≡ M.Gave → term_file_shape (read_term_file s) ≡ Ok tt → Known w x
 

@@ -14,7 +14,7 @@ use Rattle.parts.specs.declared.state.Mode.TheVariants as M
 use Rattle.parts.specs.declared.state.Part.{Part}
 use Rattle.parts.specs.declared.state.State.{State}
 use Rattle.parts.proofs.PartLaws.{list_outside}
-use Rattle.parts.specs.States.{is_term, is_list, high_of, asking, counted, behind_term}
+use Rattle.parts.specs.States.{cause_of, is_term, is_list, high_of, asking, counted, behind_term}
 use Rattle.reading.specs.Waiting.{resumed, outcome, Held}
 use Rattle.reading.specs.Reading.{Reading, Step}
 use Rattle.reading.proofs.ShapeLaws.{reads_any}
@@ -44,7 +44,7 @@ module _ (s : List ℕ) (part : Part) (high : ℕ) (Front : (goals from : ℕ) �
   -- a turn within the term
   pub data Turn (base : ℕ) (x : State) (w' : List ℕ) (r : State) : Type 0 where
     goes_on : InTerm base w' r → Turn base x w' r
-    refuses : r.mode ≡ M.Refused → term_at x.from ≡ T.Refused r.refusal.cause r.refusal.place → Turn base x w' r
+    refuses : r.mode ≡ M.Refused → term_at x.from ≡ T.Refused (cause_of r.why) r.place → Turn base x w' r
     leaves : (y : State) → BehindTerm y → r ≡ behind_term s y → Turn base x w' r
 
   module _ (base : ℕ) (w : List ℕ) (x : State) (h : Reading s w base x) where

@@ -2,11 +2,14 @@
 -- Assumes nothing.
 use mathlib.Core.Path.{◌≡◌, refl}
 use mathlib.Core.Bool.{true, false}
+use Rattle.std.specs.Prelude.{ℕ, List}
+use Rattle.format.specs.Tags.{tactic_kind}
 use Rattle.parts.specs.declared.state.Mode.{Mode}
 use Rattle.parts.specs.declared.state.Mode.TheVariants.{Refused, Reads, Gave}
 use Rattle.parts.specs.declared.state.Part.{Part}
-use Rattle.parts.specs.declared.state.Part.TheVariants.{Roots, Entries, Fields, JobGoals, ProofGoals, Remaining, Body, JobTerm, ProofTerm}
-use Rattle.parts.specs.States.{by_part, is_term, is_list}
+use Rattle.parts.specs.declared.state.Part.TheVariants.{Roots, Entries, Fields, JobGoals, ProofGoals, Remaining, Body, JobTerm, ProofTerm, Other}
+use Rattle.parts.specs.declared.state.State.{State}
+use Rattle.parts.specs.States.{by_part, is_term, is_list, high_of, behind_hiproof, behind_part}
 
 pub list_chosen : {A : Type 0} (p : Part) (e f l t : A) → is_list p ≡ true → by_part p e f l t ≡ l
 list_chosen Roots e f l t h = refl
@@ -18,6 +21,7 @@ list_chosen Remaining e f l t h = refl
 list_chosen Body e f l t h = cc
 list_chosen JobTerm e f l t h = cc
 list_chosen ProofTerm e f l t h = cc
+list_chosen (Other n) e f l t h = cc
 
 pub term_chosen : {A : Type 0} (p : Part) (e f l t : A) → is_term p ≡ true → by_part p e f l t ≡ t
 term_chosen Roots e f l t h = cc
@@ -29,6 +33,7 @@ term_chosen Remaining e f l t h = cc
 term_chosen Body e f l t h = refl
 term_chosen JobTerm e f l t h = refl
 term_chosen ProofTerm e f l t h = refl
+term_chosen (Other n) e f l t h = refl
 
 -- a part that is none of the others is a goal list
 pub else_list : (p : Part) → is_term p ≡ false → (p ≡ Fields → ⊥) → (p ≡ Entries → ⊥) → is_list p ≡ true
@@ -41,6 +46,12 @@ else_list Remaining t f e = refl
 else_list Body t f e = cc
 else_list JobTerm t f e = cc
 else_list ProofTerm t f e = cc
+else_list (Other n) t f e = cc
+
+-- what the number of no part names is read as a term, in which fields of tactics may stand, and behind it comes what follows a hiproof
+pub other_part : (n : ℕ) → (is_term (Other n) ≡ true) × (high_of (Other n) ≡ tactic_kind) × ((s : List ℕ) (x : State) → behind_part s x (Other n) ≡ behind_hiproof s x)
+unfolding high_of behind_part
+other_part n = (refl, refl, λ s x. refl)
 
 -- by these a choice is made where the part was tested
 pub ruleset by_parts = (term_chosen, list_chosen, else_list)

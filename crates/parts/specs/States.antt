@@ -12,7 +12,9 @@ use Rattle.format.specs.Next.{full_table, lowest, full_flat}
 use Rattle.parts.specs.declared.state.Mode.{Mode}
 use Rattle.parts.specs.declared.state.Mode.TheVariants.{Refused, Reads, Gave}
 use Rattle.parts.specs.declared.state.Part.{Part}
-use Rattle.parts.specs.declared.state.Part.TheVariants.{Roots, Entries, Fields, JobGoals, ProofGoals, Remaining, Body, JobTerm, ProofTerm}
+use Rattle.parts.specs.declared.state.Part.TheVariants.{Roots, Entries, Fields, JobGoals, ProofGoals, Remaining, Body, JobTerm, ProofTerm, Other}
+use Rattle.parts.specs.declared.state.Why.{Why}
+use Rattle.parts.specs.declared.state.Why.TheVariants.{Known, Number}
 use Rattle.parts.specs.declared.state.State.{State}
 
 -- one of three, by the mode: after a refusal, where a field is to be read, and behind a term that was read or at the end of the file
@@ -32,6 +34,7 @@ by_part Remaining e f l t = l
 by_part Body e f l t = t
 by_part JobTerm e f l t = t
 by_part ProofTerm e f l t = t
+by_part (Other n) e f l t = t
 
 -- the part is a term, or a goal list
 abbrev pub is_term : Part → Bool
@@ -42,19 +45,19 @@ is_list p = by_part p false false true false
 
 -- a refusal
 abbrev pub refusing : State → Cause → (place : ℕ) → State
-refusing x c p = record { mode = Refused; part = x.part; at = x.at; end = x.end; fields = x.fields; depth = x.depth; top = x.top; goals = x.goals; first = x.first; second = x.second; from = x.from; rest = x.rest; field = x.field; refusal = record { cause = c; place = p } }
+refusing x c p = record { mode = Refused; part = x.part; at = x.at; end = x.end; fields = x.fields; depth = x.depth; top = x.top; goals = x.goals; first = x.first; second = x.second; from = x.from; rest = x.rest; field = x.field; why = Known c; place = p }
 
 -- within a term
 abbrev pub stepped : State → Mode → (at end fields depth top : ℕ) → State
-stepped x m at end n d top = record { mode = m; part = x.part; at = at; end = end; fields = n; depth = d; top = top; goals = x.goals; first = x.first; second = x.second; from = x.from; rest = x.rest; field = x.field; refusal = x.refusal }
+stepped x m at end n d top = record { mode = m; part = x.part; at = at; end = end; fields = n; depth = d; top = top; goals = x.goals; first = x.first; second = x.second; from = x.from; rest = x.rest; field = x.field; why = x.why; place = x.place }
 
 -- a part of a file at a place
 abbrev pub asking : State → Mode → Part → (at end : ℕ) → State
-asking x m part at end = record { mode = m; part = part; at = at; end = end; fields = x.fields; depth = x.depth; top = at; goals = x.goals; first = x.first; second = x.second; from = x.from; rest = x.rest; field = x.field; refusal = x.refusal }
+asking x m part at end = record { mode = m; part = part; at = at; end = end; fields = x.fields; depth = x.depth; top = at; goals = x.goals; first = x.first; second = x.second; from = x.from; rest = x.rest; field = x.field; why = x.why; place = x.place }
 
 -- with other counts, behind what comes first
 abbrev pub counted : State → (goals first second from rest field : ℕ) → State
-counted x g a b f r d = record { mode = x.mode; part = x.part; at = x.at; end = x.end; fields = x.fields; depth = x.depth; top = x.top; goals = g; first = a; second = b; from = f; rest = r; field = d; refusal = x.refusal }
+counted x g a b f r d = record { mode = x.mode; part = x.part; at = x.at; end = x.end; fields = x.fields; depth = x.depth; top = x.top; goals = g; first = a; second = b; from = f; rest = r; field = d; why = x.why; place = x.place }
 
 -- the lowest and the highest kind that may stand where a state is
 unfoldable pub low_of : State → ℕ
@@ -71,6 +74,7 @@ high_in_term Remaining = tactic_kind
 high_in_term Body = tactic_kind
 high_in_term JobTerm = tactic_kind
 high_in_term ProofTerm = hiproof_kind
+high_in_term (Other n) = tactic_kind
 
 unfoldable pub high_of : Part → ℕ
 high_of part = by_part part entry_kind definition_kind goal_list_kind (high_in_term part)
@@ -119,6 +123,7 @@ behind_list s x n close Fields = asking (counted x n x.first x.second close x.re
 behind_list s x n close Body = asking (counted x n x.first x.second close x.rest x.field) Reads ProofTerm close x.end
 behind_list s x n close JobTerm = asking (counted x n x.first x.second close x.rest x.field) Reads ProofTerm close x.end
 behind_list s x n close ProofTerm = asking (counted x n x.first x.second close x.rest x.field) Reads ProofTerm close x.end
+behind_list s x n close (Other k) = asking (counted x n x.first x.second close x.rest x.field) Reads ProofTerm close x.end
 
 unfoldable pub list_taken : List ℕ → State → (count close : ℕ) → State
 list_taken s x n close = cond (ltb most_goals n) (refusing x LimitPassed x.at) (behind_list s x n close x.part)
@@ -156,13 +161,14 @@ behind_part s x Fields = behind_hiproof s x
 behind_part s x JobGoals = behind_hiproof s x
 behind_part s x ProofGoals = behind_hiproof s x
 behind_part s x Remaining = behind_hiproof s x
+behind_part s x (Other n) = behind_hiproof s x
 
 unfoldable pub behind_term : List ℕ → State → State
 behind_term s x = behind_part s x x.part
 
 -- nothing of a file is read
 unfoldable pub blank_state : Part → State
-blank_state part = record { mode = Refused; part = part; at = 0; end = 0; fields = 0; depth = 0; top = 0; goals = 0; first = 0; second = 0; from = 0; rest = 0; field = 0; refusal = record { cause = InputTooLong; place = 0 } }
+blank_state part = record { mode = Refused; part = part; at = 0; end = 0; fields = 0; depth = 0; top = 0; goals = 0; first = 0; second = 0; from = 0; rest = 0; field = 0; why = Number 0; place = 0 }
 
 -- a file that begins with a goal list, unless it is too long
 unfoldable pub begun_file : List ℕ → Part → State
@@ -174,11 +180,19 @@ begun_file s part =
 unfoldable pub begun_table : List ℕ → State
 begun_table s = next_field s (blank_state Fields) 0
 
+-- what a state says of its refusal: a number says nothing of a cause
+abbrev pub cause_of : Why → Cause
+cause_of (Known c) = c
+cause_of (Number n) = InputTooLong
+
+abbrev pub refusal_of : State → Refusal
+refusal_of x = record { cause = cause_of x.why; place = x.place }
+
 -- what is found in a state in which nothing is left to read: the refusal, or what is kept of the state
 abbrev pub told_state : {P : Type 0} → (kept : State → P) → State → std.Result P Refusal
-told_state kept x = by_mode x.mode (Err x.refusal) (Ok (kept x)) (Ok (kept x))
+told_state kept x = by_mode x.mode (Err (refusal_of x)) (Ok (kept x)) (Ok (kept x))
 
 -- the same where what is kept is known by a relation
 abbrev pub Told : {P : Type 0} → (kept : State → P → Type 0) → State → std.Result P Refusal → Type 0
-Told kept x (Err r) = (x.mode ≡ Refused) × (r ≡ x.refusal)
+Told kept x (Err r) = (x.mode ≡ Refused) × (r ≡ refusal_of x)
 Told kept x (Ok p) = (x.mode ≡ Refused → ⊥) × kept x p

@@ -10,7 +10,7 @@ ghost use Rattle.parts.specs.declared.state.Part.TheVariants.{Entries, Fields, B
 ghost use Rattle.parts.specs.Reader.{Encloses};
 ghost use Rattle.parts.specs.States.{low_of, high_of, full_of, next_of, table_field, entry_taken, remaining_taken, list_taken, taken, behind_body, behind_job, behind_term, blank_state, begun_file, begun_table};
 
-use crate::state::{MOST_TERM_FIELDS, Mode, Part, State};
+use crate::state::{MOST_TERM_FIELDS, Mode, Part, State, Why};
 use format::headers::Header;
 use format::refusals::{Cause, Refusal};
 use format::tags::{Kind, RULE_TAG, USE_TAG};
@@ -263,7 +263,8 @@ impl State {
             from: 0,
             rest: 0,
             field: 0,
-            refusal: Refusal::new(Cause::InputTooLong, 0),
+            why: Why::Number(0),
+            place: 0,
         }
     }
 }

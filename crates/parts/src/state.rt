@@ -1,6 +1,6 @@
 // How far a file has been read.
 ghost use Rattle.std.specs.Prelude.{◌≡◌};
-ghost use Rattle.parts.specs.States.{is_term, refusing, asking, Told};
+ghost use Rattle.parts.specs.States.{is_term, refusing, asking, refusal_of, Told};
 
 use format::refusals::{Cause, Refusal};
 
@@ -13,7 +13,7 @@ pub enum Mode {
     Gave,
 }
 
-// The parts of the files: the roots and the entries of a flat file, the fields of a table, the goals of a job and of a proof, those remaining of a proof; and the terms: the body of a definition, the term of a job and the hiproof of a proof.
+// The parts of the files: the roots and the entries of a flat file, the fields of a table, the goals of a job and of a proof, those remaining of a proof; and the terms: the body of a definition, the term of a job and the hiproof of a proof. No file has another part, but reading goes on from every state: what any other number names is read as a term of tactics.
 #[derive(Clone, Copy, PartialEq, Eq)]
 pub enum Part {
     Roots,
@@ -25,6 +25,7 @@ pub enum Part {
     Body,
     JobTerm,
     ProofTerm,
+    Other(u8),
 }
 
 impl Part {
@@ -32,12 +33,22 @@ impl Part {
     pub fn is_term(self) -> bool
         ensures { result ≡ is_term self }
     {
-        matches!(self, Part::Body | Part::JobTerm | Part::ProofTerm)
+        matches!(
+            self,
+            Part::Body | Part::JobTerm | Part::ProofTerm | Part::Other(_)
+        )
     }
 }
 
 // At most so many term fields stand in a file, and so many wait.
 pub const MOST_TERM_FIELDS: usize = 4096;
+
+// What a state says of a refusal: its cause; or, where nothing was refused, a number that says nothing: 0 at the beginning of a file, and in a state made elsewhere any.
+#[derive(Clone, Copy)]
+pub enum Why {
+    Known(Cause),
+    Number(u8),
+}
 
 #[derive(Clone, Copy)]
 pub struct State {
@@ -58,8 +69,9 @@ pub struct State {
     pub from: usize,
     pub rest: usize,
     pub field: usize,
-    // Of a refusal its cause and place.
-    pub refusal: Refusal,
+    // Of a refusal its cause and its place. In one field, as a Refusal, they take a third more time for every field that is read: its unused bytes are copied with each state.
+    pub why: Why,
+    pub place: usize,
 }
 
 impl State {
@@ -69,7 +81,8 @@ impl State {
     {
         State {
             mode: Mode::Refused,
-            refusal: Refusal::new(cause, place),
+            why: Why::Known(cause),
+            place,
             ..self
         }
     }
@@ -88,12 +101,23 @@ impl State {
         }
     }
 
+    // Of a state after a refusal, what was refused.
+    pub fn refusal(self) -> Refusal
+        ensures { result ≡ refusal_of self }
+    {
+        let cause = match self.why {
+            Why::Known(cause) => cause,
+            Why::Number(_) => Cause::InputTooLong,
+        };
+        Refusal::new(cause, self.place)
+    }
+
     // What was found, once there is no field left to read: the refusal, or what P keeps of the state.
     pub fn told<P: From<State>>(self) -> Result<P, Refusal>
         ensures { Told P.From.from_gives self result }
     {
         if self.mode == Mode::Refused {
-            Err(self.refusal)
+            Err(self.refusal())
         } else {
             Ok(P::from(self))
         }

@@ -10,7 +10,7 @@ use Rattle.format.specs.TermRead.{Refused, Read}
 use Rattle.parts.specs.declared.state.Mode.{Mode}
 use Rattle.parts.specs.declared.state.Mode.TheVariants as M
 use Rattle.parts.specs.declared.state.State.{State}
-use Rattle.parts.specs.States.{by_mode, is_term, high_of, taken, behind_term}
+use Rattle.parts.specs.States.{cause_of, by_mode, is_term, high_of, taken, behind_term}
 use Rattle.reading.specs.Waiting.{told, outcome, Held, Turned}
 use Rattle.reading.specs.Reading.{header_of, settled, Turns, field, term, Step}
 use Rattle.reading.proofs.TurnLaws.{inside}
@@ -18,7 +18,7 @@ use Rattle.reading.proofs.TurnLaws.{inside}
 -- what a turn within a term leaves: the rest of the term, a refusal, or what follows the term
 pub data TermStep (s w : List ℕ) (base : ℕ) (x : State) (w' : List ℕ) (r : State) : Type 0 where
   goes : r.mode ≡ M.Reads → Held x r → outcome s w' (high_of x.part) base r ≡ outcome s w (high_of x.part) base x → TermStep s w base x w' r
-  stops : r.mode ≡ M.Refused → Held x r → outcome s w (high_of x.part) base x ≡ Refused r.refusal.cause r.refusal.place → TermStep s w base x w' r
+  stops : r.mode ≡ M.Refused → Held x r → outcome s w (high_of x.part) base x ≡ Refused (cause_of r.why) r.place → TermStep s w base x w' r
   ends : (y : State) → y.mode ≡ M.Gave → Held x y → outcome s w (high_of x.part) base x ≡ Read y.at y.fields → y.at ≤ length s → r ≡ behind_term s y → TermStep s w base x w' r
 
 module _ (s w : List ℕ) (base : ℕ) (x : State) (w' : List ℕ) (r : State) where
@@ -34,7 +34,7 @@ module _ (s w : List ℕ) (base : ℕ) (x : State) (w' : List ℕ) (y : State) (
   unfolding told
   was_read e = sym t.moved.same ∙ t.over (λ z. cc) ∙ rw e
 
-  was_refused : y.mode ≡ M.Refused → outcome s w (high_of x.part) base x ≡ Refused y.refusal.cause y.refusal.place
+  was_refused : y.mode ≡ M.Refused → outcome s w (high_of x.part) base x ≡ Refused (cause_of y.why) y.place
   unfolding told
   was_refused e = sym t.moved.same ∙ t.over (λ z. cc) ∙ rw e
 

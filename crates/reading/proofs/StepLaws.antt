@@ -201,6 +201,7 @@ module _ (s w : List ℕ) (base : ℕ) (x : State) (r : Reading s w base x) (m :
         go false P.Body = term_good n P.ProofTerm refl (λ z. cc)
         go false P.JobTerm = term_good n P.ProofTerm refl (λ z. cc)
         go false P.ProofTerm = term_good n P.ProofTerm refl (λ z. cc)
+        go false (P.Other k) = term_good n P.ProofTerm refl (λ z. cc)
 
   taken_good : (h : std.Result read.Header Refusal) → header_of s x ≡ h → Good (taken s x h)
   unfolding taken header_of
@@ -223,6 +224,7 @@ module _ (s w : List ℕ) (base : ℕ) (x : State) (r : Reading s w base x) (m :
       go P.Body p = list
       go P.JobTerm p = list
       go P.ProofTerm p = list
+      go (P.Other k) p = list
 
   pub step_field : (h : std.Result read.Header Refusal) → h ≡ header_of s x → (y : State) → y ≡ taken s x h → Step s w base x w y
   step_field h e y f =
@@ -305,6 +307,7 @@ module _ (s w : List ℕ) (base : ℕ) (x : State) (r : Reading s w base x) (m :
           go P.Body p = body_good p
           go P.JobTerm p = job_good
           go P.ProofTerm p = hiproof_good
+          go (P.Other k) p = hiproof_good
           go P.Roots p = hiproof_good
           go P.Entries p = hiproof_good
           go P.Fields p = hiproof_good

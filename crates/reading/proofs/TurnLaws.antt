@@ -25,7 +25,7 @@ use Rattle.format.proofs.Lengths.{short_field}
 use Rattle.parts.specs.declared.state.Mode.{Mode}
 use Rattle.parts.specs.declared.state.Mode.TheVariants as M
 use Rattle.parts.specs.declared.state.State.{State}
-use Rattle.parts.specs.States.{by_mode, refusing, stepped, end_of}
+use Rattle.parts.specs.States.{cause_of, by_mode, refusing, stepped, end_of}
 use Rattle.parts.proofs.PartLaws.{else_refused}
 use Rattle.reading.specs.Waiting.{reading_room, go_on, reads, closing, put_waiting, resumed, told, outcome, Waits, Going, weight, Held, Moved, Turned}
 use Rattle.reading.proofs.ShapeLaws.{reads_refused, reads-leaf, reads_inner}
@@ -33,7 +33,7 @@ use Rattle.reading.proofs.WaitLaws.{resumed_refused, resumed_top, waits_top, wai
 
 -- the outcome by the mode
 module _ (s w : List ℕ) (high base : ℕ) (x : State) where
-  pub when_refused : x.mode ≡ M.Refused → outcome s w high base x ≡ Refused x.refusal.cause x.refusal.place
+  pub when_refused : x.mode ≡ M.Refused → outcome s w high base x ≡ Refused (cause_of x.why) x.place
   unfolding outcome
   when_refused e = rw e
 

@@ -13,7 +13,7 @@ use Rattle.format.specs.ReadTerms.{read_term}
 use Rattle.format.specs.Shapes.{header_shape, term_shape, ending}
 use Rattle.parts.specs.declared.state.State.{State}
 use Rattle.parts.specs.declared.state.Mode.TheVariants.{Reads, Gave}
-use Rattle.parts.specs.States.{by_mode, end_of}
+use Rattle.parts.specs.States.{cause_of, by_mode, end_of}
 
 -- the bytes that the fields that wait take: at most every term field of a file waits, in four bytes
 abbrev pub reading_room : ℕ
@@ -45,12 +45,12 @@ resumed s w high base top (suc k) r =
 
 -- what a state in which nothing is left to read comes to
 unfoldable pub told : State → TermRead
-told x = by_mode x.mode (Refused x.refusal.cause x.refusal.place) (Read x.at x.fields) (Read x.at x.fields)
+told x = by_mode x.mode (Refused (cause_of x.why) x.place) (Read x.at x.fields) (Read x.at x.fields)
 
 -- what the loop comes to from here on
 unfoldable pub outcome : (s w : List ℕ) (high base : ℕ) → State → TermRead
 outcome s w high base x =
-    by_mode x.mode (Refused x.refusal.cause x.refusal.place)
+    by_mode x.mode (Refused (cause_of x.why) x.place)
     (resumed s w high base x.top x.depth (reads s high x.at x.end x.fields))
     (resumed s w high base x.top x.depth (Read x.at x.fields))
 

@@ -26,7 +26,7 @@ use Rattle.parts.specs.declared.state.Mode.TheVariants as M
 use Rattle.parts.specs.declared.state.Part.{Part}
 use Rattle.parts.specs.declared.state.Part.TheVariants.{Fields, Body}
 use Rattle.parts.specs.States as states
-use Rattle.parts.specs.States.{by_mode, by_part, high_of, refusing, asking, counted, next_of, next_field, table_field, taken, end_of, behind_term, behind_part, blank_state, begun_table, told_state}
+use Rattle.parts.specs.States.{by_mode, by_part, high_of, refusing, refusal_of, asking, counted, next_of, next_field, table_field, taken, end_of, behind_term, behind_part, blank_state, begun_table, told_state}
 use Rattle.parts.proofs.AskLaws.{asks_field}
 use Rattle.reading.specs.Waiting.{reading_room, reads, resumed, outcome, Held}
 use Rattle.reading.specs.Reading.{Reading, header_of, Step, Reaches}
@@ -42,7 +42,7 @@ unfoldable pub meaning : (s w : List ℕ) (base : ℕ) → State → Told
 meaning s w base x =
     let here = table_at s x.first x.second x.from x.at x.fields in
     let rest = by_part x.part here here here (behind_body s x.field x.first x.second x.from (outcome s w (high_of x.part) base x)) in
-    by_mode x.mode (Err x.refusal) rest rest
+    by_mode x.mode (Err (refusal_of x)) rest rest
 
 -- what holds in every state of a table: until a definition comes the rules end at the place, and nothing is left to read only at the end of the file
 pub record OfTable (s : List ℕ) (x : State) : Type 0 where
@@ -178,7 +178,7 @@ told_last s w base x o n = go x.mode refl
     go : (m : Mode) → x.mode ≡ m →
         let here = table_at s x.first x.second x.from x.at x.fields in
         let rest = by_part x.part here here here (behind_body s x.field x.first x.second x.from (outcome s w (high_of x.part) base x)) in
-        by_mode {A = Told} m (Err x.refusal) (Ok (table_counted x)) (Ok (table_counted x)) ≡ by_mode m (Err x.refusal) rest rest
+        by_mode {A = Told} m (Err (refusal_of x)) (Ok (table_counted x)) (Ok (table_counted x)) ≡ by_mode m (Err (refusal_of x)) rest rest
     go M.Refused e = refl
     go M.Reads e = absurd (n e)
     go M.Gave e = let a = o.all_read e in rw a.0 (sym (at_end s _ _ _ _ _ a.1))
