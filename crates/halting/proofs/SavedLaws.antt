@@ -31,6 +31,7 @@ either s P f g = go s.mode refl
     go is.Failed e = f (λ z. cc)
     go is.Overflowed e = f (λ z. cc)
     go is.Exceeded e = f (λ z. cc)
+    go (is.Other n) e = f (λ z. cc)
 
 -- what the result of saving says
 module _ (w : List ℕ) (s : State) (r : std.Option ℕ) (v : List ℕ) (b : Saves w s r v) where

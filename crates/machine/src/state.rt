@@ -11,6 +11,8 @@ pub enum Mode {
     Failed,
     Overflowed,
     Exceeded,
+    // Any other number. No run comes to one, but save and write_last of crate saver take a state of whatever mode.
+    Other(u8),
 }
 
 // The most fields of finished terms that a run may hold.

@@ -79,6 +79,11 @@ limit_cause : {mode : Mode} {c : Cause} → LimitMode mode c → (mode ≡ is.Ov
 limit_cause overflows = (λ e. refl, λ e. cc)
 limit_cause exceeds = (λ e. cc, λ e. refl)
 
+-- a limit leaves no other number
+limit_not_other : {mode : Mode} {c : Cause} (n : ℕ) → LimitMode mode c → mode ≡ is.Other n → ⊥
+limit_not_other n overflows e = cc
+limit_not_other n exceeds e = cc
+
 -- the end of a run, by the last state's mode
 module _ (job w : List ℕ) (s : State) (o : List ℕ) (r : Answer) where
   pub spent_end : s.mode ≡ is.Running → r ≡ said.refusal (number BudgetSpent) 0 0 s.steps → Finishes job w s o r o
@@ -104,6 +109,10 @@ module _ (job w : List ℕ) (s : State) (o : List ℕ) (r : Answer) where
 
   pub exceed_end : s.mode ≡ is.Exceeded → r ≡ said.refusal (number FieldsTooMany) 0 0 s.steps → Finishes job w s o r o
   exceed_end m = limit_end FieldsTooMany (λ c l. (limit_cause l).1 m) (λ z. cc) (λ z. cc) (λ z. cc)
+
+  -- no run ends so
+  pub other_end : (n : ℕ) → s.mode ≡ is.Other n → r ≡ said.refusal (number FieldsTooMany) 0 0 s.steps → Finishes job w s o r o
+  other_end n m = limit_end FieldsTooMany (λ c l. absurd (limit_not_other n l m)) (λ z. cc) (λ z. cc) (λ z. cc)
 
 -- the end of a run that succeeded
 module _ (job : List ℕ) (term : ℕ) (w : List ℕ) (s : State) (m : s.mode ≡ is.Proved) (q : FinishGiven job term w s) where

@@ -36,6 +36,7 @@ impl Reached {
             Mode::Failed => Answer::refused(Cause::TacticFailed, File::Neither, 0, steps),
             Mode::Overflowed => Answer::refused(Cause::JoinedTooLong, File::Neither, 0, steps),
             Mode::Exceeded => Answer::refused(Cause::FieldsTooMany, File::Neither, 0, steps),
+            Mode::Other(_) => Answer::refused(Cause::FieldsTooMany, File::Neither, 0, steps),
         }
     }
 }

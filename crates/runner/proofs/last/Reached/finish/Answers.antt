@@ -1,6 +1,6 @@
 -- `Reached::finish` meets its contract: by the mode of the last state.
 -- Assumes nothing.
-use Rattle.runner.proofs.JobLaws.{spent_end, failed_end, overflow_end, exceed_end}
+use Rattle.runner.proofs.JobLaws.{spent_end, failed_end, overflow_end, exceed_end, other_end}
 use Rattle.runner.proofs.last.Reached.finish.Goals as goal
 
 pub returns-in-Running : goal.returns-in-Running
@@ -14,3 +14,6 @@ returns-in-Overflowed c = overflow_end _ _ _ _ _ c.in-Overflowed.is c.refused-in
 
 pub returns-in-Exceeded : goal.returns-in-Exceeded
 returns-in-Exceeded c = exceed_end _ _ _ _ _ c.in-Exceeded.is c.refused-in-Exceeded.ensures
+
+pub returns-in-Other : goal.returns-in-Other
+returns-in-Other c = other_end _ _ _ _ _ _ c.in-Other.is c.refused-in-Other.ensures
