@@ -95,11 +95,11 @@ impl Writing {
         match tag {
             ID => {
                 put_two(b'i', b'd', self.len, work);
-                self.after(3, 2)
+                return self.after(3, 2);
             }
             EMPTY => {
                 put_two(b'<', b'>', self.len, work);
-                self.after(3, 2)
+                return self.after(3, 2);
             }
             _ => {
                 let v = load16(s, self.at + 3) as usize;
@@ -162,7 +162,10 @@ impl Writing {
         ensures { (s whole : List ℕ) (fs : List Frame) → Rests s whole work.old self fs → Going s whole work.new result × (result.at ≡ self.at) }
     {
         let y = self.close_brackets(work);
-        if y.top == 0 { y } else { y.take_up(work) }
+        if y.top == 0 {
+            return y;
+        }
+        y.take_up(work)
     }
 
     // A term that needs no brackets, or has them already: its first mark, and what comes next.

@@ -13,7 +13,7 @@ returns-in-21 c = let d = empty_done c.args.work.now c.args.self c.args.tag _ _ 
 pub load16-v-requires : goal.load16-v-requires
 load16-v-requires c = omega (arith, five_bytes c.args.tag (λ z. omega (arith, z)) (λ z. omega (arith, z)), c.requires.0)
 
-pub returns-in_default : goal.returns-in_default
-returns-in_default c =
+pub returns : goal.returns
+returns c =
     let d = number-done c.args.work.now c.args.self c.args.tag _ _ _ (λ z. omega (arith, z)) (λ z. omega (arith, z)) _ _ _ c.letter_of.ensures c.load16-v.ensures c.put_numbered-n.ensures.written c.after-in_default.ensures in
     record { value = d.0; work_after = d.1 }
