@@ -190,9 +190,15 @@ impl TermState {
         ensures same_below { SameBelow (3 * at) work.old work.new }
     {
         let place = 3 * at;
-        match work[place] {
-            CLOSING => self.on_closing(work),
-            OPENING => self.on_opening(work, out),
+        let kind = work[place];
+        // Brackets are told from the other marks by one test in front of the match: a text can have many more of them, and the match jumps by a table.
+        if kind <= OPENING {
+            if kind == CLOSING {
+                return self.on_closing(work);
+            }
+            return self.on_opening(work, out);
+        }
+        match kind {
             tag @ (ID | EMPTY) => self.put_plain(tag, out),
             LABEL => self.on_label(load16(work, place + 1), work, out),
             tag if is_pair(tag) => self.on_sign(tag, work, out),

@@ -1,7 +1,7 @@
 -- `TermState::on_mark` meets its contract: one law for each kind of mark, known by its first byte.
 -- Assumes nothing.
 use mathlib.Core.Path.{◌≡◌, refl, sym}
-use Prim.Native.Nat.{ℕ, ◌+◌, ◌*◌, ◌≤◌}
+use Prim.Native.Nat.{ℕ, zero, suc, ◌+◌, ◌*◌, ◌≤◌}
 use native.Mathlib.Omega.{arith}
 use Rattle.notation.specs.Passing.{mark_size}
 use Rattle.notation.specs.Marks.{opening, closing, label_mark}
@@ -12,6 +12,11 @@ label_room : (a b n front : ℕ) → 3 * a + mark_size (label_mark n) ≤ front 
 unfolding mark_size
 label_room a b n front h e = omega arith
 
+-- the first byte of a bracket that does not close
+opening_byte : (k : ℕ) → k ≤ 1 → (k ≡ 0 → ⊥) → k ≡ 1
+opening_byte zero h n = absurd (n refl)
+opening_byte (suc k) h n = omega (arith, h)
+
 pub overflow_mul-place : goal.overflow_mul-place
 overflow_mul-place c = let R = c.requires.1 in omega (arith, R.inside, R.few)
 
@@ -21,12 +26,12 @@ bounds-work-place c = let R = c.requires.1 in omega (arith, R.inside, R.few, R.s
 pub on_closing-requires : goal.on_closing-requires
 on_closing-requires c = let R = c.requires.1 in (omega (arith, frames_above _ _ _ _ _ _ _ R), low_below _ _ _ _ _ _ _ R, R.space)
 
-pub returns-in-0 : goal.returns-in-0
-returns-in-0 c =
+pub returns-then-kind-eq-CLOSING : goal.returns-then-kind-eq-CLOSING
+returns-then-kind-eq-CLOSING c =
     let R₀ = c.requires.1 in
     let r = c.on_closing.ensures in record {
       shown = (λ ms R.
-          let e = is_closing _ _ _ refl _ R.stands c.in-0.is in
+          let e = is_closing _ _ _ refl _ R.stands c.if-kind-eq-CLOSING.true in
           after _ _ _ _ _ _ _ R closing e _ _ _ _ _ (closing-done _ _ _ _ _ _ _ _ _ _ (unstuck_as _ _ _ _ _ _ _ R closing e) R.shown r.shown_due));
       same_below = (λ i h. r.low_value.1 i (omega (arith, r.low_value.0, frames_above _ _ _ _ _ _ _ R₀)));
     }
@@ -34,15 +39,15 @@ returns-in-0 c =
 pub on_opening-requires : goal.on_opening-requires
 on_opening-requires c =
     let R = c.requires.1 in
-    let e = is_opening _ _ _ refl _ R.stands c.in-1.is in
+    let e = is_opening _ _ _ refl _ R.stands (opening_byte _ c.if-kind-le-OPENING.true c.if-kind-eq-CLOSING.false) in
     let u = unstuck_as _ _ _ _ _ _ _ R opening e in
     let x = had_opening _ _ _ _ _ _ u R.shown in
     (R.space, R.short, (x.term, x.frames, x.shown, omega (arith, room_as _ _ _ _ _ _ _ R opening e, waits_had _ _ _ _ _ _ x), opening_unstuck _ _ _ _ _ _ x u))
 
-pub returns-in-1 : goal.returns-in-1
-returns-in-1 c = record {
+pub returns-then-kind-le-OPENING : goal.returns-then-kind-le-OPENING
+returns-then-kind-le-OPENING c = record {
   shown = (λ ms R.
-      let e = is_opening _ _ _ refl _ R.stands c.in-1.is in
+      let e = is_opening _ _ _ refl _ R.stands (opening_byte _ c.if-kind-le-OPENING.true c.if-kind-eq-CLOSING.false) in
       let u = unstuck_as _ _ _ _ _ _ _ R opening e in
       let x = had_opening _ _ _ _ _ _ u R.shown in
       after _ _ _ _ _ _ _ R opening e _ _ _ _ _ (opening_done _ _ _ _ _ _ x _ _ _ _ (c.on_opening.ensures x.term x.frames x.shown (omega (arith, room_as _ _ _ _ _ _ _ R opening e, waits_had _ _ _ _ _ _ x)) (opening_unstuck _ _ _ _ _ _ x u))));
